@@ -1,0 +1,1 @@
+-- Nothing is promised of a tree: it is plain data.

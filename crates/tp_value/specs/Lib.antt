@@ -1,0 +1,2 @@
+-- What is promised of the values that all crates share.
+pub mod Number
