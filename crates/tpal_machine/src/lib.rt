@@ -5,10 +5,12 @@
 #![tactic(auto)]
 
 mod code;
+mod ends;
 mod output;
 mod task;
 mod turn;
 
 pub use code::{Alu, Code, Fault, Instr, Value, Word};
+pub use ends::{End, SideName};
 pub use task::Task;
 pub use turn::{Turn, run_task};
