@@ -1,0 +1,7 @@
+mod Rows
+mod Tokens
+mod Ranges
+mod Numbers
+mod Steps
+mod Soundness
+mod Completeness
