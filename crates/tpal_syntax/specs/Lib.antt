@@ -1,0 +1,10 @@
+-- What is promised of codes.
+
+-- words, registers and the other parts of a code, each with its range
+pub mod Parts
+-- the conditions that every code meets
+pub mod Conditions
+-- what contracts see of a code
+pub mod Listing
+-- the one text of a code
+pub mod Text

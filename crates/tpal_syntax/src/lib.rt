@@ -1,0 +1,25 @@
+//! The types of a code: words, instructions, blocks with their notes, whole codes, and the sites of
+//! loops and calls from which handlers and joins are made. It stands on `tp_value`.
+//! A `Code` meets all conditions on codes: `Code::new` is the only way to one. `specs/` says what
+//! these conditions are, and what the one text of a code is. Start with `instructions` and `blocks`.
+#![tactic(auto)]
+
+mod blocks;
+mod codes;
+mod conditions;
+mod instructions;
+mod names;
+mod notes;
+mod parts;
+mod sites;
+mod words;
+
+pub use blocks::{Block, CodeTable};
+pub use codes::Code;
+pub use instructions::{Alu, Instr, Term, Value};
+pub use notes::{CarryAt, CutKind, Note, Target};
+pub use sites::{CallSite, LoopSite};
+pub use words::Word;
+
+#[cfg(test)]
+mod tests;
