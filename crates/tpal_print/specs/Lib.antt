@@ -1,0 +1,1 @@
+-- What is printed is said by `tpal_syntax`: the one text of a code.
