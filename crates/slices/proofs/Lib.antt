@@ -1,0 +1,12 @@
+-- what a list counted from a start holds at a position
+pub mod Slots
+-- what several spans hold at a position
+pub mod SpanLists
+-- finite maps of cells
+pub mod Maps
+-- where cells are after a cut
+pub mod Cuts
+-- what a store is seen as, and tests of positions against rows and columns
+pub mod Seen
+-- what is cut out and appended again
+pub mod JoinLaws

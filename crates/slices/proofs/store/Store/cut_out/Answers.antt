@@ -1,0 +1,15 @@
+use Rattle.std.proofs.Common.{subst, sym}
+use Rattle.slices.specs.Spans.{AreApart}
+use Rattle.slices.specs.Pieces.{spans_of}
+use Rattle.slices.specs.Stored.{stored}
+use Rattle.slices.proofs.Cuts.{apart_less}
+use Rattle.slices.proofs.store.Store.cut_out.Goals as goal
+
+pub cut_out-requires-clause-apart : goal.cut_out-requires-clause-apart
+cut_out-requires-clause-apart c = subst (λ s. AreApart c.args.end (stored s)) c.in-Owned.is c.requires.apart
+
+pub copy-requires : goal.copy-requires
+copy-requires c = subst (λ p. AreApart c.args.end (spans_of p)) (sym c.deref.ensures) (subst (λ s. AreApart c.args.end (stored s)) c.in-Shared.is c.requires.apart)
+
+pub cut_out-requires-in-Shared-clause-apart : goal.cut_out-requires-in-Shared-clause-apart
+cut_out-requires-in-Shared-clause-apart c = apart_less c.args.end (spans_of c.deref.result.now) (spans_of c.in_ok-pieces-in-Shared.pieces) c.in_ok-pieces-in-Shared.ensures.reaching (subst (λ p. AreApart c.args.end (spans_of p)) (sym c.deref.ensures) (subst (λ s. AreApart c.args.end (stored s)) c.in-Shared.is c.requires.apart))

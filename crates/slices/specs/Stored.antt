@@ -1,0 +1,34 @@
+-- The pieces of one value, owned by it or shared with others.
+use Rattle.std.specs.Prelude.{◌≡◌, ℤ, ℕ, Bool, true, false, Option, List}
+use Rattle.std.specs.Arc.{arc_value}
+use Rattle.std.specs.Vec.{vec_len}
+use Rattle.slices.specs.Spans.{spans_at, holders}
+use Rattle.slices.specs.Pieces.{spans_of}
+use Rattle.slices.specs.declared.spans.Span.{Span}
+use Rattle.slices.specs.declared.store.Store.{Store}
+use Rattle.slices.specs.declared.store.Store.TheVariants.{Owned, Shared}
+
+abbrev pub stored : Store → List Span
+stored (Owned pieces) = spans_of pieces
+stored (Shared pieces) = spans_of (arc_value pieces)
+
+-- how many spans it has beside the first
+abbrev pub further_spans : Store → ℕ
+further_spans (Owned pieces) = vec_len pieces.more
+further_spans (Shared pieces) = vec_len (arc_value pieces).more
+
+abbrev pub store_at : Store → ℕ → Option ℤ
+store_at store i = spans_at (stored store) i
+
+abbrev pub reaching_in : Store → ℕ → ℕ
+reaching_in store i = holders (stored store) i
+
+abbrev pub is_owned : Store → Bool
+is_owned (Owned pieces) = true
+is_owned (Shared pieces) = false
+
+-- the same cells, owned or shared as before
+pub record SameStored (old new : Store) : Type 0 where
+  pub cells : (i : ℕ) → store_at new i ≡ store_at old i
+  pub reaching : (i : ℕ) → reaching_in new i ≡ reaching_in old i
+  pub owned : is_owned new ≡ is_owned old

@@ -1,0 +1,220 @@
+// The pieces of one value, owned by it or shared with others.
+
+ghost use Rattle.std.specs.Prelude.{◌≡◌, ℕ, ◌+◌, ◌<◌, ◌≤◌, ◌==◌, ◌&&◌, if◌then◌else◌, nat_le, nat_lt, None, Some, true, false, is_some, IsSome, IfOk, IfErr, OnOk, OnErr};
+ghost use Rattle.std.specs.Vec.{vec_len, vec_capacity};
+ghost use Rattle.slices.specs.Spans.{or_else, between, AreApart};
+ghost use Rattle.slices.specs.Pieces.{piece_at, reaching};
+ghost use Rattle.slices.specs.Stored.{stored, store_at, reaching_in, is_owned, further_spans, SameStored};
+
+use crate::pieces::Pieces;
+use std::alloc::{AllocError, Global};
+use std::mem::replace;
+use std::sync::Arc;
+
+/// Pieces that are written in place, or read by several values.
+#[derive(Drop)]
+pub(crate) enum Store {
+    Owned(Pieces),
+    Shared(Arc<Pieces, Global>),
+}
+
+impl Store {
+    pub(crate) fn pieces(&self) -> &Pieces
+        ensures cells { (i : ℕ) → (piece_at result.now i ≡ store_at self.now i) × (reaching result.now i ≡ reaching_in self.now i) }
+        ensures len { vec_len result.now.more ≡ further_spans self.now }
+    {
+        match self {
+            Store::Owned(pieces) => pieces,
+            Store::Shared(shared) => &**shared,
+        }
+    }
+
+    /// Keeps what is below position `at`, and gives what is from there up to `end`.
+    pub(crate) fn split(&mut self, at: usize, end: usize) -> Result<Pieces, AllocError>
+        ensures kept { OnOk result ((i : ℕ) → store_at self.new i ≡ (if nat_lt i at then store_at self.old i else None)) }
+        ensures given { IfOk result (λ upper. (i : ℕ) → piece_at upper i ≡ between at end i (store_at self.old i)) }
+        ensures reaching { OnOk result ((i : ℕ) → reaching_in self.new i ≤ reaching_in self.old i) }
+        ensures reaching_given { IfOk result (λ upper. (i : ℕ) → reaching upper i ≤ reaching_in self.old i) }
+        ensures owned { OnOk result (is_owned self.new ≡ true) }
+        ensures err { OnErr result (self.new ≡ self.old) }
+    {
+        match self {
+            Store::Owned(pieces) => {
+                let upper = pieces.copy_between(pieces.alloc(), at, end)?;
+                pieces.keep_below(at);
+                Ok(upper)
+            }
+            Store::Shared(shared) => {
+                let lower = shared.copy_between(shared.alloc(), 0, at)?;
+                let upper = shared.copy_between(shared.alloc(), at, end)?;
+                *self = Store::Owned(lower);
+                Ok(upper)
+            }
+        }
+    }
+
+    /// Takes out what is here from position `low` up to `high`, as what is below `mid` and the rest.
+    /// Nothing is here from position `end` on.
+    pub(crate) fn cut_out(
+        &mut self,
+        low: usize,
+        mid: usize,
+        high: usize,
+        end: usize,
+    ) -> Result<(Pieces, Pieces), AllocError>
+        requires order { (low ≤ high) × (high ≤ end) }
+        requires apart { AreApart end (stored self.old) }
+        ensures kept { OnOk result ((i : ℕ) → store_at self.new i ≡ (if nat_le low i && nat_lt i high then None else store_at self.old i)) }
+        ensures lower { IfOk result (λ parts. (i : ℕ) → piece_at parts.0 i ≡ between low mid i (store_at self.old i)) }
+        ensures upper { IfOk result (λ parts. (i : ℕ) → piece_at parts.1 i ≡ between mid high i (store_at self.old i)) }
+        ensures reaching { OnOk result ((i : ℕ) → reaching_in self.new i ≤ reaching_in self.old i) }
+        ensures reaching_lower { IfOk result (λ parts. (i : ℕ) → reaching parts.0 i ≤ reaching_in self.old i) }
+        ensures reaching_upper { IfOk result (λ parts. (i : ℕ) → reaching parts.1 i ≤ reaching_in self.old i) }
+        ensures owned { OnOk result (is_owned self.new ≡ true) }
+        ensures err { OnErr result (SameStored self.old self.new) }
+    {
+        match self {
+            Store::Owned(pieces) => pieces.cut_out(low, mid, high, end),
+            Store::Shared(shared) => {
+                let mut pieces = shared.copy(shared.alloc(), end)?;
+                let parts = pieces.cut_out(low, mid, high, end)?;
+                *self = Store::Owned(pieces);
+                Ok(parts)
+            }
+        }
+    }
+
+    /// Whether the position is here; it is set then, in a copy where others read the cells too.
+    pub(crate) fn put(&mut self, at: usize, value: i64, end: usize) -> Result<bool, AllocError>
+        requires { AreApart end (stored self.old) }
+        ensures found { IfOk result (λ done. done ≡ is_some (store_at self.old at)) }
+        ensures cells { IfOk result (λ done. (i : ℕ) → store_at self.new i ≡ (if done && i == at then Some value else store_at self.old i)) }
+        ensures reaching { (i : ℕ) → reaching_in self.new i ≤ reaching_in self.old i }
+        ensures owned { IfOk result (λ done. is_owned self.new ≡ (if done then true else is_owned self.old)) }
+        ensures err { OnErr result (SameStored self.old self.new) }
+        ensures no_memory { OnErr result ((is_owned self.old ≡ false) × IsSome (store_at self.old at)) }
+    {
+        match self {
+            Store::Owned(pieces) => Ok(pieces.put(at, value)),
+            Store::Shared(shared) => {
+                if shared.get(at).is_none() {
+                    return Ok(false);
+                }
+                let mut pieces = shared.copy(shared.alloc(), end)?;
+                pieces.put(at, value);
+                *self = Store::Owned(pieces);
+                Ok(true)
+            }
+        }
+    }
+
+    /// Takes the other's cells in, or hands it back where memory is wanting. All that takes memory
+    /// comes before the first change.
+    pub(crate) fn take_in(&mut self, other: Store, end: usize) -> Result<(), Store>
+        requires apart { AreApart end (stored self.old) }
+        requires others_apart { AreApart end (stored other) }
+        requires none_common { (i : ℕ) → reaching_in self.old i + reaching_in other i ≤ 1 }
+        ensures cells { OnOk result ((i : ℕ) → store_at self.new i ≡ or_else (store_at self.old i) (store_at other i)) }
+        ensures reaching { OnOk result ((i : ℕ) → reaching_in self.new i ≤ reaching_in self.old i + reaching_in other i) }
+        ensures owned { OnOk result (is_owned self.new ≡ true) }
+        ensures err { OnErr result (SameStored self.old self.new) }
+        ensures handed_back { IfErr result (λ store. store ≡ other) }
+    {
+        match self {
+            Store::Owned(pieces) => join(pieces, other, end),
+            Store::Shared(shared) => {
+                let mut pieces = match shared.copy(shared.alloc(), end) {
+                    Ok(pieces) => pieces,
+                    Err(_) => return Err(other),
+                };
+                join(&mut pieces, other, end)?;
+                *self = Store::Owned(pieces);
+                Ok(())
+            }
+        }
+    }
+
+    /// Makes the cells its own, by a copy where others read them too.
+    pub(crate) fn own(&mut self, end: usize) -> Result<(), AllocError>
+        requires { AreApart end (stored self.old) }
+        ensures cells { (i : ℕ) → store_at self.new i ≡ store_at self.old i }
+        ensures reaching { (i : ℕ) → reaching_in self.new i ≤ reaching_in self.old i }
+        ensures owned { OnOk result (is_owned self.new ≡ true) }
+        ensures err { OnErr result (self.new ≡ self.old) }
+        ensures no_memory { OnErr result (is_owned self.old ≡ false) }
+    {
+        match self {
+            Store::Owned(_) => Ok(()),
+            Store::Shared(shared) => {
+                let pieces = shared.copy(shared.alloc(), end)?;
+                *self = Store::Owned(pieces);
+                Ok(())
+            }
+        }
+    }
+
+    /// A second value that reads the same cells. Where memory is wanting the cells stay.
+    pub(crate) fn share(&mut self) -> Result<Store, AllocError>
+        ensures cells { (i : ℕ) → store_at self.new i ≡ store_at self.old i }
+        ensures reaching { (i : ℕ) → reaching_in self.new i ≡ reaching_in self.old i }
+        ensures second { IfOk result (λ store. (i : ℕ) → (store_at store i ≡ store_at self.old i) × (reaching_in store i ≡ reaching_in self.old i)) }
+        ensures shared { OnOk result (is_owned self.new ≡ false) }
+        ensures second_shared { IfOk result (λ store. is_owned store ≡ false) }
+    {
+        if let Store::Shared(shared) = self {
+            return Ok(Store::Shared(Arc::try_clone(shared)?));
+        }
+        let alloc = self.pieces().alloc();
+        match replace(self, Store::Owned(Pieces::none(alloc))) {
+            Store::Owned(pieces) => match Arc::new(alloc, pieces) {
+                Ok(shared) => {
+                    let second = Arc::try_clone(&shared);
+                    *self = Store::Shared(shared);
+                    Ok(Store::Shared(second?))
+                }
+                Err(failed) => {
+                    *self = Store::Owned(failed.value);
+                    Err(AllocError)
+                }
+            },
+            Store::Shared(shared) => {
+                *self = Store::Shared(shared);
+                Err(AllocError)
+            }
+        }
+    }
+
+    /// The pieces, taken out of it, or copied where others read them too. Where memory is wanting
+    /// it is handed back.
+    fn into_owned(self, end: usize) -> Result<Pieces, Store>
+        requires { AreApart end (stored self) }
+        ensures cells { IfOk result (λ pieces. (i : ℕ) → piece_at pieces i ≡ store_at self i) }
+        ensures reaching { IfOk result (λ pieces. (i : ℕ) → reaching pieces i ≤ reaching_in self i) }
+        ensures len { IfOk result (λ pieces. vec_len pieces.more ≤ further_spans self) }
+        ensures handed_back { IfErr result (λ store. store ≡ self) }
+    {
+        match self {
+            Store::Owned(pieces) => Ok(pieces),
+            Store::Shared(shared) => match shared.copy(shared.alloc(), end) {
+                Ok(pieces) => Ok(pieces),
+                Err(_) => Err(Store::Shared(shared)),
+            },
+        }
+    }
+}
+
+fn join(pieces: &mut Pieces, other: Store, end: usize) -> Result<(), Store>
+    requires others_apart { AreApart end (stored other) }
+    requires none_common { (i : ℕ) → reaching pieces.old i + reaching_in other i ≤ 1 }
+    ensures cells { OnOk result ((i : ℕ) → piece_at pieces.new i ≡ or_else (piece_at pieces.old i) (store_at other i)) }
+    ensures reaching { OnOk result ((i : ℕ) → reaching pieces.new i ≤ reaching pieces.old i + reaching_in other i) }
+    ensures err { OnErr result ((i : ℕ) → (piece_at pieces.new i ≡ piece_at pieces.old i) × (reaching pieces.new i ≡ reaching pieces.old i)) }
+    ensures handed_back { IfErr result (λ store. store ≡ other) }
+{
+    if pieces.make_room(other.pieces()).is_err() {
+        return Err(other);
+    }
+    let theirs = other.into_owned(end)?;
+    pieces.take_in(theirs);
+    Ok(())
+}
