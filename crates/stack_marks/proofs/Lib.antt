@@ -1,0 +1,2 @@
+-- lists of marks whose positions rise
+pub mod Rising

@@ -1,0 +1,145 @@
+-- Lists of marks whose positions rise.
+use Rattle.std.proofs.Common.{◌≡◌, ℕ, zero, suc, ◌+◌, ◌-◌, ◌<◌, ◌≤◌, inl, inr, true, false, cond, not, List, [], ◌∷◌, ◌++◌, length, drop, get_or, refl, sym, ◌∙◌, ap, subst, arith}
+use Rattle.std.proofs.lemmas.Bool.{cases_lt, lt-leb, le-leb, lt-ltb, le-ltb, false≢true}
+use Rattle.std.specs.Ordering.{int_eq, is_eq}
+use Rattle.std.specs.declared.cmp.Ordering.TheVariants.{Less, Equal, Greater}
+use Rattle.std.specs.Cmp.{int_eq_equiv}
+use Rattle.tpal_syntax.specs.declared.words.Word.{Word}
+use Rattle.std.specs.List.{remove}
+use Rattle.std.specs.Prelude.{ℤ, pos, nat_le, nat_lt, filter, slice_get, Option, None, Some, IsSome, MatchOption}
+use Rattle.stack_marks.specs.declared.mark.Mark.{Mark}
+use Rattle.stack_marks.specs.Stacks.{InOrder, StackValue, word_at}
+
+pub widen : (low low' high high' : ℕ) (ms : List Mark) → low' ≤ low → high ≤ high' → InOrder low high ms → InOrder low' high' ms
+widen low low' high high' [] h k o = tt
+widen low low' high high' (m ∷ ms) h k o = (omega (arith, h, o.0), omega (arith, k, o.1), widen (suc m.at) (suc m.at) high high' ms (omega arith) k o.2)
+
+-- all below a position that none reaches
+pub narrow : (low high x : ℕ) (ms : List Mark) → InOrder low high ms → ((k : ℕ) (d : Mark) → k < length ms → (get_or ms k d).at < x) → InOrder low x ms
+narrow low high x [] o f = tt
+narrow low high x (m ∷ ms) o f = (o.0, f zero m (omega arith), narrow (suc m.at) high x ms o.2 (λ k d h. f (suc k) d (omega (arith, h))))
+
+pub from_low : (low high : ℕ) (ms : List Mark) → InOrder low high ms → (k : ℕ) (d : Mark) → k < length ms → (low ≤ (get_or ms k d).at) × ((get_or ms k d).at < high)
+from_low low high [] o k d h = absurd (omega (arith, h))
+from_low low high (m ∷ ms) o zero d h = (o.0, o.1)
+from_low low high (m ∷ ms) o (suc k) d h = let r = from_low (suc m.at) high ms o.2 k d (omega (arith, h)) in (omega (arith, r.0, o.0), r.1)
+
+-- an earlier mark is lower
+pub rises : (low high : ℕ) (ms : List Mark) → InOrder low high ms → (i j : ℕ) (d e : Mark) → i < j → j < length ms → (get_or ms i d).at < (get_or ms j e).at
+rises low high [] o i j d e h k = absurd (omega (arith, k))
+rises low high (m ∷ ms) o i zero d e h k = absurd (omega (arith, h))
+rises low high (m ∷ ms) o zero (suc j) d e h k = let r = from_low (suc m.at) high ms o.2 j e (omega (arith, k)) in omega (arith, r.0)
+rises low high (m ∷ ms) o (suc i) (suc j) d e h k = rises (suc m.at) high ms o.2 i j d e (omega (arith, h)) (omega (arith, k))
+
+pub all_below : (low high x : ℕ) (ms : List Mark) (e : Mark) → InOrder low high ms → (get_or ms (length ms - 1) e).at < x → (k : ℕ) (d : Mark) → k < length ms → (get_or ms k d).at < x
+all_below low high x ms e o l k d h =
+    elim (cases_lt k (length ms - 1)) [
+      | inl q ↦ let r = rises low high ms o k (length ms - 1) d e q (omega (arith, h)) in omega (arith, r, l)
+      | inr q ↦ let same : k ≡ length ms - 1 = omega (arith, q, h) in subst (λ n. (get_or ms n d).at < x) (sym same) (subst (λ (z : Mark). z.at < x) (get_or_any ms (length ms - 1) e d (omega (arith, h))) l)
+    ]
+  where
+    get_or_any : (ys : List Mark) (n : ℕ) (a b : Mark) → n < length ys → get_or ys n a ≡ get_or ys n b
+    get_or_any [] n a b q = absurd (omega (arith, q))
+    get_or_any (y ∷ ys) zero a b q = refl
+    get_or_any (y ∷ ys) (suc n) a b q = get_or_any ys n a b (omega (arith, q))
+
+-- there are no more marks than positions
+pub few : (low high : ℕ) (ms : List Mark) → low ≤ high → InOrder low high ms → low + length ms ≤ high
+few low high [] h o = omega (arith, h)
+few low high (m ∷ ms) h o = let r = few (suc m.at) high ms (omega (arith, o.1)) o.2 in omega (arith, r, o.0)
+
+pub one_more : (low high : ℕ) (ms : List Mark) (a : Mark) → InOrder low high ms → ((k : ℕ) (d : Mark) → k < length ms → (get_or ms k d).at < a.at) → low ≤ a.at → a.at < high → InOrder low high (ms ++ a ∷ [])
+one_more low high [] a o f h k = (h, k, tt)
+one_more low high (m ∷ ms) a o f h k = (o.0, o.1, one_more (suc m.at) high ms a o.2 (λ i d q. f (suc i) d (omega (arith, q))) (let r = f zero m (omega arith) in omega (arith, r)) k)
+
+pub without_first : (low high : ℕ) (ms : List Mark) → InOrder low high ms → InOrder low high (drop 1 ms)
+without_first low high [] o = tt
+without_first low high (m ∷ ms) o = widen (suc m.at) low high high ms (omega (arith, o.0)) (omega arith) o.2
+
+pub without_one : (low high : ℕ) (ms : List Mark) (k : ℕ) → InOrder low high ms → InOrder low high (remove ms k)
+without_one low high [] zero o = tt
+without_one low high [] (suc k) o = tt
+without_one low high (m ∷ ms) zero o = widen (suc m.at) low high high ms (omega (arith, o.0)) (omega arith) o.2
+without_one low high (m ∷ ms) (suc k) o = (o.0, o.1, without_one (suc m.at) high ms k o.2)
+
+-- those from a position on
+pub from_position : (low high x : ℕ) (ms : List Mark) → InOrder low high ms → InOrder x high (filter (λ m. nat_le x m.at) ms)
+from_position low high x [] o = tt
+from_position low high x (m ∷ ms) o =
+    elim (cases_lt m.at x) [
+      | inl h ↦ subst (λ b. InOrder x high (cond b (m ∷ filter (λ z. nat_le x z.at) ms) (filter (λ z. nat_le x z.at) ms))) (sym (lt-leb x m.at h)) (from_position (suc m.at) high x ms o.2)
+      | inr h ↦ subst (λ b. InOrder x high (cond b (m ∷ filter (λ z. nat_le x z.at) ms) (filter (λ z. nat_le x z.at) ms))) (sym (le-leb x m.at h)) (h, o.1, kept (suc m.at) ms (omega (arith, h)) o.2)
+    ]
+  where
+    kept : (y : ℕ) (ys : List Mark) → x ≤ y → InOrder y high ys → InOrder y high (filter (λ z. nat_le x z.at) ys)
+    kept y [] q p = tt
+    kept y (z ∷ zs) q p = subst (λ b. InOrder y high (cond b (z ∷ filter (λ w. nat_le x w.at) zs) (filter (λ w. nat_le x w.at) zs))) (sym (le-leb x z.at (omega (arith, q, p.0)))) (p.0, p.1, kept (suc z.at) zs (omega (arith, q, p.0)) p.2)
+
+apart : (a b : ℕ) → (a ≡ b → ⊥) → int_eq (pos a) (pos b) ≡ false
+apart a b n =
+    elim (cases_lt a b) [
+      | inl h ↦ ap (λ t. is_eq (cond t Less (cond (nat_lt b a) Greater Equal))) (lt-ltb a b h)
+      | inr h ↦ ap (λ t. is_eq (cond t Less (cond (nat_lt b a) Greater Equal))) (le-ltb a b h) ∙ ap (λ t. is_eq (cond t Greater Equal)) (lt-ltb b a (above h))
+    ]
+  where
+    above : b ≤ a → b < a
+    above h = elim (cases_lt b a) [ inl q ↦ q | inr q ↦ absurd (n (omega (arith, h, q))) ]
+
+all_kept : (low high p : ℕ) (ms : List Mark) → InOrder low high ms → p < low → filter (λ m. not (int_eq (pos m.at) (pos p))) ms ≡ ms
+all_kept low high p [] o h = refl
+all_kept low high p (m ∷ ms) o h =
+    ap (λ b. cond (not b) (m ∷ filter (λ z. not (int_eq (pos z.at) (pos p))) ms) (filter (λ z. not (int_eq (pos z.at) (pos p))) ms)) (apart m.at p (λ e. omega (arith, e, h, o.0)))
+    ∙ ap (λ ys. m ∷ ys) (all_kept (suc m.at) high p ms o.2 (omega (arith, h, o.0)))
+
+-- the one mark at a position taken away
+pub removed_is_filtered : (low high p : ℕ) (ms : List Mark) (k : ℕ) → InOrder low high ms → k < length ms → ((d : Mark) → (get_or ms k d).at ≡ p) → remove ms k ≡ filter (λ m. not (int_eq (pos m.at) (pos p))) ms
+removed_is_filtered low high p [] k o h f = absurd (omega (arith, h))
+removed_is_filtered low high p (m ∷ ms) zero o h f =
+    let same : m.at ≡ p = f m in
+    sym (ap (λ b. cond (not b) (m ∷ filter (λ z. not (int_eq (pos z.at) (pos p))) ms) (filter (λ z. not (int_eq (pos z.at) (pos p))) ms)) (ap (λ z. int_eq (pos z) (pos p)) same ∙ int_eq_equiv.refl (pos p)) ∙ all_kept (suc m.at) high p ms o.2 (omega (arith, same)))
+removed_is_filtered low high p (m ∷ ms) (suc k) o h f =
+    let later : m.at < p = let r = from_low (suc m.at) high ms o.2 k m (omega (arith, h)) in omega (arith, r.0, f m) in
+    ap (λ ys. m ∷ ys) (removed_is_filtered (suc m.at) high p ms k o.2 (omega (arith, h)) f)
+    ∙ sym (ap (λ b. cond (not b) (m ∷ filter (λ z. not (int_eq (pos z.at) (pos p))) ms) (filter (λ z. not (int_eq (pos z.at) (pos p))) ms)) (apart m.at p (λ e. omega (arith, later, e))))
+
+pub word_some : (s : StackValue) (index : ℕ) (at : ℤ) → at ≡ pos (s.base + index) → index < length s.cells → IsSome (word_at s at)
+word_some s index at e h =
+    let inside : nat_le s.base (s.base + index) ≡ true = le-leb s.base (s.base + index) (omega arith) in
+    let there : slice_get s.cells (s.base + index - s.base) ≡ slice_get s.cells index = ap (slice_get s.cells) (omega arith) in
+    subst (λ z. IsSome (word_at s z)) (sym e) (subst IsSome (sym (ap (λ b. cond b (slice_get s.cells (s.base + index - s.base)) None) inside ∙ there)) (some_at s.cells index h))
+  where
+    some_at : (ws : List Word) (i : ℕ) → i < length ws → IsSome (slice_get ws i)
+    some_at [] i q = absurd (omega (arith, q))
+    some_at (w ∷ ws) zero q = refl
+    some_at (w ∷ ws) (suc i) q = some_at ws i (omega (arith, q))
+
+pub get_or_self : (ms : List Mark) (k : ℕ) (d : Mark) → k < length ms → get_or ms k (get_or ms k d) ≡ get_or ms k d
+get_or_self [] k d h = absurd (omega (arith, h))
+get_or_self (m ∷ ms) zero d h = refl
+get_or_self (m ∷ ms) (suc k) d h = get_or_self ms k d (omega (arith, h))
+
+pub on_some : {T : Type 0} {P : Type 0} (r : Option T) → MatchOption r (Unit {0}) (λ _. P) → IsSome r → P
+on_some None p s = absurd (false≢true s)
+on_some (Some x) p s = p
+
+pub no_mark : Mark
+no_mark = record { at = 0; base = 0; cells = 0; split = 0 }
+
+get_or_any : (ys : List Mark) (n : ℕ) (a b : Mark) → n < length ys → get_or ys n a ≡ get_or ys n b
+get_or_any [] n a b q = absurd (omega (arith, q))
+get_or_any (y ∷ ys) zero a b q = refl
+get_or_any (y ∷ ys) (suc n) a b q = get_or_any ys n a b (omega (arith, q))
+
+-- no mark is at a position between two neighbours
+pub none_between : (low high x n : ℕ) (ms : List Mark) (e : Mark) → InOrder low high ms → n < length ms → (get_or ms n e).at < x → ((i : ℕ) (d : Mark) → n < i → i < length ms → x < (get_or ms i d).at) → (k : ℕ) (d : Mark) → k < length ms → (get_or ms k d).at ≡ x → ⊥
+none_between low high x n ms e o h l f k d j q =
+    elim (cases_lt k n) [
+      | inl a ↦ let r = rises low high ms o k n d e a h in omega (arith, r, l, q)
+      | inr a ↦ elim (cases_lt n k) [
+        | inl b ↦ let r = f k d b j in omega (arith, r, q)
+        | inr b ↦
+            let same : k ≡ n = omega (arith, a, b) in
+            let here : (get_or ms k d).at ≡ (get_or ms n e).at = ap (λ z. (get_or ms z d).at) same ∙ ap (λ (z : Mark). z.at) (get_or_any ms n d e h) in
+            omega (arith, here, l, q)
+      ]
+    ]

@@ -1,0 +1,18 @@
+use Rattle.std.proofs.Common.{◌≡◌, ◌+◌, ◌-◌, length, sym, ap, ◌∙◌, arith}
+use Rattle.stack_marks.proofs.Rising.{from_position}
+use Rattle.std.proofs.Common.{length-drop}
+use Rattle.stack_marks.proofs.cuts.parts.Goals as goal
+
+pub invariant_of-result-2 : goal.invariant_of-result-2
+invariant_of-result-2 c =
+    let s = c.stack.inside in
+    let base : c.args.stack.base ≡ s.base = ap (λ v. v.base) (sym c.stack.view_is) in
+    let cells : length c.args.stack.cells ≡ length s.cells.items = ap (λ v. length v.cells) (sym c.stack.view_is) in
+    let size : length c.args.copies.left.items ≡ length c.args.stack.cells - (c.args.left_base - c.args.stack.base) = ap length c.requires.left ∙ length-drop (c.args.left_base - c.args.stack.base) c.args.stack.cells in
+    let top : c.args.left_base + length c.args.copies.left.items ≡ s.base + length s.cells.items = omega (arith, base, cells, size, c.requires.above, c.requires.below) in
+    record {
+      base_low = omega (arith, top, c.stack.invariant.top_low);
+      top_low = omega (arith, top, c.stack.invariant.top_low);
+      in_order = rw (c.keep_from.ensures.kept, top) (from_position s.base (s.base + length s.cells.items) c.args.left_base s.marks.items c.stack.invariant.in_order);
+      room = omega (arith, size, cells, c.keep_from.ensures.capacity, c.stack.invariant.room);
+    }

@@ -1,0 +1,142 @@
+// The stack, and the calls on its cells.
+
+ghost use Rattle.std.specs.Prelude.{◌≡◌, ℕ, ◌+◌, ◌-◌, ◌<◌, ◌≤◌, ◌^◌, [], length, All, Any, IsSome, IfOk, IfErr, OnOk, OnErr, MatchOption, Ok, Err, Some, None};
+ghost use Rattle.std.specs.Bool.{OnTrue, OnFalse};
+ghost use Rattle.stack_marks.specs.Stacks.{word_at, pushed, popped, with_word, InOrder};
+ghost use Rattle.stack_marks.specs.Causes.{HasRoom, PushCause, PopCause, new_top, IsNoPosition, IsIndex};
+
+use crate::mark::{Mark, StackFault};
+use std::alloc::Global;
+use std::collections::VecDeque;
+use std::marker::Model;
+use tp_value::MAX_STACK_POSITION;
+use tpal_syntax::Word;
+
+/// A stack of words with marks on some of its cells. It is seen as the position of its lowest cell,
+/// the list of its cells from there upward, and the list of its marks in the order of their cells.
+#[derive(Drop)]
+pub struct Stack {
+    pub(crate) base: u64,
+    pub(crate) cells: Vec<Word>,
+    pub(crate) marks: VecDeque<Mark>,
+}
+
+impl Model for Stack {
+    ghost use Rattle.stack_marks.specs.Stacks.{StackValue};
+
+    ghost Value = { StackValue };
+
+    ghost use Rattle.stack_marks.specs.View.{stack_value, IsKept};
+
+    ghost view = { stack_value };
+
+    ghost invariant = { IsKept };
+}
+
+impl Stack {
+    /// An empty stack. It takes no memory.
+    pub fn new(alloc: Global, base: u64) -> Stack
+        requires { base ≤ 2 ^ 62 }
+        ensures base { result.base ≡ base }
+        ensures cells { result.cells ≡ [] }
+        ensures marks { result.marks ≡ [] }
+    {
+        Stack {
+            base,
+            cells: Vec::new(alloc),
+            marks: VecDeque::new(alloc),
+        }
+    }
+
+    /// Puts cells with nothing in them on top, and makes room for a mark on each. It is refused
+    /// where the stack would reach past 2^62, and for want of memory.
+    pub fn push(&mut self, cells: u32) -> Result<(), StackFault>
+        ensures pushed { OnOk result (self.new ≡ pushed self.old cells) }
+        ensures room { OnOk result (HasRoom self.old cells) }
+        ensures cause { IfErr result (λ fault. PushCause fault self.old cells) }
+        ensures err { OnErr result (self.new ≡ self.old) }
+    {
+        let len = self.cells.len() + cells as usize;
+        if self.base + len as u64 > MAX_STACK_POSITION {
+            return Err(StackFault::TooLong);
+        }
+        self.marks.reserve(len - self.marks.len())?;
+        self.cells.resize(len, Word::Nil)?;
+        Ok(())
+    }
+
+    /// Takes the top cells off. It is refused where there are fewer, then where one of them carries
+    /// a mark. It takes no memory.
+    pub fn pop(&mut self, cells: u32) -> Result<(), StackFault>
+        ensures popped { OnOk result (self.new ≡ popped self.old cells) }
+        ensures held { OnOk result (cells ≤ length self.old.cells) }
+        ensures unmarked { OnOk result (All (λ m. m.at < new_top self.old cells) self.old.marks) }
+        ensures cause { IfErr result (λ fault. PopCause fault self.old cells) }
+        ensures err { OnErr result (self.new ≡ self.old) }
+    {
+        let cells = cells as usize;
+        if self.cells.len() < cells {
+            return Err(StackFault::OutOfRange);
+        }
+        let len = self.cells.len() - cells;
+        if stands_from(&self.marks, self.base + len as u64) {
+            return Err(StackFault::MarkedCell);
+        }
+        self.cells.truncate(len);
+        Ok(())
+    }
+
+    /// The word at a position; `OutOfRange` where it isn't one of the stack.
+    pub fn get(&self, at: i64) -> Result<Word, StackFault>
+        ensures { MatchOption (word_at self.now at) (result ≡ Err StackFault.OutOfRange) (λ word. result ≡ Ok word) }
+    {
+        match index_of(self.base, self.cells.len(), at) {
+            Some(index) => Ok(self.cells[index]),
+            None => Err(StackFault::OutOfRange),
+        }
+    }
+
+    /// Sets the word at a position, and leaves a mark there; `OutOfRange` where it isn't one of the
+    /// stack.
+    pub fn set(&mut self, at: i64, word: Word) -> Result<(), StackFault>
+        ensures set { OnOk result (self.new ≡ with_word self.old at word) }
+        ensures held { OnOk result (IsSome (word_at self.old at)) }
+        ensures cause { IfErr result (λ fault. IsNoPosition fault self.old at) }
+        ensures err { OnErr result (self.new ≡ self.old) }
+    {
+        match index_of(self.base, self.cells.len(), at) {
+            Some(index) => {
+                self.cells[index] = word;
+                Ok(())
+            }
+            None => Err(StackFault::OutOfRange),
+        }
+    }
+}
+
+/// How many cells lie below a position, where it is one of `len` from `base` on.
+pub(crate) fn index_of(base: u64, len: usize, at: i64) -> Option<usize>
+    requires { base ≤ 2 ^ 62 }
+    ensures { IsIndex base len at result }
+{
+    let base = base as i64;
+    if at < base {
+        return None;
+    }
+    let index = (at - base) as usize;
+    if index < len { Some(index) } else { None }
+}
+
+/// Whether a mark stands at a position or above.
+pub(crate) fn stands_from(marks: &VecDeque<Mark>, low: u64) -> bool
+    requires { InOrder 0 (2 ^ 62) marks.now.items }
+    ensures yes { OnTrue result (Any (λ m. low ≤ m.at) marks.now.items) }
+    ensures no { OnFalse result (All (λ m. m.at < low) marks.now.items) }
+{
+    if let Some(newest) = marks.back() {
+        if newest.at >= low {
+            return true;
+        }
+    }
+    false
+}

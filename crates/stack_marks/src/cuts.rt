@@ -1,0 +1,144 @@
+// A stack cut at an activation.
+
+ghost use Rattle.std.specs.Prelude.{◌≡◌, ◌+◌, ◌≤◌, ◌-◌, [], length, take, drop, filter, nat_le, OnOk, IfOk, IfErr};
+ghost use Rattle.std.specs.VecDeque.{deque_capacity};
+ghost use Rattle.stack_marks.specs.Stacks.{IsSound, rest_of, left_of, child_of};
+ghost use Rattle.stack_marks.specs.Causes.{Holds, CutCause};
+
+use crate::cells::Stack;
+use crate::mark::{Mark, StackFault};
+use std::alloc::{AllocError, Global};
+use std::collections::VecDeque;
+use tpal_syntax::{CutKind, Word};
+
+/// The three parts of a stack that is cut. Each has room for a mark on each of its cells.
+#[derive(Drop)]
+pub struct Cut {
+    /// What the outer task keeps while the two sides run.
+    pub rest: Stack,
+    /// What the left goes on with.
+    pub left: Stack,
+    /// What the child begins with.
+    pub child: Stack,
+}
+
+impl Stack {
+    /// Cuts the stack at an activation, `cells` cells from position `base` on: the rest has all cells
+    /// below the activation's end, the child those of the activation, and the left those from
+    /// `base` on for a loop, and from the activation's end on for a call, with the marks there. It
+    /// is refused where the activation isn't in the stack, and for want of memory, and hands the
+    /// stack back then.
+    pub fn cut(self, base: u64, cells: u64, kind: CutKind) -> Result<Cut, (Stack, StackFault)>
+        ensures inside { OnOk result (Holds self base cells) }
+        ensures rest { IfOk result (λ cut. cut.rest ≡ rest_of self base cells) }
+        ensures left { IfOk result (λ cut. cut.left ≡ left_of self base cells kind) }
+        ensures child { IfOk result (λ cut. cut.child ≡ child_of self base cells) }
+        ensures cause { IfErr result (λ refused. CutCause refused.1 self base cells) }
+        ensures handed_back { IfErr result (λ refused. refused.0 ≡ self) }
+    {
+        let top = self.base + self.cells.len() as u64;
+        if base < self.base || base > top || cells > top - base {
+            return Err((self, StackFault::OutOfRange));
+        }
+        let left_base = match kind {
+            CutKind::Loop => base,
+            CutKind::Call => base + cells,
+        };
+        let low = (base - self.base) as usize;
+        let high = low + cells as usize;
+        let from = (left_base - self.base) as usize;
+        match copies(&self, low, high, from) {
+            Ok(copies) => Ok(parts(self, copies, base, high, left_base)),
+            Err(_) => Err((self, StackFault::NoMemory)),
+        }
+    }
+}
+
+/// All of a cut that takes memory.
+#[derive(Drop)]
+struct CutMemory {
+    child: Vec<Word>,
+    child_marks: VecDeque<Mark>,
+    left: Vec<Word>,
+    rest_marks: VecDeque<Mark>,
+}
+
+/// CutMemory of the cells from index `low` up to `high` and from `from` on, and room for marks.
+fn copies(stack: &Stack, low: usize, high: usize, from: usize) -> Result<CutMemory, AllocError>
+    requires order { (low ≤ high) × (high ≤ length stack.now.cells) }
+    requires within { from ≤ length stack.now.cells }
+    ensures child { IfOk result (λ c. c.child.items ≡ take (high - low) (drop low stack.now.cells)) }
+    ensures left { IfOk result (λ c. c.left.items ≡ drop from stack.now.cells) }
+    ensures no_marks { IfOk result (λ c. (c.child_marks.items ≡ []) × (c.rest_marks.items ≡ [])) }
+    ensures room { IfOk result (λ c. (high - low ≤ deque_capacity c.child_marks) × (high ≤ deque_capacity c.rest_marks)) }
+{
+    let alloc = *stack.cells.allocator();
+    let child = Vec::from_slice(alloc, &stack.cells[low..high])?;
+    let left = Vec::from_slice(alloc, &stack.cells[from..])?;
+    let child_marks = VecDeque::with_capacity(alloc, high - low)?;
+    let rest_marks = VecDeque::with_capacity(alloc, high)?;
+    Ok(CutMemory {
+        child,
+        child_marks,
+        left,
+        rest_marks,
+    })
+}
+
+/// The parts of a stack, of the copies that were made of it.
+fn parts(stack: Stack, copies: CutMemory, base: u64, high: usize, left_base: u64) -> Cut
+    requires above { (stack.base ≤ base) × (base ≤ left_base) }
+    requires below { (left_base ≤ stack.base + length stack.cells) × (high ≤ length stack.cells) }
+    requires child_size { base + length copies.child.items ≤ stack.base + length stack.cells }
+    requires left { copies.left.items ≡ drop (left_base - stack.base) stack.cells }
+    requires no_marks { (copies.child_marks.items ≡ []) × (copies.rest_marks.items ≡ []) }
+    requires room { (length copies.child.items ≤ deque_capacity copies.child_marks) × (high ≤ deque_capacity copies.rest_marks) }
+    ensures rest { result.rest ≡ record { base = stack.base; cells = take high stack.cells; marks = [] } }
+    ensures left { result.left ≡ record { base = left_base; cells = copies.left.items; marks = filter (λ m. nat_le left_base m.at) stack.marks } }
+    ensures child { result.child ≡ record { base = base; cells = copies.child.items; marks = [] } }
+{
+    let CutMemory {
+        child,
+        child_marks,
+        left,
+        rest_marks,
+    } = copies;
+    let Stack {
+        base: lowest,
+        mut cells,
+        mut marks,
+    } = stack;
+    cells.truncate(high);
+    keep_from(&mut marks, left_base);
+    Cut {
+        rest: Stack {
+            base: lowest,
+            cells,
+            marks: rest_marks,
+        },
+        left: Stack {
+            base: left_base,
+            cells: left,
+            marks,
+        },
+        child: Stack {
+            base,
+            cells: child,
+            marks: child_marks,
+        },
+    }
+}
+
+fn keep_from(marks: &mut VecDeque<Mark>, low: u64)
+    ensures kept { marks.new.items ≡ filter (λ m. nat_le low m.at) marks.old.items }
+    ensures capacity { deque_capacity marks.new ≡ deque_capacity marks.old }
+{
+    marks.retain(|mark| mark.at >= low);
+}
+
+/// What is true of every stack. The function does nothing: its contract is for those who reason.
+pub fn in_order(stack: &Stack)
+    ensures { IsSound stack.now }
+{
+    let _base = &stack.base;
+}
