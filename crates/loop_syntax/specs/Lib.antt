@@ -1,1 +1,1 @@
--- Nothing is promised of a tree: it is plain data.
+pub mod Tree  -- trees without where they lie in memory, and the tree of a value
