@@ -134,8 +134,9 @@ stmt_step (layers.Emit p t) = NEmit p (spelled t)
 
 abbrev pub par_step : ParLoop-F Node (ParHead × Nodes) → ParHead × Nodes
 par_step p = (
-    record { place = p.place; var = spelled p.var; from = tree_of p.from; to = tree_of p.to; carry_place = p.carry_place; carries = map carry_of p.carries.items; reduces = map reduce_of p.reduces.items },
-    nodes p.body.items)
+  record { place = p.place; var = spelled p.var; from = tree_of p.from; to = tree_of p.to; carry_place = p.carry_place; carries = map carry_of p.carries.items; reduces = map reduce_of p.reduces.items },
+  nodes p.body.items,
+)
 
 abbrev pub node_of : Stmt → Node
 node_of = fold-Stmt Node (ParHead × Nodes) stmt_step par_step
