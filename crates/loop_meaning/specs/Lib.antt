@@ -1,0 +1,20 @@
+-- RowText: a row of numbers as text
+pub mod RowText
+-- State: variables, tables, output and ticks; how a run ends, and its notes
+pub mod State
+-- Expressions: the value of an expression, or its trap
+pub mod Expressions
+-- Statements: what a statement does, and those of a block in order
+pub mod Statements
+-- Calls: functions, their arguments and the depth of calls
+pub mod Calls
+-- Meaning: the run of a whole program over given tables
+pub mod Meaning
+-- Answers: the text and the status that an outcome owes
+pub mod Answers
+-- Cells: the cells that the iterations of a `par` touch
+pub mod Cells
+-- Frames: a `par` or a `both` that is partly done
+pub mod Frames
+-- Ends: what the evaluator holds and answers
+pub mod Ends

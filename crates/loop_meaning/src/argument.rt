@@ -1,0 +1,80 @@
+// Functions, their arguments, and how a call ends.
+
+ghost use Rattle.std.specs.Prelude.{◌≡◌, IfOk, MatchOption, Some, None, pos};
+ghost use Rattle.loop_rules.specs.Names.{func_of};
+ghost use Rattle.loop_meaning.specs.Calls.{bound};
+ghost use Rattle.loop_meaning.specs.Ends.{state_of, NumbersOf};
+
+use crate::expression::value_of;
+use crate::memory::Memory;
+use crate::value::{Answer, Variable};
+use loop_syntax::{Expr, Func, Name};
+use std::alloc::Global;
+use tp_value::{Items, NoMemory, Place, Stop, TrapKind};
+
+/// The end of a call: its stop, and its value where that is done.
+#[derive(Drop)]
+pub struct Returned {
+    /// How it ended.
+    pub stop: Stop,
+    /// Its value, or 0 where it stopped early.
+    pub value: i64,
+}
+
+/// The end of a call that stopped early.
+pub fn stopped(stop: Stop) -> Returned
+    ensures stop { result.stop ≡ stop }
+    ensures value { result.value ≡ pos 0 }
+{
+    Returned { stop, value: 0 }
+}
+
+/// The numbers of a list of arguments, or the first trap.
+#[derive(Drop)]
+pub enum Numbers {
+    /// The numbers in order.
+    All(Vec<i64>),
+    /// The trap.
+    Traps(TrapKind, Place),
+}
+
+/// The numbers of a list of arguments, from left to right.
+pub fn numbers_of(alloc: Global, m: &Memory, es: &[Expr]) -> Result<Numbers, NoMemory>
+    ensures { IfOk result (λ ns. NumbersOf es.now (state_of m.now) ns) }
+{
+    let mut ns = Vec::new(alloc);
+    for e in es {
+        match value_of(m, e) {
+            Answer::Number(n) => ns.push(n)?,
+            Answer::Traps(kind, place) => return Ok(Numbers::Traps(kind, place)),
+        }
+    }
+    Ok(Numbers::All(ns))
+}
+
+/// The parameters with their arguments.
+pub fn bound(alloc: Global, params: &[Name], ns: &[i64]) -> Result<Vec<Variable>, NoMemory>
+    ensures { IfOk result (λ v. v.items ≡ bound params.now ns.now) }
+{
+    let mut vars = Vec::new(alloc);
+    for i in 0..params.len() {
+        if i >= ns.len() {
+            return Ok(vars);
+        }
+        let name = Items::new(params[i].text.to_vec(alloc)?);
+        vars.push(Variable { name, value: ns[i] })?;
+    }
+    Ok(vars)
+}
+
+/// The function of that name.
+pub fn func_of<'a>(funcs: &'a [Func], x: &[u8]) -> Option<&'a Func>
+    ensures { MatchOption result (func_of funcs.now x.now ≡ None) (λ f. func_of funcs.now x.now ≡ Some f.now) }
+{
+    for f in funcs {
+        if f.name.text.as_slice() == x {
+            return Some(f);
+        }
+    }
+    None
+}
