@@ -14,3 +14,6 @@ pub use code::{Alu, Code, Fault, Instr, Value, Word};
 pub use ends::{End, SideName};
 pub use task::Task;
 pub use turn::{Turn, run_task};
+
+#[cfg(test)]
+mod tests;
