@@ -1,0 +1,31 @@
+//! The program `tpal`: it gives the top call the process's words, the files of its folder and the
+//! standard output, and ends with the status's number. All else stands in `tpal_tool`.
+#![tactic(auto)]
+
+use std::alloc::AllocError;
+use std::io;
+use std::process::ExitCode;
+use std::rt::Env;
+use tpal_tool::{FileShelf, OutSink, Status, tpal};
+
+/// The words after the program's own name. A word that is no UTF-8 is an error of its own.
+fn words_of<R: Env + AllocGlobal>(rt: &R) -> io::Result<Vec<String>> {
+    let mut words = std::env::args(rt)?;
+    let _ = words.next();
+    Ok(words.collect(rt.alloc())?)
+}
+
+fn main(rt: HostRuntime) -> ExitCode {
+    let words = match words_of(&rt) {
+        Ok(words) => words,
+        Err(error) if error.kind() == io::ErrorKind::OutOfMemory => {
+            return ExitCode::from(Status::NoMemory.number());
+        }
+        // Words that can't be read are of no form, as no words are.
+        Err(_) => Vec::new(rt.alloc()),
+    };
+    let mut shelf = FileShelf { rt: &rt, faults: 0 };
+    let mut sink = OutSink { rt: &rt, faults: 0 };
+    let status = tpal(rt.alloc(), &words, &mut shelf, &mut sink);
+    ExitCode::from(status.number())
+}

@@ -1,0 +1,18 @@
+-- a text appended, or the first bytes of it, and then another
+pub mod Appending
+-- a text that is written piece by piece
+pub mod Pieces
+-- the instructions of a lowered program
+pub mod Instructions
+-- instructions that are executed one after another
+pub mod Execution
+-- what instructions of expressions and prints come to
+pub mod Values
+-- what a program that is built means, and what its code comes to
+pub mod Meanings
+-- how a call ends
+pub mod Endings
+-- programs that are built, and their meaning, by their trees alone
+pub mod Trees
+-- what a source text owes is one thing alone
+pub mod Soles

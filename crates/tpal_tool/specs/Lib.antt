@@ -1,0 +1,17 @@
+-- What is promised of the outside of the program.
+-- where texts come from: told texts, faults that rise, look-ups by name
+pub mod Shelf
+-- where bytes go: what a write appends
+pub mod Sink
+-- the programs that are built so far
+pub mod Built
+-- the instructions that a program becomes
+pub mod Lowered
+-- the words of a call
+pub mod Words
+-- the lines of refusals
+pub mod Lines
+-- what a call owes, and how it ends
+pub mod Owed
+-- what the reader answers
+pub mod Reading

@@ -1,0 +1,36 @@
+//! The program's top call, and the outside that it works on: the words of a call, texts that are
+//! fetched by name from a shelf, bytes that are written to a sink, refusals and statuses.
+//! Shelf and sink are traits whose ghost members are their meaning: texts and bytes where they are
+//! told, and a count of faults, without which neither may fail.
+//! It stands on the front of the compiler, the machine and the meaning. Start with `tool`, whose
+//! contract says what a call writes and answers; `specs/Owed.antt` has the definitions that it cites.
+#![tactic(auto)]
+
+mod built;
+mod files;
+mod lines;
+mod lowering;
+mod outcome_text;
+mod reading;
+mod running;
+mod shelf;
+mod shelves;
+mod sink;
+mod sinks;
+mod standard_output;
+mod status;
+mod tool;
+mod words;
+mod writing;
+
+pub use files::FileShelf;
+pub use shelf::{Shelf, ShelfFault};
+pub use shelves::{MemShelf, SureShelf};
+pub use sink::{Sink, SinkFault};
+pub use sinks::MemSink;
+pub use standard_output::OutSink;
+pub use status::Status;
+pub use tool::tpal;
+
+#[cfg(test)]
+mod outside_tests;

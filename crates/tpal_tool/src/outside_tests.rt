@@ -1,0 +1,179 @@
+// Each shelf and sink once, and the pieces in which a text is written.
+
+ghost use Rattle.std.specs.Prelude.{None};
+
+use crate::{
+    FileShelf, MemShelf, MemSink, OutSink, Shelf, ShelfFault, Sink, SinkFault, SureShelf,
+    write_text,
+};
+use std::alloc::{AllocError, Global};
+use std::process::Abort;
+use std::test::Fail;
+
+fn texts(alloc: Global) -> Result<Vec<(String, Vec<u8>)>, AllocError> {
+    let mut texts = Vec::new(alloc);
+    texts.push((
+        String::from_str(alloc, "p")?,
+        Vec::from_slice(alloc, b"abc")?,
+    ))?;
+    texts.push((
+        String::from_str(alloc, "t")?,
+        Vec::from_slice(alloc, b"12345")?,
+    ))?;
+    Ok(texts)
+}
+
+// Fetches once, and compares the text or the fault.
+fn expect_fetch<S: Shelf>(
+    rt: &impl Abort,
+    alloc: Global,
+    shelf: &mut S,
+    name: &str,
+    limit: u32,
+    text: &[u8],
+    fault: Option<ShelfFault>,
+) {
+    match shelf.fetch(alloc, name, limit) {
+        Ok(bytes) => {
+            assert_eq!(rt; bytes.as_slice(), text, "{name}");
+            assert_eq!(rt; fault, None, "{name}");
+        }
+        Err(found) => assert_eq!(rt; fault, Some(found), "{name}"),
+    }
+}
+
+#[test]
+fn a_shelf_in_memory_fails_where_told(rt: HostRuntime) -> Result<(), Fail> {
+    let mut shelf = MemShelf {
+        texts: texts(rt.alloc())?,
+        fails: Vec::from_slice(rt.alloc(), &[2])?,
+        calls: 0,
+        faults: 0,
+    };
+    let cases = [
+        ("p", 3, b"abc".as_slice(), None, 0),
+        ("p", 2, b"", Some(ShelfFault::Long), 0),
+        ("p", 3, b"", Some(ShelfFault::Failed), 1),
+        ("q", 3, b"", Some(ShelfFault::Failed), 2),
+        ("t", 5, b"12345", None, 2),
+    ];
+    for (name, limit, text, fault, faults) in cases {
+        expect_fetch(&rt, rt.alloc(), &mut shelf, name, limit, text, fault);
+        assert_eq!(rt; shelf.faults, faults, "{name}");
+    }
+    assert_eq!(rt; shelf.calls, 5);
+    Ok(())
+}
+
+#[test]
+fn a_sure_shelf_has_every_name(rt: HostRuntime) -> Result<(), Fail> {
+    let mut shelf = SureShelf {
+        texts: texts(rt.alloc())?,
+    };
+    let cases = [
+        ("p", 3, b"abc".as_slice(), None),
+        ("p", 2, b"", Some(ShelfFault::Long)),
+        ("q", 0, b"", None),
+    ];
+    for (name, limit, text, fault) in cases {
+        expect_fetch(&rt, rt.alloc(), &mut shelf, name, limit, text, fault);
+    }
+    Ok(())
+}
+
+#[test]
+fn a_sink_in_memory_keeps_what_it_is_told_to(rt: HostRuntime) -> Result<(), Fail> {
+    let mut sink = MemSink {
+        bytes: Vec::new(rt.alloc()),
+        fails: Vec::from_slice(rt.alloc(), &[(1, 2), (2, 9)])?,
+        calls: 0,
+        faults: 0,
+    };
+    let cases = [
+        (b"ab".as_slice(), Ok(()), b"ab".as_slice(), 0),
+        (b"cde", Err(SinkFault::Failed), b"abcd", 1),
+        (b"fg", Err(SinkFault::Failed), b"abcdfg", 2),
+        (b"h", Ok(()), b"abcdfgh", 2),
+    ];
+    for (piece, answer, bytes, faults) in cases {
+        assert_eq!(rt; sink.write(piece), answer);
+        assert_eq!(rt; sink.bytes.as_slice(), bytes);
+        assert_eq!(rt; sink.faults, faults);
+    }
+    Ok(())
+}
+
+// A sink that keeps the length of each piece.
+#[derive(Drop)]
+struct Lengths {
+    pieces: Vec<usize>,
+}
+
+impl Sink for Lengths {
+    ghost written = { λ _. None };
+
+    ghost faults = { λ _. 0 };
+
+    fn write(&mut self, piece: &[u8]) -> Result<(), SinkFault> {
+        self.pieces.push(piece.len()).map_err(AllocError::from)?;
+        Ok(())
+    }
+}
+
+#[test]
+fn texts_are_written_in_pieces(rt: HostRuntime) -> Result<(), Fail> {
+    let cases = [
+        (0, [].as_slice()),
+        (1, &[1]),
+        (65_536, &[65_536]),
+        (65_537, &[65_536, 1]),
+        (131_072, &[65_536, 65_536]),
+    ];
+    for (length, pieces) in cases {
+        let mut sink = Lengths {
+            pieces: Vec::new(rt.alloc()),
+        };
+        let text = vec![in rt.alloc(); b'x'; length]?;
+        write_text(&mut sink, &text)?;
+        assert_eq!(rt; sink.pieces.as_slice(), pieces);
+    }
+    Ok(())
+}
+
+#[test]
+fn a_text_ends_at_a_fault(rt: HostRuntime) -> Result<(), Fail> {
+    let mut sink = MemSink {
+        bytes: Vec::new(rt.alloc()),
+        fails: Vec::from_slice(rt.alloc(), &[(1, 3)])?,
+        calls: 0,
+        faults: 0,
+    };
+    let text = vec![in rt.alloc(); b'x'; 200_000]?;
+    assert_eq!(rt; write_text(&mut sink, &text), Err(SinkFault::Failed));
+    assert_eq!(rt; sink.bytes.len(), 65_539);
+    assert_eq!(rt; sink.calls, 2);
+    Ok(())
+}
+
+#[test]
+fn files_are_a_shelf(rt: HostRuntime) -> Result<(), Fail> {
+    let mut shelf = FileShelf { rt: &rt, faults: 0 };
+    // The second file has no end, so this also shows that no more than one byte too many is read.
+    let cases = [
+        ("/dev/null", 0, b"".as_slice(), None, 0),
+        ("/dev/zero", 5, b"", Some(ShelfFault::Long), 0),
+        ("no such file", 5, b"", Some(ShelfFault::Failed), 1),
+    ];
+    for (name, limit, text, fault, faults) in cases {
+        expect_fetch(&rt, rt.alloc(), &mut shelf, name, limit, text, fault);
+        assert_eq!(rt; shelf.faults, faults, "{name}");
+    }
+    Ok(())
+}
+
+#[test]
+fn the_standard_output_is_a_sink(rt: HostRuntime) {
+    let mut sink = OutSink { rt: &rt, faults: 0 };
+    assert_eq!(rt; sink.write(b"written to the standard output\n"), Ok(()));
+    assert_eq!(rt; sink.faults, 0);
+}
