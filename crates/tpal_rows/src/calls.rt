@@ -1,0 +1,85 @@
+// What calls write and answer.
+
+use crate::harness::{call_with, run};
+use std::test::Fail;
+use tpal_tool::Status;
+
+#[test]
+fn programs_print(rt: HostRuntime) -> Result<(), Fail> {
+    let cases: [(&str, &str); 5] = [
+        ("main { print 2 + 3; }", "5\n"),
+        ("main { }", ""),
+        (
+            "main { print 2 * 3 + 4 * 5; print 1 + 2 * (3 + 4); }",
+            "26\n15\n",
+        ),
+        (
+            "main{print 9223372036854775807+1;}",
+            "-9223372036854775808\n",
+        ),
+        ("# prints\nmain {\n  print 007; # seven\n}\n", "7\n"),
+    ];
+    for (source, text) in cases {
+        let called = run(rt.alloc(), source.as_bytes())?;
+        assert_eq!(rt; called.text.as_slice(), text.as_bytes(), "{source}");
+        assert_eq!(rt; called.status, Status::Done, "{source}");
+    }
+    Ok(())
+}
+
+#[test]
+fn texts_are_refused_at_their_first_fault(rt: HostRuntime) -> Result<(), Fail> {
+    let cases: [(&str, &str); 7] = [
+        ("main { print 1 @ 2; }", "refused E1 at 1:16\n"),
+        (
+            "main { print 9223372036854775808; }",
+            "refused E2 at 1:14\n",
+        ),
+        ("main { print 1 }", "refused E3 at 1:16\n"),
+        ("", "refused E3 at 1:1\n"),
+        ("main {", "refused E3 at 1:7\n"),
+        ("main { print 1 + ; }", "refused E3 at 1:18\n"),
+        ("main { print x; }", "refused E0 not built\n"),
+    ];
+    for (source, text) in cases {
+        let called = run(rt.alloc(), source.as_bytes())?;
+        assert_eq!(rt; called.text.as_slice(), text.as_bytes(), "{source}");
+        assert_eq!(rt; called.status, Status::Refused, "{source}");
+    }
+    Ok(())
+}
+
+#[test]
+fn words_that_are_not_of_the_form_are_bad(rt: HostRuntime) -> Result<(), Fail> {
+    let cases: [&[&str]; 6] = [
+        &[],
+        &["run"],
+        &["run", "-p"],
+        &["run", "p", "t"],
+        &["walk", "p"],
+        &["run", "--beat=1"],
+    ];
+    for words in cases {
+        let called = call_with(rt.alloc(), words, b"main { }", Vec::new(rt.alloc()))?;
+        assert_eq!(rt; called.text.as_slice(), b"bad words\n".as_slice());
+        assert_eq!(rt; called.status, Status::BadWords);
+    }
+    Ok(())
+}
+
+#[test]
+fn an_absent_file_is_a_fault_of_reading(rt: HostRuntime) -> Result<(), Fail> {
+    let called = call_with(rt.alloc(), &["run", "q"], b"main { }", Vec::new(rt.alloc()))?;
+    assert_eq!(rt; called.text.as_slice(), b"".as_slice());
+    assert_eq!(rt; called.status, Status::ReadFault);
+    Ok(())
+}
+
+#[test]
+fn a_sink_that_fails_keeps_a_prefix(rt: HostRuntime) -> Result<(), Fail> {
+    let fails = Vec::from_slice(rt.alloc(), &[(0, 1)])?;
+    let called = call_with(rt.alloc(), &["run", "p"], b"main { print 2 + 3; }", fails)?;
+    assert_eq!(rt; called.text.as_slice(), b"5".as_slice());
+    assert_eq!(rt; called.status, Status::WriteFault);
+    Ok(())
+}

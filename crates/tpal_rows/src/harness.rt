@@ -1,0 +1,58 @@
+// A call over a shelf and a sink in memory.
+
+use std::alloc::{AllocError, Global};
+use tpal_tool::{MemShelf, MemSink, Status, tpal};
+
+/// What a call wrote, and its status.
+#[derive(Drop)]
+pub struct Called {
+    pub text: Vec<u8>,
+    pub status: Status,
+}
+
+fn words_of(alloc: Global, words: &[&str]) -> Result<Vec<String>, AllocError> {
+    let mut list = Vec::new(alloc);
+    for word in words {
+        list.push(String::from_str(alloc, word)?)?;
+    }
+    Ok(list)
+}
+
+/// Calls with these words over a shelf that has one text, under the name `p`, and a sink whose
+/// listed calls fail.
+pub fn call_with(
+    alloc: Global,
+    words: &[&str],
+    source: &[u8],
+    fails: Vec<(u32, u32)>,
+) -> Result<Called, AllocError> {
+    let words = words_of(alloc, words)?;
+    let mut texts = Vec::new(alloc);
+    texts.push((
+        String::from_str(alloc, "p")?,
+        Vec::from_slice(alloc, source)?,
+    ))?;
+    let mut shelf = MemShelf {
+        texts,
+        fails: Vec::new(alloc),
+        calls: 0,
+        faults: 0,
+    };
+    let mut sink = MemSink {
+        bytes: Vec::new(alloc),
+        fails,
+        calls: 0,
+        faults: 0,
+    };
+    let status = tpal(alloc, &words, &mut shelf, &mut sink);
+    let MemSink { bytes, .. } = sink;
+    Ok(Called {
+        text: bytes,
+        status,
+    })
+}
+
+/// Runs a source text under the name `p`.
+pub fn run(alloc: Global, source: &[u8]) -> Result<Called, AllocError> {
+    call_with(alloc, &["run", "p"], source, Vec::new(alloc))
+}

@@ -1,0 +1,10 @@
+//! Tests that cross crates: whole calls over a shelf and a sink in memory, with the text and the
+//! status that each owes, worked out by hand. It stands on the top call and has no code of its own.
+#![tactic(auto)]
+
+#[cfg(test)]
+mod calls;
+#[cfg(test)]
+mod harness;
+#[cfg(test)]
+mod limits;
