@@ -2,10 +2,8 @@
 
 ghost use Rattle.std.specs.Prelude.{None};
 
-use crate::{
-    FileShelf, MemShelf, MemSink, OutSink, Shelf, ShelfFault, Sink, SinkFault, SureShelf,
-    write_text,
-};
+use crate::writing::write_text;
+use crate::{FileShelf, MemShelf, MemSink, OutSink, Shelf, ShelfFault, Sink, SinkFault, SureShelf};
 use std::alloc::{AllocError, Global};
 use std::process::Abort;
 use std::test::Fail;
