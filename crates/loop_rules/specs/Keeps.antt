@@ -4,7 +4,7 @@ use Rattle.tp_value.specs.declared.Place.{Place}
 use Rattle.loop_syntax.specs.declared.Carry.{Carry}
 use Rattle.loop_rules.specs.declared.part.Part.{Part}
 use Rattle.loop_rules.specs.declared.part.Part.TheVariants.{OfSize, OfFunc, OfMain}
-use Rattle.loop_rules.specs.Sites.{Loop, Act, WritesCell, Shows, Parallel, Spot}
+use Rattle.loop_rules.specs.Sites.{Act, WritesCell, Shows, Parallel, Spot}
 
 -- a place, where it is part of a function
 abbrev pub in_function : Part → Place → List Place

@@ -18,3 +18,13 @@ pub mod Carries
 pub mod Reading
 -- Broken: where a program breaks a rule
 pub mod Broken
+-- Search: the first broken rule, as the walk finds it
+pub mod Search
+-- Walk: how the walk's state stands for a spot
+pub mod Walk
+-- Index: a table of names and their places
+pub mod Index
+-- Unbroken: programs that break no rule that `resolve` looks at
+pub mod Unbroken
+-- Resolving: what `resolve` answers
+pub mod Resolving

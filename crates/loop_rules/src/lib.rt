@@ -1,8 +1,20 @@
-//! The rules of the loop language, each as the set of the places where a program breaks it.
+//! The rules of the loop language, each as the set of the places where a program breaks it, and
+//! `resolve`, which finds the first broken rule on names, limits and loop variables.
 //! It stands on `loop_syntax`. Start with `specs/Broken.antt`; `specs/Sites.antt` is the walk that
 //! all rules share.
 #![tactic(auto)]
 
+mod declaration;
+mod declared;
+mod expression;
+mod fault;
+mod function;
 mod part;
+mod resolved;
+mod scope;
+mod spot;
+mod statement;
+mod whole;
 
 pub use part::Part;
+pub use resolved::{Resolved, RuleFault, resolve};

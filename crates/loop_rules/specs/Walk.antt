@@ -1,0 +1,35 @@
+-- How the state of the walk stands for a spot, and what a step of the walk does.
+use Rattle.std.specs.Prelude.{◌≡◌, List, [], ◌∷◌, map, length, Option}
+use Rattle.std.specs.Borrow.{Bor}
+use Rattle.loop_syntax.specs.declared.Name.{Name}
+use Rattle.loop_rules.specs.declared.fault.Fault.{Fault}
+use Rattle.loop_rules.specs.declared.spot as state
+use Rattle.loop_rules.specs.Declarations.{tables_of_decls}
+use Rattle.loop_rules.specs.Sites.{Spot, Site, declared_var}
+use Rattle.loop_rules.specs.Search.{lowest_in}
+
+-- the state knows how many `par` loops are round, and not which
+abbrev pub spot_of : state.Spot.Spot → Spot
+spot_of w = record {
+  part = w.part;
+  tables = tables_of_decls w.decls.now;
+  funcs = w.all.now;
+  scope = w.scope;
+  loops = w.loops;
+  depth = length w.rounds.items;
+  rounds = [];
+}
+
+-- the walk went over these sites, and stands at that spot
+pub record Walked (before after : Option Fault) (ss : List Site) (new : state.Spot.Spot) (spot : Spot) : Type 0 where
+  pub found : after ≡ lowest_in before ss
+  pub stands : spot_of new ≡ spot
+
+-- the names behind references
+abbrev pub named : List (Bor Name) → List Name
+named xs = map {A = Bor Name} {B = Name} (λ x. x.now) xs
+
+-- where a walk stands after parameters
+abbrev pub spot_of_params : Spot → List Name → Spot
+spot_of_params w [] = w
+spot_of_params w (x ∷ xs) = spot_of_params (declared_var w x) xs
