@@ -10,7 +10,8 @@ use crate::memory::Memory;
 use crate::run::run_list;
 use crate::setting::Setting;
 use crate::value::Answer;
-use loop_syntax::{Name, Program, TableDecl};
+use loop_rules::Resolved;
+use loop_syntax::{Name, TableDecl};
 use std::alloc::Global;
 use tp_value::{
     Items, MAX_FUEL, MAX_SIDE, MAX_TABLE_CELLS, NoMemory, Outcome, Stop, Table, TrapKind,
@@ -160,11 +161,11 @@ fn run_main(k: &Setting, tables: &[Table], m: &mut Memory) -> Result<Stop, NoMem
     }
 }
 
-/// The outcome of a program over given tables, with that much fuel in ticks: its serial meaning,
-/// exactly. Tests alone call it.
+/// The outcome of a resolved program over given tables, with that much fuel in ticks: its serial
+/// meaning, exactly. Tests alone call it.
 pub fn plain_run(
     alloc: Global,
-    program: &Program,
+    program: &Resolved,
     tables: &[Table],
     fuel: u64,
 ) -> Result<Outcome, NoMemory>
@@ -173,7 +174,7 @@ pub fn plain_run(
 {
     let setting = Setting {
         alloc,
-        program,
+        program: program.program(),
         reduces: &[],
         fuel,
         depth: 0,

@@ -4,6 +4,7 @@
 ghost use Rattle.std.specs.Prelude.{◌≤◌};
 
 use super::*;
+use loop_rules::{Resolved, resolve};
 use loop_syntax::{App, BinOp, Expr, Func, Name, ParLoop, Program, Reduce, Stmt, TableDecl};
 use std::alloc::Global;
 use std::test::Fail;
@@ -117,7 +118,7 @@ fn is(o: &Outcome, stop: Stop, output: &str, ticks: u64) -> bool {
 }
 
 // Whether a run without given tables ends so.
-fn runs(g: Global, p: &Program, fuel: u64, stop: Stop, output: &str, ticks: u64) -> Made<bool>
+fn runs(g: Global, p: &Resolved, fuel: u64, stop: Stop, output: &str, ticks: u64) -> Made<bool>
     requires { fuel ≤ MAX_FUEL }
 {
     let outcome = plain_run(g, p, &[], fuel)?;
@@ -127,9 +128,12 @@ fn runs(g: Global, p: &Program, fuel: u64, stop: Stop, output: &str, ticks: u64)
 #[test]
 fn sums_are_printed(rt: HostRuntime) -> Result<(), Fail> {
     let g = rt.alloc();
-    let p = only_main(g, vec![in g; print(bin(g, BinOp::Add, int(2), int(3))?)]?);
+    let p = resolve(
+        g,
+        only_main(g, vec![in g; print(bin(g, BinOp::Add, int(2), int(3))?)]?),
+    )?;
     assert!(rt; runs(g, &p, 0, Stop::Done, "5\n", 0)?);
-    let empty = only_main(g, Vec::new(g));
+    let empty = resolve(g, only_main(g, Vec::new(g)))?;
     assert!(rt; runs(g, &empty, 0, Stop::Done, "", 0)?);
     Ok(())
 }
@@ -163,10 +167,12 @@ fn reduced(g: Global, first: i64, op: Op) -> Made<Program> {
 #[test]
 fn inputs_are_reduced_in_order(rt: HostRuntime) -> Result<(), Fail> {
     let g = rt.alloc();
-    let sum = plain_run(g, &reduced(g, 0, Op::Add)?, &[column(g, 3, 7)?], 2)?;
+    let sums = resolve(g, reduced(g, 0, Op::Add)?)?;
+    let sum = plain_run(g, &sums, &[column(g, 3, 7)?], 2)?;
     assert!(rt; is(&sum, Stop::Done, "10\n", 2));
     let tables = [column(g, 8589934592, 4294967299)?];
-    let maps = plain_run(g, &reduced(g, 4294967296, Op::Affine)?, &tables, 2)?;
+    let affine = resolve(g, reduced(g, 4294967296, Op::Affine)?)?;
+    let maps = plain_run(g, &affine, &tables, 2)?;
     assert!(rt; is(&maps, Stop::Done, "8589934595\n", 2));
     Ok(())
 }
@@ -175,7 +181,7 @@ fn inputs_are_reduced_in_order(rt: HostRuntime) -> Result<(), Fail> {
 fn a_loop_needs_a_tick_for_each_iteration(rt: HostRuntime) -> Result<(), Fail> {
     let g = rt.alloc();
     let over = Stmt::Loop(name(g, "i")?, int(0), int(3), Vec::new(g));
-    let p = only_main(g, vec![in g; over]?);
+    let p = resolve(g, only_main(g, vec![in g; over]?))?;
     assert!(rt; runs(g, &p, 3, Stop::Done, "", 3)?);
     assert!(rt; runs(g, &p, 2, Stop::NoFuel, "", 3)?);
     Ok(())
@@ -196,7 +202,7 @@ fn the_first_trap_in_order_is_met(rt: HostRuntime) -> Result<(), Fail> {
     let body = vec![in g; one, three]?;
     let over = par(g, at(4, 3), "i", 0, int(4), add_to(g, "s")?, body)?;
     let main = vec![in g; Stmt::Let(name(g, "s")?, int(0)), over, print(var(g, "s")?)]?;
-    let p = with_table(g, made_at(g, "t", at(1, 7), 2, 1)?, main)?;
+    let p = resolve(g, with_table(g, made_at(g, "t", at(1, 7), 2, 1)?, main)?)?;
     let trap = Stop::Trap(TrapKind::Index, at(5, 29));
     assert!(rt; runs(g, &p, 1000, trap, "", 2)?);
     Ok(())
@@ -211,7 +217,10 @@ fn fuel_and_traps_come_in_order(rt: HostRuntime) -> Result<(), Fail> {
     let choice = Stmt::If(test, vec![in g; set]?, Vec::new(g));
     let body = vec![in g; Stmt::Let(name(g, "q")?, int(1)), choice]?;
     let over = par(g, at(3, 3), "i", 0, int(4), Vec::new(g), body)?;
-    let p = only_main(g, vec![in g; Stmt::Let(name(g, "z")?, int(0)), over]?);
+    let p = resolve(
+        g,
+        only_main(g, vec![in g; Stmt::Let(name(g, "z")?, int(0)), over]?),
+    )?;
     let trap = Stop::Trap(TrapKind::Divide, at(5, 23));
     assert!(rt; runs(g, &p, 4, trap, "", 4)?);
     assert!(rt; runs(g, &p, 3, Stop::NoFuel, "", 4)?);
@@ -258,11 +267,12 @@ fn fib(g: Global) -> Made<Func> {
 fn each_call_counts_a_tick(rt: HostRuntime) -> Result<(), Fail> {
     let g = rt.alloc();
     let call = Stmt::Call(name(g, "x")?, app(g, "fib", int(10))?);
-    let p = Program {
+    let program = Program {
         tables: Vec::new(g),
         funcs: vec![in g; fib(g)?]?,
         main: vec![in g; Stmt::Let(name(g, "x")?, int(0)), call, print(var(g, "x")?)]?,
     };
+    let p = resolve(g, program)?;
     assert!(rt; runs(g, &p, 177, Stop::Done, "55\n", 177)?);
     assert!(rt; runs(g, &p, 176, Stop::NoFuel, "", 177)?);
     Ok(())
@@ -281,7 +291,7 @@ fn a_table_is_filled_by_nested_loops(rt: HostRuntime) -> Result<(), Fail> {
     let inner = par(g, at(4, 5), "j", 0, int(3), Vec::new(g), vec![in g; put]?)?;
     let outer = par(g, at(3, 3), "i", 0, int(3), Vec::new(g), vec![in g; inner]?)?;
     let main = vec![in g; outer, Stmt::Emit(at(6, 3), name(g, "t")?)]?;
-    let p = with_table(g, made_at(g, "t", at(1, 7), 3, 3)?, main)?;
+    let p = resolve(g, with_table(g, made_at(g, "t", at(1, 7), 3, 3)?, main)?)?;
     assert!(rt; runs(g, &p, 12, Stop::Done, "1 2 3\n2 4 6\n3 6 9\n", 12)?);
     Ok(())
 }
@@ -300,7 +310,7 @@ fn a_wide_par_traps_at_its_word(rt: HostRuntime) -> Result<(), Fail> {
         Vec::new(g),
         Vec::new(g),
     )?;
-    let p = only_main(g, vec![in g; none, back, wide]?);
+    let p = resolve(g, only_main(g, vec![in g; none, back, wide]?))?;
     let trap = Stop::Trap(TrapKind::Wide, at(1, 44));
     assert!(rt; runs(g, &p, 0, trap, "", 0)?);
     Ok(())
@@ -314,7 +324,7 @@ fn the_least_number_by_minus_one_is_itself(rt: HostRuntime) -> Result<(), Fail> 
     let quotient = bin(g, BinOp::Div, var(g, "m")?, minus)?;
     let rest = bin(g, BinOp::Rem, var(g, "m")?, int(-1))?;
     let main = vec![in g; Stmt::Let(name(g, "m")?, low), print(quotient), print(rest)]?;
-    let p = only_main(g, main);
+    let p = resolve(g, only_main(g, main))?;
     assert!(rt; runs(g, &p, 0, Stop::Done, "-9223372036854775808\n0\n", 0)?);
     Ok(())
 }
@@ -324,7 +334,10 @@ fn the_left_operand_traps_first(rt: HostRuntime) -> Result<(), Fail> {
     let g = rt.alloc();
     let out = cell_at(g, "t", at(2, 7), int(9), int(0))?;
     let sum = bin(g, BinOp::Gt, out, one_by_zero(g, at(2, 17))?)?;
-    let p = with_table(g, made_at(g, "t", at(1, 7), 2, 1)?, vec![in g; print(sum)]?)?;
+    let p = resolve(
+        g,
+        with_table(g, made_at(g, "t", at(1, 7), 2, 1)?, vec![in g; print(sum)]?)?,
+    )?;
     let trap = Stop::Trap(TrapKind::Index, at(2, 7));
     assert!(rt; runs(g, &p, 0, trap, "", 0)?);
     Ok(())
@@ -339,7 +352,10 @@ fn a_write_tests_its_cell_last(rt: HostRuntime) -> Result<(), Fail> {
         int(0),
         one_by_zero(g, at(2, 13))?,
     );
-    let p = with_table(g, made_at(g, "t", at(1, 7), 2, 1)?, vec![in g; put]?)?;
+    let p = resolve(
+        g,
+        with_table(g, made_at(g, "t", at(1, 7), 2, 1)?, vec![in g; put]?)?,
+    )?;
     let trap = Stop::Trap(TrapKind::Divide, at(2, 13));
     assert!(rt; runs(g, &p, 0, trap, "", 0)?);
     Ok(())
@@ -348,10 +364,13 @@ fn a_write_tests_its_cell_last(rt: HostRuntime) -> Result<(), Fail> {
 #[test]
 fn sizes_are_counted_together(rt: HostRuntime) -> Result<(), Fail> {
     let g = rt.alloc();
-    let below = with_table(g, made_at(g, "t", at(1, 7), -1, 1)?, Vec::new(g))?;
+    let below = resolve(
+        g,
+        with_table(g, made_at(g, "t", at(1, 7), -1, 1)?, Vec::new(g))?,
+    )?;
     let trap = Stop::Trap(TrapKind::Size, at(1, 7));
     assert!(rt; runs(g, &below, 0, trap, "", 0)?);
-    let p = Program {
+    let program = Program {
         tables: vec![in g;
             made_at(g, "a", at(1, 7), 1, 1)?,
             made_at(g, "b", at(2, 7), 2000, 2000)?,
@@ -359,6 +378,7 @@ fn sizes_are_counted_together(rt: HostRuntime) -> Result<(), Fail> {
         funcs: Vec::new(g),
         main: Vec::new(g),
     };
+    let p = resolve(g, program)?;
     let both = Stop::Trap(TrapKind::Size, at(2, 7));
     assert!(rt; runs(g, &p, 0, both, "", 0)?);
     Ok(())
@@ -383,7 +403,7 @@ fn both_evaluates_all_arguments_first(rt: HostRuntime) -> Result<(), Fail> {
         name(g, "b")?,
         app(g, "more", var(g, "a")?)?,
     );
-    let p = Program {
+    let program = Program {
         tables: Vec::new(g),
         funcs: vec![in g; more(g)?]?,
         main: vec![in g;
@@ -394,6 +414,7 @@ fn both_evaluates_all_arguments_first(rt: HostRuntime) -> Result<(), Fail> {
             print(var(g, "b")?),
         ]?,
     };
+    let p = resolve(g, program)?;
     assert!(rt; runs(g, &p, 2, Stop::Done, "2\n2\n", 2)?);
     Ok(())
 }
@@ -406,7 +427,7 @@ fn a_variable_is_folded_twice(rt: HostRuntime) -> Result<(), Fail> {
     let body = vec![in g; two, three]?;
     let over = par(g, at(1, 1), "i", 0, int(2), reduce(g, "s", Op::Mul)?, body)?;
     let main = vec![in g; Stmt::Let(name(g, "s")?, int(5)), over, print(var(g, "s")?)]?;
-    let p = only_main(g, main);
+    let p = resolve(g, only_main(g, main))?;
     assert!(rt; runs(g, &p, 2, Stop::Done, "180\n", 2)?);
     Ok(())
 }
@@ -416,7 +437,10 @@ fn a_while_stops_at_the_fuel(rt: HostRuntime) -> Result<(), Fail> {
     let g = rt.alloc();
     let less = Stmt::Set(name(g, "n")?, bin(g, BinOp::Sub, var(g, "n")?, int(1))?);
     let turns = Stmt::While(var(g, "n")?, vec![in g; print(var(g, "n")?), less]?);
-    let p = only_main(g, vec![in g; Stmt::Let(name(g, "n")?, int(2)), turns]?);
+    let p = resolve(
+        g,
+        only_main(g, vec![in g; Stmt::Let(name(g, "n")?, int(2)), turns]?),
+    )?;
     assert!(rt; runs(g, &p, 2, Stop::Done, "2\n1\n", 2)?);
     assert!(rt; runs(g, &p, 1, Stop::NoFuel, "2\n", 2)?);
     Ok(())
