@@ -1,2 +1,34 @@
+-- lists
+pub mod Lists
+-- words that are no numbers
+pub mod Numbers
+-- held tables that are equal
+pub mod Holdings
+-- what is known of the blocks of a code
+pub mod CodeBlocks
+-- instructions of a code fit a task
+pub mod Fits
+-- positions beyond a stack, and marks
+pub mod Stacks
+-- what the stack's refusals are as faults
+pub mod Refusals
+-- rows and lines of a table
+pub mod Lines
+-- sizes of tables that are made
+pub mod Sizes
+-- the parts of held tables
+pub mod Parting
+-- what a side hands over
+pub mod Handing
+-- the merge of two sides
+pub mod Merging
+-- one step, by the instruction or the end of the block
+pub mod Steps
 -- one step of a turn at a time
 pub mod Turns
+-- what a step gives belongs to the code
+pub mod Belonging
+-- what a turn, an answer, a first task and a merge give belongs to the code
+pub mod Given
+-- what a task is bound to
+pub mod Owing

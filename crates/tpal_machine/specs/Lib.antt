@@ -1,9 +1,34 @@
--- What is promised of the machine.
--- what belongs to a code
-pub mod Code
+-- What is promised of the machine that runs one task.
+
 -- what a task is between two instructions
 pub mod State
--- what one instruction does, and what a turn of many comes to
+-- what a rest keeps while the two sides of a fork run
+pub mod RestState
+-- what belongs to a code
+pub mod Belongs
+-- the results of calculations
+pub mod Calculation
+-- what an instruction reads and changes
+pub mod Reading
+-- what each instruction does, but for the fork
+pub mod Effect
+-- the parts of a fork
+pub mod Cut
+-- what a task ends with
+pub mod Ended
+-- one step of a task
 pub mod Step
--- what the machine answers
+-- a turn of at most so many steps
+pub mod Turn
+-- the merge of two sides
+pub mod Merge
+-- how what a task holds stands for its state
+pub mod Seen
+-- instructions whose registers, tables and labels a task has
+pub mod Fit
+-- what the code answers for an effect, a step and a turn
 pub mod Answer
+-- what a step, a turn and a merge give belongs to the code
+pub mod Belonging
+-- what a task will end with, whatever is promoted
+pub mod Owes

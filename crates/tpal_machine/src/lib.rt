@@ -1,19 +1,42 @@
-//! The machine that runs one task: registers, a list of instructions and an output.
-//! It stands on `tp_value`. Contracts speak of `State`, `step` and `turn_of` of `specs/Step.antt`: what
-//! one instruction does, and what a turn of at most so many instructions comes to.
-//! Start with `code`, then `task`.
+//! The machine that runs one task: registers, a stack with marks, held tables, a heartbeat, forks and
+//! merges. It stands on the code types of `tpal_syntax` and on `stack_marks`, `slices`, `beat_count`,
+//! `reduce_ops` and `table_text`.
+//! Contracts speak of `State`, of `step` and of `turn_of`: what a task is, what one instruction does, and
+//! what a turn of at most so many instructions comes to. Start with `task`, then `turn`.
 #![tactic(auto)]
 
-mod code;
+mod blocks;
+mod cut;
+mod ending;
 mod ends;
+mod entry;
+mod execute;
+mod faults;
+mod flow;
+mod fork;
+mod joining;
+pub mod laws;
+mod making;
+mod moves;
 mod output;
+mod parts;
+mod records;
+mod rest;
+mod stack;
+mod stops;
+mod tables;
 mod task;
 mod turn;
+mod words;
 
-pub use code::{Alu, Code, Fault, Instr, Value, Word};
-pub use ends::{End, SideName};
+pub use ends::{End, Ending, Side, SideName};
+pub use entry::Pace;
+pub use faults::Fault;
+pub use joining::{Merged, merge};
+pub use records::answer;
+pub use rest::Rest;
 pub use task::Task;
-pub use turn::{Turn, run_task};
+pub use turn::{Ran, Turn, run_task};
 
 #[cfg(test)]
 mod tests;

@@ -1,42 +1,97 @@
-// A task, and a turn of it.
+// A task: what it holds between two instructions.
 
-use crate::code::{Code, Word};
+ghost use Rattle.std.specs.Prelude.{◌≡◌, ◌≤◌};
+ghost use Rattle.tpal_machine.specs.State.{first_state};
+
+use crate::ends::{Goal, Tie, Wait};
+use beat_count::{Beat, Fuel};
+use slices::Held;
+use stack_marks::Stack;
 use std::alloc::Global;
 use std::marker::Model;
-use tp_value::NoMemory;
+use tp_value::{MAX_FUEL, NoMemory};
+use tpal_syntax::{Code, Word};
 
-/// A task: 32 registers, the position of its next instruction, and what it printed so far.
+/// What a task holds. The machine changes it in place.
+#[derive(Drop)]
+pub(crate) struct Frame {
+    pub(crate) registers: [Word; 32],
+    pub(crate) stack: Stack,
+    pub(crate) tables: Vec<Held>,
+    pub(crate) made: Vec<u8>,
+    pub(crate) fuel: Fuel,
+    pub(crate) beat: Beat,
+    pub(crate) output: Vec<u8>,
+    pub(crate) goal: Goal,
+    pub(crate) block: u32,
+    pub(crate) at: usize,
+    pub(crate) pending: Option<Tie>,
+    pub(crate) met: Option<Tie>,
+    pub(crate) waiting: Option<Wait>,
+}
+
+/// A task. Contracts see it as its `State`.
 #[derive(Drop)]
 pub struct Task {
-    pub(crate) registers: [Word; 32],
-    pub(crate) at: usize,
-    pub(crate) output: String,
+    pub(crate) frame: Frame,
 }
 
 impl Model for Task {
-    ghost use Rattle.std.specs.Prelude.{string_bytes};
+    ghost use Rattle.std.specs.Coded.{codes};
+    ghost use Rattle.slices.specs.Holding.{holding_code};
     ghost use Rattle.tpal_machine.specs.State.{State};
 
     ghost Value = { State };
 
-    ghost view = { λ task. record { registers = task.registers; at = task.at; output = string_bytes task.output } };
+    ghost coded = { Prim.hlevel (codes, holding_code) };
+
+    ghost use Rattle.tpal_machine.specs.Seen.{state_of, AreLow};
+
+    ghost view = { λ task. state_of task.frame };
+
+    ghost invariant = { λ task. AreLow task.frame };
 }
 
 impl Task {
-    ghost use Rattle.std.specs.Prelude.{◌≡◌, IfOk};
+    ghost use Rattle.std.specs.Prelude.{◌≡◌, ◌≤◌, IfOk, length};
+    ghost use Rattle.tpal_machine.specs.Belonging.{RunsOn};
     ghost use Rattle.tpal_machine.specs.State.{first_state};
 
-    /// The task at the first instruction of a code: 0 in register 31, nothing in the others, and no
-    /// output.
-    pub fn first(alloc: Global, _code: &Code) -> Result<Task, NoMemory>
-        ensures { IfOk result (λ task. task ≡ first_state) }
+    /// The first task of a run: at the first instruction of a code, with 0 in register 31 and a held
+    /// table for each of the code's: whole for an input, of size 0 by 0 for one that is made. The
+    /// fuel is in ticks.
+    pub fn first(alloc: Global, code: &Code, tables: Vec<Held>, fuel: u64) -> Result<Task, NoMemory>
+        requires fuel { fuel ≤ MAX_FUEL }
+        requires tables { length tables.items ≡ length code.now.tables }
+        ensures first { IfOk result (λ task. task ≡ first_state tables.items fuel) }
+        ensures belongs { IfOk result (RunsOn code.now) }
     {
-        let mut registers = [Word::Nil; 32];
-        registers[31] = Word::Int(0);
-        Ok(Task {
+        let _blocks = code.blocks();
+        Ok(first_task(alloc, tables, fuel))
+    }
+}
+
+fn first_task(alloc: Global, tables: Vec<Held>, fuel: u64) -> Task
+    requires { fuel ≤ MAX_FUEL }
+    ensures { result ≡ first_state tables.items fuel }
+{
+    let mut registers = [Word::Nil; 32];
+    registers[31] = Word::Int(0);
+    Task {
+        frame: Frame {
             registers,
+            stack: Stack::new(alloc, 0),
+            tables,
+            made: Vec::new(alloc),
+            fuel: Fuel::new(fuel),
+            beat: Beat::new(),
+            output: Vec::new(alloc),
+            goal: Goal::Root,
+            block: 0,
             at: 0,
-            output: String::new(alloc),
-        })
+            pending: None,
+            met: None,
+            waiting: None,
+        },
     }
 }

@@ -21,9 +21,9 @@ use Rattle.loop_meaning.specs.Expressions.{eval, number, bind}
 use Rattle.loop_meaning.specs.Statements.{Setting, given, given_answer, run, run_list}
 use Rattle.loop_meaning.specs.Meaning.{meaning, whole_run, make_tables, input_cells, first_state, outcome_of}
 use Rattle.loop_meaning.specs.Calls.{setting}
-use Rattle.tpal_machine.specs.declared.code.Code.{Code}
-use Rattle.tpal_machine.specs.State as machine
-use Rattle.tpal_machine.specs.Step.{turn_of, Ended, calculated, halted}
+use Rattle.small_machine.specs.declared.code.Code.{Code}
+use Rattle.small_machine.specs.State as machine
+use Rattle.small_machine.specs.Step.{turn_of, Ended, calculated, halted}
 use Rattle.tpal_tool.specs.Built.{IsBuiltProgram, IsBuiltExpr, IsBuiltOp, IsBuiltStmt}
 use Rattle.tpal_tool.specs.Lowered.{alu_of, lowered_all}
 use Rattle.tpal_tool.proofs.Execution.{Line, turn_of-line, turn_of-end}

@@ -9,15 +9,15 @@ use Rattle.loop_syntax.specs.declared.expression.Expr.TheVariants as exprs
 use Rattle.loop_syntax.specs.declared.statement.Stmt.{Stmt}
 use Rattle.loop_syntax.specs.declared.statement.Stmt.TheVariants.{Let, Set, Put, If', While', Loop', Par', Fold, Call, Both, Print, Emit}
 use Rattle.loop_syntax.specs.Tree.{Tree, TInt, TVar, TCell, TRows, TCols, TNeg, TBin, tree_of}
-use Rattle.tpal_machine.specs.declared.code.Alu.{Alu}
-use Rattle.tpal_machine.specs.declared.code.Instr.{Instr}
-use Rattle.tpal_machine.specs.declared.code.Instr.TheVariants as instrs
-use Rattle.tpal_machine.specs.declared.code.Value.{Value}
-use Rattle.tpal_machine.specs.declared.code.Value.TheVariants as values
-use Rattle.tpal_machine.specs.declared.code.Word.{Word}
-use Rattle.tpal_machine.specs.declared.code.Word.TheVariants.{Int, Nil}
-use Rattle.tpal_machine.specs.State.{State, register, operand}
-use Rattle.tpal_machine.specs.Step.{Goes, calculated, execute, result_word, on_result, on_number, with_register, next}
+use Rattle.small_machine.specs.declared.code.Alu.{Alu}
+use Rattle.small_machine.specs.declared.code.Instr.{Instr}
+use Rattle.small_machine.specs.declared.code.Instr.TheVariants as instrs
+use Rattle.small_machine.specs.declared.code.Value.{Value}
+use Rattle.small_machine.specs.declared.code.Value.TheVariants as values
+use Rattle.small_machine.specs.declared.code.Word.{Word}
+use Rattle.small_machine.specs.declared.code.Word.TheVariants.{Int, Nil}
+use Rattle.small_machine.specs.State.{State, register, operand}
+use Rattle.small_machine.specs.Step.{Goes, calculated, execute, result_word, on_result, on_number, with_register, next}
 use Rattle.tpal_tool.specs.Built.{height, IsBuiltExpr, IsBuiltStmt}
 use Rattle.tpal_tool.specs.Lowered.{alu_of, literal_of, combined, lowered, lowered_stmt, lowered_all}
 use Rattle.tpal_tool.proofs.Execution.{Line, none, one, Line-append, Line-single}

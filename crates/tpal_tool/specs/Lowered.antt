@@ -6,11 +6,11 @@ use Rattle.loop_syntax.specs.declared.expression.Expr.{Expr}
 use Rattle.loop_syntax.specs.declared.expression.Expr.TheVariants.{Int, Var, Cell', Rows, Cols, Neg', Bin'}
 use Rattle.loop_syntax.specs.declared.statement.Stmt.{Stmt}
 use Rattle.loop_syntax.specs.declared.statement.Stmt.TheVariants.{Let, Set, Put, If', While', Loop', Par', Fold, Call, Both, Print, Emit}
-use Rattle.tpal_machine.specs.declared.code.Alu.{Alu}
-use Rattle.tpal_machine.specs.declared.code.Alu.TheVariants as alus
-use Rattle.tpal_machine.specs.declared.code.Instr.{Instr}
-use Rattle.tpal_machine.specs.declared.code.Instr.TheVariants as instrs
-use Rattle.tpal_machine.specs.declared.code.Value.TheVariants as values
+use Rattle.small_machine.specs.declared.code.Alu.{Alu}
+use Rattle.small_machine.specs.declared.code.Alu.TheVariants as alus
+use Rattle.small_machine.specs.declared.code.Instr.{Instr}
+use Rattle.small_machine.specs.declared.code.Instr.TheVariants as instrs
+use Rattle.small_machine.specs.declared.code.Value.TheVariants as values
 
 -- the calculation of an operator that is built
 abbrev pub alu_of : BinOp → Alu

@@ -1,15 +1,15 @@
 // From a tree to instructions.
 
 ghost use Rattle.std.specs.Prelude.{◌≡◌, ◌≤◌, ◌<◌, ◌+◌, ◌++◌, ◌∷◌, [], OnOk, IfOk, All, length, ◌^◌};
-ghost use Rattle.tpal_machine.specs.Code.{IsCode};
-ghost use Rattle.tpal_machine.specs.declared.code.Instr.TheVariants as instrs;
+ghost use Rattle.small_machine.specs.Code.{IsCode};
+ghost use Rattle.small_machine.specs.declared.code.Instr.TheVariants as instrs;
 ghost use Rattle.tpal_tool.specs.Built.{height, IsBuiltOp, IsBuiltExpr, IsBuiltStmt, IsBuiltProgram};
 ghost use Rattle.tpal_tool.specs.Lowered.{alu_of, literal_of, lowered, lowered_stmt, lowered_all};
 
 use loop_syntax::{BinOp, Expr, Program, Stmt};
 use std::alloc::Global;
 use tp_value::{Items, NoMemory};
-use tpal_machine::{Alu, Code, Instr, Value};
+use small_machine::{Alu, Code, Instr, Value};
 
 fn alu_of(op: BinOp) -> Alu
     requires { IsBuiltOp op }

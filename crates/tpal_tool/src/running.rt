@@ -8,7 +8,7 @@ use crate::lowering::lower;
 use loop_syntax::Program;
 use std::alloc::Global;
 use tp_value::{NoMemory, Outcome};
-use tpal_machine::{Task, Turn, run_task};
+use small_machine::{Task, Turn, run_task};
 
 /// The fuel of a run that names none, in ticks.
 pub const DEFAULT_FUEL: u64 = 1_000_000_000;

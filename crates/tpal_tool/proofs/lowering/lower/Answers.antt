@@ -2,8 +2,8 @@ use Rattle.std.proofs.Common.{◌≡◌, ◌++◌, ◌∙◌, sym, ap, subst, Li
 use Rattle.std.specs.Prelude.{All}
 use Rattle.std.proofs.lemmas.List.Elements.{All-append}
 use Rattle.loop_syntax.specs.declared.statement.Stmt.{Stmt}
-use Rattle.tpal_machine.specs.declared.code.Instr.{Instr}
-use Rattle.tpal_machine.specs.Code.{IsInstr}
+use Rattle.small_machine.specs.declared.code.Instr.{Instr}
+use Rattle.small_machine.specs.Code.{IsInstr}
 use Rattle.tpal_tool.specs.Built.{IsBuiltStmt}
 use Rattle.tpal_tool.specs.Lowered.{lowered_stmt}
 use Rattle.tpal_tool.proofs.Instructions.{lowered_all-next, lowered_stmt-fits}

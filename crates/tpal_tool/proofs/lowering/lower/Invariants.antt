@@ -1,6 +1,6 @@
 use Rattle.std.proofs.Common.{◌≡◌, ◌++◌, drop}
 use Rattle.std.specs.Prelude.{All}
-use Rattle.tpal_machine.specs.Code.{IsInstr}
+use Rattle.small_machine.specs.Code.{IsInstr}
 use Rattle.tpal_tool.specs.Lowered.{lowered_all}
 use Rattle.tpal_tool.proofs.lowering.lower.Given as goal
 

@@ -2,11 +2,11 @@ use Rattle.std.proofs.Common.{◌≡◌, ℕ, ◌+◌, List, [], length, sym, ap
 use Rattle.tp_value.specs.declared.values.Outcome.{Outcome}
 use Rattle.tp_value.specs.declared.values.Stop.TheVariants.{Done}
 use Rattle.loop_meaning.specs.Meaning.{meaning}
-use Rattle.tpal_machine.specs.declared.code.Code.{Code}
-use Rattle.tpal_machine.specs.declared.code.Fault.{Fault}
-use Rattle.tpal_machine.specs.declared.code.Instr.{Instr}
-use Rattle.tpal_machine.specs.State.{State, first_state}
-use Rattle.tpal_machine.specs.Step.{Turned, Paused, Ended, Stays, turn_of}
+use Rattle.small_machine.specs.declared.code.Code.{Code}
+use Rattle.small_machine.specs.declared.code.Fault.{Fault}
+use Rattle.small_machine.specs.declared.code.Instr.{Instr}
+use Rattle.small_machine.specs.State.{State, first_state}
+use Rattle.small_machine.specs.Step.{Turned, Paused, Ended, Stays, turn_of}
 use Rattle.tpal_tool.specs.declared.running.TheConstants.{DEFAULT_FUEL}
 use Rattle.loop_syntax.specs.declared.program.Program.{Program}
 use Rattle.tpal_tool.specs.Built.{IsBuiltProgram}

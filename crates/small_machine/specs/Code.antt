@@ -1,11 +1,11 @@
 -- What belongs to a code.
 use Rattle.std.specs.Prelude.{◌<◌, ◌≤◌, ◌^◌, length, All}
-use Rattle.tpal_machine.specs.declared.code.Value.{Value}
-use Rattle.tpal_machine.specs.declared.code.Value.TheVariants as values
-use Rattle.tpal_machine.specs.declared.code.Instr.{Instr}
-use Rattle.tpal_machine.specs.declared.code.Instr.TheVariants as instrs
-use Rattle.tpal_machine.specs.declared.code.Code.{Code}
-use Rattle.tpal_machine.specs.State.{State}
+use Rattle.small_machine.specs.declared.code.Value.{Value}
+use Rattle.small_machine.specs.declared.code.Value.TheVariants as values
+use Rattle.small_machine.specs.declared.code.Instr.{Instr}
+use Rattle.small_machine.specs.declared.code.Instr.TheVariants as instrs
+use Rattle.small_machine.specs.declared.code.Code.{Code}
+use Rattle.small_machine.specs.State.{State}
 
 -- a register that an operand names is one of the 32
 abbrev pub IsOperand : Value → Type 0

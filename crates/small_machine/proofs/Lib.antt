@@ -1,0 +1,2 @@
+-- one step of a turn at a time
+pub mod Turns

@@ -1,0 +1,298 @@
+// One step of a task.
+
+ghost use Rattle.std.specs.Prelude.{◌≡◌, ◌<◌, ◌^◌, ℕ, IfSome, MatchOption, None, Some, length, slice_get};
+ghost use Rattle.tpal_machine.specs.Answer.{Gives, GivesOr, GivesHalt, IsFlow};
+ghost use Rattle.tpal_machine.specs.Effect as effects;
+ghost use Rattle.tpal_machine.specs.Effect.{Effect, Halting};
+ghost use Rattle.tpal_syntax.specs.Conditions.{IsCode};
+ghost use Rattle.tpal_machine.specs.Fit.{IsInstr, IsTerm};
+ghost use Rattle.tpal_machine.specs.Reading.{block_at};
+ghost use Rattle.tpal_machine.specs.Seen.{state_of, Keeps, AreLow};
+ghost use Rattle.tpal_machine.specs.State.{State};
+ghost use Rattle.tpal_machine.specs.Step.{executed, finished, if_jump, jump, halt, is_end, join, join_end, join_met, step, stepped, asked, halting};
+ghost use Rattle.tpal_syntax.specs.Listing.{Listing};
+
+use crate::ends::{Goal, Tie};
+use crate::entry::{Pace, enter};
+use crate::faults::Fault;
+use crate::flow::{Flow, Halt, Trouble};
+use crate::making::make;
+use crate::moves::{calc, move_value};
+use crate::output::{emit, print};
+use crate::records::jralloc;
+use crate::stack::{load, prmdrop, prmempty, prmpop, prmpush, prmsplit, salloc, sfree, store};
+use crate::stops::{stops, tick, trap};
+use crate::tables::{cols, fetch, put, rows};
+use crate::task::Frame;
+use crate::words::value_of;
+use tp_value::Stop;
+use tpal_syntax::{Block, Code, Instr, Term, Word};
+
+fn flow_of(done: Result<(), Fault>) -> Flow
+    ensures { (code : Listing) (wanted : Effect) (after : State) → Gives wanted done after → IsFlow code (stepped wanted) result after }
+{
+    match done {
+        Ok(()) => Flow::Goes,
+        Err(fault) => Flow::Stuck(fault),
+    }
+}
+
+fn flow_or(done: Result<(), Trouble>) -> Flow
+    ensures { (code : Listing) (wanted : Effect) (after : State) → GivesOr wanted done after → IsFlow code (stepped wanted) result after }
+{
+    match done {
+        Ok(()) => Flow::Goes,
+        Err(Trouble::Stuck(fault)) => Flow::Stuck(fault),
+        Err(Trouble::NoMemory) => Flow::NoMemory,
+    }
+}
+
+fn asking(done: Result<(), Fault>) -> Flow
+    ensures { (code : Listing) (wanted : Effect) (after : State) → Gives wanted done after → IsFlow code (asked wanted) result after }
+{
+    match done {
+        Ok(()) => Flow::Asks,
+        Err(fault) => Flow::Stuck(fault),
+    }
+}
+
+fn stopping(halt: Halt) -> Flow
+    ensures { (code : Listing) (wanted : Halting) (after : State) → GivesHalt wanted halt after → IsFlow code (halting code wanted) result after }
+{
+    match halt {
+        Halt::Goes => Flow::Goes,
+        Halt::Stops(stop) => Flow::Stops(stop),
+        Halt::Fails(fault) => Flow::Stuck(fault),
+        Halt::NoMemory => Flow::NoMemory,
+    }
+}
+
+/// `if-jump rA, @l`.
+fn jump_if(frame: &mut Frame, code: &Code, pace: Pace, test: Word, label: u32) -> Flow
+    ensures flow { IsFlow code.now (if_jump code.now pace.heartbeat pace.allowed test label (state_of frame.old)) result (state_of frame.new) }
+    ensures kept { Keeps frame.old frame.new }
+{
+    match test {
+        Word::Int(number) => {
+            if number == 0 {
+                Flow::Goes
+            } else {
+                enter(frame, code, pace, label)
+            }
+        }
+        Word::Label(_) | Word::Rec(_) | Word::Nil => Flow::Stuck(Fault::NotInt),
+    }
+}
+
+/// One instruction, of a task that has counted it and stands behind it.
+pub(crate) fn execute(frame: &mut Frame, code: &Code, pace: Pace, instr: &Instr) -> Flow
+    requires fits { IsInstr (length frame.old.tables.items) instr.now }
+    requires low { AreLow frame.old }
+    ensures flow { IsFlow code.now (executed code.now pace.heartbeat pace.allowed instr.now (state_of frame.old)) result (state_of frame.new) }
+    ensures kept { Keeps frame.old frame.new }
+{
+    match *instr {
+        Instr::Move { to, value } => {
+            move_value(frame, to, value);
+            Flow::Goes
+        }
+        Instr::Calc {
+            to,
+            left,
+            alu,
+            right,
+        } => flow_of(calc(frame, to, left, alu, right)),
+        Instr::IfJump { test, label } => {
+            let word = frame.registers[test as usize];
+            jump_if(frame, code, pace, word, label)
+        }
+        Instr::Load { to, base, off } => flow_of(load(frame, to, base, off)),
+        Instr::Store { base, off, value } => flow_of(store(frame, base, off, value)),
+        Instr::Salloc(cells) => flow_or(salloc(frame, cells)),
+        Instr::Sfree(cells) => flow_of(sfree(frame, cells)),
+        Instr::PrmPush {
+            base,
+            off,
+            cells,
+            split,
+        } => flow_of(prmpush(frame, base, off, cells, split)),
+        Instr::PrmPop { base, off } => flow_of(prmpop(frame, base, off)),
+        Instr::PrmDrop => flow_of(prmdrop(frame)),
+        Instr::PrmEmpty(r) => {
+            prmempty(frame, r);
+            Flow::Goes
+        }
+        Instr::PrmSplit { base, split } => flow_of(prmsplit(frame, base, split)),
+        Instr::JrAlloc { to, target } => asking(jralloc(frame, code, to, target)),
+        Instr::Fork { rec, child } => Flow::Forks { rec, child },
+        Instr::Fetch {
+            to,
+            table,
+            row,
+            col,
+        } => flow_of(fetch(frame, to, table, row, col)),
+        Instr::Put {
+            table,
+            row,
+            col,
+            value,
+        } => flow_or(put(frame, table, row, col, value)),
+        Instr::Rows { to, table } => {
+            rows(frame, to, table);
+            Flow::Goes
+        }
+        Instr::Cols { to, table } => {
+            cols(frame, to, table);
+            Flow::Goes
+        }
+        Instr::Make {
+            table,
+            rows,
+            cols,
+            place,
+        } => stopping(make(frame, code, table, rows, cols, place)),
+        Instr::Tick => stopping(tick(frame)),
+        Instr::Trap { kind, place } => stopping(trap(frame, kind, place)),
+        Instr::Print(r) => flow_or(print(frame, r)),
+        Instr::Emit(table) => flow_or(emit(frame, table)),
+    }
+}
+
+/// The end of a side, or of the whole run.
+fn done(frame: &mut Frame) -> Flow
+    ensures flow { (code : Listing) → IsFlow code (halting code (effects.stops frame.old.pending Stop.Done (state_of frame.old))) result (state_of frame.new) }
+    ensures kept { Keeps frame.old frame.new }
+{
+    stopping(stops(frame, Stop::Done))
+}
+
+/// `halt`.
+fn halt_task(frame: &mut Frame, code: &Code) -> Flow
+    ensures flow { IsFlow code.now (halt frame.old.goal code.now (state_of frame.old)) result (state_of frame.new) }
+    ensures kept { Keeps frame.old frame.new }
+{
+    match frame.goal {
+        Goal::Root => done(frame),
+        Goal::At {
+            rec: _,
+            side: _,
+            target: _,
+        } => Flow::Stuck(Fault::NotRoot),
+    }
+}
+
+/// Whether a record is the one at which a task ends.
+fn is_end(goal: Goal, number: u32) -> bool
+    ensures { result ≡ is_end goal number }
+{
+    match goal {
+        Goal::Root => false,
+        Goal::At {
+            rec,
+            side: _,
+            target: _,
+        } => rec == number,
+    }
+}
+
+/// A join under a record that isn't met: the end of a side, where it is the side's.
+fn join_end(frame: &mut Frame, code: &Code, number: u32) -> Flow
+    ensures flow { IsFlow code.now (join_end code.now number (state_of frame.old)) result (state_of frame.new) }
+    ensures kept { Keeps frame.old frame.new }
+{
+    if is_end(frame.goal, number) {
+        done(frame)
+    } else {
+        Flow::Stuck(Fault::WrongRecord)
+    }
+}
+
+/// A join under a record that both sides have met.
+fn join_met(frame: &mut Frame, code: &Code, pace: Pace, tie: Tie) -> Flow
+    ensures flow { IsFlow code.now (join_met code.now pace.heartbeat pace.allowed tie (state_of frame.old)) result (state_of frame.new) }
+    ensures kept { Keeps frame.old frame.new }
+{
+    if frame.pending.is_some() {
+        return Flow::Stuck(Fault::Pending);
+    }
+    frame.met = None;
+    enter(frame, code, pace, tie.target)
+}
+
+/// `join rA`.
+fn join_under(frame: &mut Frame, code: &Code, pace: Pace, word: Word) -> Flow
+    ensures flow { IsFlow code.now (join code.now pace.heartbeat pace.allowed word (state_of frame.old)) result (state_of frame.new) }
+    ensures kept { Keeps frame.old frame.new }
+{
+    match word {
+        Word::Int(_) | Word::Label(_) | Word::Nil => Flow::Stuck(Fault::NotRec),
+        Word::Rec(number) => match frame.met {
+            None => join_end(frame, code, number),
+            Some(tie) => {
+                if tie.rec == number {
+                    join_met(frame, code, pace, tie)
+                } else {
+                    join_end(frame, code, number)
+                }
+            }
+        },
+    }
+}
+
+/// `jump v`.
+fn jump_to(frame: &mut Frame, code: &Code, pace: Pace, word: Word) -> Flow
+    ensures flow { IsFlow code.now (jump code.now pace.heartbeat pace.allowed word (state_of frame.old)) result (state_of frame.new) }
+    ensures kept { Keeps frame.old frame.new }
+{
+    match word {
+        Word::Label(label) => enter(frame, code, pace, label),
+        Word::Int(_) | Word::Rec(_) | Word::Nil => Flow::Stuck(Fault::NotLabel),
+    }
+}
+
+/// The end of a block, of a task that has counted it. It doesn't matter where in the block the task
+/// stands.
+pub(crate) fn finish(frame: &mut Frame, code: &Code, pace: Pace, term: Term) -> Flow
+    requires fits { IsTerm term }
+    ensures flow { IsFlow code.now (finished code.now pace.heartbeat pace.allowed term (state_of frame.old)) result (state_of frame.new) }
+    ensures kept { Keeps frame.old frame.new }
+{
+    match term {
+        Term::Jump(value) => {
+            let word = value_of(&frame.registers, value);
+            jump_to(frame, code, pace, word)
+        }
+        Term::Halt => halt_task(frame, code),
+        Term::Join(r) => {
+            let word = frame.registers[r as usize];
+            join_under(frame, code, pace, word)
+        }
+    }
+}
+
+/// The instruction at a position of a block, where there is one.
+fn instr_at(block: &Block, at: usize) -> Option<&Instr>
+    ensures found { MatchOption result (slice_get block.now.body at ≡ None) (λ instr. slice_get block.now.body at ≡ Some instr.now) }
+    ensures inside { IfSome result (λ _. at < 2 ^ 63) }
+{
+    block.body.items().get(at)
+}
+
+/// One step of a task that stands in this block.
+pub(crate) fn step(frame: &mut Frame, code: &Code, pace: Pace, block: &Block) -> Flow
+    requires block { block_at code.now frame.old.block ≡ Some block.now }
+    requires right { IsCode code.now.tables code.now.blocks }
+    requires tables { length frame.old.tables.items ≡ length code.now.tables }
+    requires low { AreLow frame.old }
+    ensures flow { IsFlow code.now (step code.now pace.heartbeat pace.allowed (state_of frame.old)) result (state_of frame.new) }
+    ensures kept { Keeps frame.old frame.new }
+{
+    frame.beat.count_one();
+    match instr_at(block, frame.at) {
+        Some(instr) => {
+            frame.at += 1;
+            execute(frame, code, pace, instr)
+        }
+        None => finish(frame, code, pace, block.term),
+    }
+}

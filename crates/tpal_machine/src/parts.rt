@@ -1,0 +1,12 @@
+// The parts of a fork.
+
+use crate::rest::Kept;
+use crate::task::Frame;
+
+/// The task that goes on, the rest and the new task.
+#[derive(Drop)]
+pub(crate) struct ForkParts {
+    pub(crate) left: Frame,
+    pub(crate) rest: Kept,
+    pub(crate) child: Frame,
+}

@@ -1,0 +1,228 @@
+// Instructions on the stack and its marks.
+
+ghost use Rattle.std.specs.Prelude.{◌≡◌, ◌<◌, ◌≤ℤ◌, ◌^◌, pos, ℤ};
+ghost use Rattle.stack_marks.specs.Causes.{UnmarkCause};
+ghost use Rattle.tpal_machine.specs.Answer.{Gives, GivesOr};
+ghost use Rattle.tpal_machine.specs.Effect as effect;
+ghost use Rattle.tpal_machine.specs.Fit.{IsOperand, stack_fault};
+ghost use Rattle.tpal_machine.specs.Seen.{state_of, Keeps, AreLow};
+ghost use Rattle.tpal_machine.specs.State.{State};
+
+use crate::faults::Fault;
+use crate::flow::Trouble;
+use crate::task::Frame;
+use crate::words::{number_of, value_of};
+use stack_marks::{Mark, StackFault, in_order};
+use tpal_syntax::{Value, Word};
+
+/// `rA := mem[rB+n]`.
+#[tactic(auto, using(crate::proofs::Numbers::on_number_none, crate::proofs::Stacks::beyond_the_top))]
+pub(crate) fn load(frame: &mut Frame, to: u8, base: u8, off: u16) -> Result<(), Fault>
+    requires to { to < 32 }
+    requires base { base < 32 }
+    ensures effect { Gives (effect.load to base off (state_of frame.old)) result (state_of frame.new) }
+    ensures kept { Keeps frame.old frame.new }
+{
+    let from = number_of(frame.registers[base as usize])?;
+    in_order(&frame.stack);
+    match from.checked_add(i64::from(off)) {
+        None => Err(Fault::OutOfRange),
+        Some(at) => match frame.stack.get(at) {
+            Ok(word) => {
+                frame.registers[to as usize] = word;
+                Ok(())
+            }
+            Err(_) => Err(Fault::OutOfRange),
+        },
+    }
+}
+
+/// `mem[rA+n] := v`.
+#[tactic(auto, using(crate::proofs::Numbers::on_number_none, crate::proofs::Stacks::beyond_the_top))]
+pub(crate) fn store(frame: &mut Frame, base: u8, off: u16, value: Value) -> Result<(), Fault>
+    requires base { base < 32 }
+    requires value { IsOperand value }
+    ensures effect { Gives (effect.store base off value (state_of frame.old)) result (state_of frame.new) }
+    ensures kept { Keeps frame.old frame.new }
+{
+    let from = number_of(frame.registers[base as usize])?;
+    let word = value_of(&frame.registers, value);
+    in_order(&frame.stack);
+    match from.checked_add(i64::from(off)) {
+        None => Err(Fault::OutOfRange),
+        Some(at) => match frame.stack.set(at, word) {
+            Ok(()) => Ok(()),
+            Err(_) => Err(Fault::OutOfRange),
+        },
+    }
+}
+
+/// `salloc n`.
+pub(crate) fn salloc(frame: &mut Frame, cells: u16) -> Result<(), Trouble>
+    ensures effect { GivesOr (effect.salloc cells (state_of frame.old)) result (state_of frame.new) }
+    ensures kept { Keeps frame.old frame.new }
+{
+    match frame.stack.push(u32::from(cells)) {
+        Ok(()) => Ok(()),
+        Err(StackFault::TooLong) => Err(Trouble::Stuck(Fault::TooLong)),
+        Err(
+            StackFault::OutOfRange
+            | StackFault::NotMarked
+            | StackFault::MarkedCell
+            | StackFault::MarkOrder
+            | StackFault::NoMemory,
+        ) => Err(Trouble::NoMemory),
+    }
+}
+
+/// Why a call of the stack that takes no memory is refused.
+pub(crate) fn stack_fault(fault: StackFault) -> Fault
+    ensures { result ≡ stack_fault fault }
+{
+    match fault {
+        StackFault::OutOfRange | StackFault::NotMarked | StackFault::NoMemory => Fault::OutOfRange,
+        StackFault::MarkedCell => Fault::MarkedCell,
+        StackFault::MarkOrder => Fault::MarkOrder,
+        StackFault::TooLong => Fault::TooLong,
+    }
+}
+
+/// `sfree n`.
+#[tactic(auto, using(crate::proofs::Refusals::sfree_goes, crate::proofs::Refusals::sfree_refused))]
+pub(crate) fn sfree(frame: &mut Frame, cells: u16) -> Result<(), Fault>
+    ensures effect { Gives (effect.sfree cells (state_of frame.old)) result (state_of frame.new) }
+    ensures kept { Keeps frame.old frame.new }
+{
+    match frame.stack.pop(u32::from(cells)) {
+        Ok(()) => Ok(()),
+        Err(fault) => Err(stack_fault(fault)),
+    }
+}
+
+/// `prmpush mem[rA+c], n, @l`.
+#[tactic(auto, using(crate::proofs::Numbers::on_number_none, crate::proofs::Refusals::below_all))]
+pub(crate) fn prmpush(
+    frame: &mut Frame,
+    base: u8,
+    off: u16,
+    cells: u16,
+    split: u32,
+) -> Result<(), Fault>
+    requires { base < 32 }
+    ensures effect { Gives (effect.prmpush base off cells split (state_of frame.old)) result (state_of frame.new) }
+    ensures kept { Keeps frame.old frame.new }
+{
+    let from = number_of(frame.registers[base as usize])?;
+    if from < 0 {
+        return Err(Fault::OutOfRange);
+    }
+    mark_from(frame, magnitude(from), off, cells, split)
+}
+
+fn magnitude(number: i64) -> u64
+    requires { pos 0 ≤ℤ number }
+    ensures number { pos result ≡ number }
+    ensures fits { result < 2 ^ 63 }
+{
+    number as u64
+}
+
+/// A mark for the work from a position on.
+#[tactic(auto, using(crate::proofs::Refusals::mark_goes, crate::proofs::Refusals::mark_refused, crate::proofs::Stacks::low_marked))]
+fn mark_from(frame: &mut Frame, base: u64, off: u16, cells: u16, split: u32) -> Result<(), Fault>
+    requires { base < 2 ^ 63 }
+    ensures effect { Gives (effect.with_mark_from (state_of frame.old) (pos base) off cells split) result (state_of frame.new) }
+    ensures kept { Keeps frame.old frame.new }
+{
+    in_order(&frame.stack);
+    let mark = Mark {
+        at: base + u64::from(off),
+        base,
+        cells: u64::from(cells),
+        split,
+    };
+    match frame.stack.mark(mark) {
+        Ok(()) => Ok(()),
+        Err(fault) => Err(stack_fault(fault)),
+    }
+}
+
+/// `prmpop mem[rA+c]`.
+#[tactic(auto, using(crate::proofs::Numbers::on_number_none, crate::proofs::Stacks::beyond_the_top))]
+pub(crate) fn prmpop(frame: &mut Frame, base: u8, off: u16) -> Result<(), Fault>
+    requires { base < 32 }
+    ensures effect { Gives (effect.prmpop base off (state_of frame.old)) result (state_of frame.new) }
+    ensures kept { Keeps frame.old frame.new }
+{
+    let from = number_of(frame.registers[base as usize])?;
+    in_order(&frame.stack);
+    match from.checked_add(i64::from(off)) {
+        None => Err(Fault::OutOfRange),
+        Some(at) => unmark(frame, at),
+    }
+}
+
+/// No mark at a position.
+#[tactic(auto, using(crate::proofs::Refusals::unmark_goes, crate::proofs::Stacks::low_unmarked))]
+fn unmark(frame: &mut Frame, at: i64) -> Result<(), Fault>
+    ensures effect { Gives (effect.without_mark at (state_of frame.old)) result (state_of frame.new) }
+    ensures kept { Keeps frame.old frame.new }
+{
+    match frame.stack.unmark(at) {
+        Ok(()) => Ok(()),
+        Err(fault) => not_unmarked(fault),
+    }
+}
+
+#[tactic(auto, using(crate::proofs::Refusals::unmark_none))]
+fn not_unmarked(fault: StackFault) -> Result<(), Fault>
+    ensures { (state : State) (at : ℤ) → UnmarkCause fault state.stack at → Gives (effect.without_mark at state) result state }
+{
+    match fault {
+        StackFault::NotMarked => Ok(()),
+        StackFault::OutOfRange
+        | StackFault::MarkedCell
+        | StackFault::MarkOrder
+        | StackFault::TooLong
+        | StackFault::NoMemory => Err(Fault::OutOfRange),
+    }
+}
+
+/// `prmdrop`.
+#[tactic(auto, using(crate::proofs::Stacks::low_dropped))]
+pub(crate) fn prmdrop(frame: &mut Frame) -> Result<(), Fault>
+    ensures effect { Gives (effect.prmdrop (state_of frame.old)) result (state_of frame.new) }
+    ensures kept { Keeps frame.old frame.new }
+{
+    match frame.stack.drop_oldest() {
+        Some(_) => Ok(()),
+        None => Err(Fault::NoMark),
+    }
+}
+
+/// `prmempty rA`.
+pub(crate) fn prmempty(frame: &mut Frame, r: u8)
+    requires { r < 32 }
+    ensures effect { state_of frame.new ≡ effect.prmempty r (state_of frame.old) }
+    ensures kept { Keeps frame.old frame.new }
+{
+    frame.registers[r as usize] = Word::Int(i64::from(frame.stack.oldest().is_none()));
+}
+
+/// `prmsplit rA, rB`.
+pub(crate) fn prmsplit(frame: &mut Frame, base: u8, split: u8) -> Result<(), Fault>
+    requires base { base < 32 }
+    requires split { split < 32 }
+    requires low { AreLow frame.old }
+    ensures effect { Gives (effect.prmsplit base split (state_of frame.old)) result (state_of frame.new) }
+    ensures kept { Keeps frame.old frame.new }
+{
+    match frame.stack.oldest() {
+        Some(mark) => {
+            frame.registers[base as usize] = Word::Int(mark.base as i64);
+            frame.registers[split as usize] = Word::Label(mark.split);
+            Ok(())
+        }
+        None => Err(Fault::NoMark),
+    }
+}

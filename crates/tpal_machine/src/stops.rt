@@ -1,0 +1,40 @@
+// Instructions that may stop the task.
+
+ghost use Rattle.tpal_machine.specs.Answer.{GivesHalt};
+ghost use Rattle.tpal_machine.specs.Effect as effect;
+ghost use Rattle.tpal_machine.specs.Seen.{state_of, Keeps};
+
+use crate::faults::Fault;
+use crate::flow::Halt;
+use crate::task::Frame;
+use tp_value::{Place, Stop, TrapKind};
+
+/// A stop, unless a join record is left to use.
+pub(crate) fn stops(frame: &Frame, stop: Stop) -> Halt
+    ensures { GivesHalt (effect.stops frame.now.pending stop (state_of frame.now)) result (state_of frame.now) }
+{
+    match frame.pending {
+        None => Halt::Stops(stop),
+        Some(_) => Halt::Fails(Fault::Pending),
+    }
+}
+
+/// `tick`.
+pub(crate) fn tick(frame: &mut Frame) -> Halt
+    ensures effect { GivesHalt (effect.tick (state_of frame.old)) result (state_of frame.new) }
+    ensures kept { Keeps frame.old frame.new }
+{
+    if frame.fuel.spend() {
+        Halt::Goes
+    } else {
+        stops(frame, Stop::NoFuel)
+    }
+}
+
+/// `trap KIND, line, col`.
+pub(crate) fn trap(frame: &mut Frame, kind: TrapKind, place: Place) -> Halt
+    ensures effect { GivesHalt (effect.trap kind place (state_of frame.old)) result (state_of frame.new) }
+    ensures kept { Keeps frame.old frame.new }
+{
+    stops(frame, Stop::Trap(kind, place))
+}
