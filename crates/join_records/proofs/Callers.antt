@@ -1,5 +1,5 @@
 -- What a caller knows of its hand after a call.
-use Rattle.std.proofs.Common.{inl, inr, ◌≡◌, ℕ, ◌+◌, List, [], ◌∷◌, Bool, cond, refl, sym, ap, ◌∙◌, subst, ◌++◌, length, eq-eqb, ne_eqb, Some, None}
+use Rattle.std.proofs.Common.{inl, inr, ◌≡◌, ℕ, suc, ◌+◌, List, [], ◌∷◌, Bool, cond, refl, sym, ap, ◌∙◌, subst, ◌++◌, length, eq-eqb, ne_eqb, Some, None, arith}
 use mathlib.Core.Logic.{dite}
 use mathlib.Core.Option.{some}
 use lib.ListN.{get_elem?}
@@ -14,7 +14,7 @@ use Rattle.join_records.specs.declared.views.Grip.TheVariants.{Reserved, Emptyin
 use Rattle.join_records.specs.declared.views.View.{View}
 use Rattle.join_records.specs.Views.{in_hand, drop_record, NoneMet, HasMet, read, with_hand, with_ends, holds_end, opened_view}
 use Rattle.join_records.specs.Answers.{FoundFree, met_view, reads_more, ReadFew, Unclaimable, ClaimsSoon}
-use Rattle.join_records.proofs.Functions.{dropped, undropped, dropped_twice}
+use Rattle.join_records.proofs.Functions.{dropped, undropped, dropped_twice, length_more}
 
 module _ {C E : Type 0} where
   -- a record that was found is in hand
@@ -88,3 +88,14 @@ module _ {C E : Type 0} where
 -- what holds of each of a list by its place holds of the last, and of each of the others
 pub popped : {A : Type 0} (P : ℕ → A → Type 0) (items xs : List A) (x : A) → ((k : ℕ) (y : A) → get_elem? items k ≡ some y → P k y) → items ≡ xs ++ x ∷ [] → P (length xs) x × ((k : ℕ) (y : A) → get_elem? xs k ≡ some y → P k y)
 popped P items xs x each is = (each (length xs) x (last_here items xs x is), λ k y at. each k y (last_before items xs x is k y at))
+
+-- and where the list has n + 1, the last is the one at n, and n are left
+pub last_of : {A : Type 0} (P : ℕ → A → Type 0) (n : ℕ) (items xs : List A) (x : A) → ((k : ℕ) (y : A) → get_elem? items k ≡ some y → P k y) → length items ≡ suc n → items ≡ xs ++ x ∷ []
+    → P n x × ((k : ℕ) (y : A) → get_elem? xs k ≡ some y → P k y) × (length xs ≡ n)
+last_of P n items xs x each long is = let both = popped P items xs x each is in let more = ap length is ∙ length_more xs x in let left : length xs ≡ n = omega arith in (subst (λ (k : ℕ). P k x) left both.0, both.1, left)
+
+-- each of four, taken off from the last on
+pub last_four : {A : Type 0} (P : ℕ → A → Type 0) (items xs ys zs ws : List A) (first second third fourth : A) → ((k : ℕ) (y : A) → get_elem? items k ≡ some y → P k y) → length items ≡ 4
+    → items ≡ xs ++ fourth ∷ [] → xs ≡ ys ++ third ∷ [] → ys ≡ zs ++ second ∷ [] → zs ≡ ws ++ first ∷ [] → P 0 first × P 1 second × P 2 third × P 3 fourth
+last_four P items xs ys zs ws first second third fourth each long d c b a =
+    let r = last_of P 3 items xs fourth each long d in let q = last_of P 2 xs ys third r.1 r.2 c in let p = last_of P 1 ys zs second q.1 q.2 b in ((last_of P 0 zs ws first p.1 p.2 a).0, p.0, q.0, r.0)

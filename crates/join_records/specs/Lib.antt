@@ -17,3 +17,5 @@ pub mod Closing
 pub mod Passes
 -- what the calls ask and answer
 pub mod Answers
+-- where a pass is between two calls, for passes at whose ends 0 is owed
+pub mod Seated

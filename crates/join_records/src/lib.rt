@@ -26,4 +26,6 @@ pub use table::{Arrival, Closed, Met, Pass, Records, Taken};
 pub use views::{Grip, Holding, Stage, View};
 
 #[cfg(test)]
+mod stress;
+#[cfg(test)]
 mod tests;
