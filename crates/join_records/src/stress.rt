@@ -20,8 +20,15 @@ use tpal_machine::{End, SideName};
 
 const RECORDS: u32 = 64;
 
-const TURNS: u32 = 400_000;
+const OPENINGS: u64 = 100_000;
 
+// How often the four work at most, and the turns of each of them then. About 0.2 openings come of a
+// turn, so once is mostly enough.
+const SHIFTS: u32 = 10;
+
+const TURNS: u32 = 200_000;
+
+// More than there can be steps towards the end of 64 records.
 const ROUNDS: u32 = 1_000;
 
 /// What waits at a record: the end that it keeps, and the openings that were counted there before.
@@ -353,6 +360,27 @@ fn work_four<R: Threads + Sync>(rt: &R, table: &Records<Counts>, crew: Crew) -> 
     }
 }
 
+/// The four work until there are openings enough.
+fn work_shifts<R: Threads + Sync>(rt: &R, table: &Records<Counts>, mut crew: Crew) -> Crew
+    requires count { record_count table.now ≡ 64 }
+    requires one { Sits table.now crew.one.end crew.one.pass }
+    requires two { Sits table.now crew.two.end crew.two.pass }
+    requires three { Sits table.now crew.three.end crew.three.pass }
+    requires four { Sits table.now crew.four.end crew.four.pass }
+    ensures one { Sits table.now result.one.end result.one.pass × ((view result.one.pass).parts ≡ (view crew.one.pass).parts) }
+    ensures two { Sits table.now result.two.end result.two.pass × ((view result.two.pass).parts ≡ (view crew.two.pass).parts) }
+    ensures three { Sits table.now result.three.end result.three.pass × ((view result.three.pass).parts ≡ (view crew.three.pass).parts) }
+    ensures four { Sits table.now result.four.end result.four.pass × ((view result.four.pass).parts ≡ (view crew.four.pass).parts) }
+{
+    for _shift in 0..SHIFTS {
+        if crew.calls().opens >= OPENINGS {
+            break;
+        }
+        crew = work_four(rt, table, crew);
+    }
+    crew
+}
+
 /// A worker that has done nothing yet.
 fn seated(pass: Pass<Counts>, end: Option<End>, dice: u64) -> Worker
     ensures pass { result.pass ≡ pass }
@@ -480,10 +508,10 @@ fn closed_opens(alloc: Global, table: Records<Counts>, crew: Crew) -> Result<u64
 #[test]
 fn each_opening_is_met_once_by_each_side(rt: HostRuntime) -> Result<(), Fail> {
     let (table, crew) = crewed(rt.alloc())?;
-    let mut crew = work_four(&rt, &table, crew);
+    let mut crew = work_shifts(&rt, &table, crew);
     crew.drain(&table);
     let counted = crew.finish(&table);
-    assert!(rt; counted >= 100_000, "{counted} openings");
+    assert!(rt; counted >= OPENINGS, "{counted} openings");
     let each = Calls {
         opens: counted,
         claims: counted,
