@@ -5,3 +5,9 @@ pub mod Apart
 pub mod Declaring
 pub mod First
 pub mod Wholes
+pub mod TreeRules
+pub mod TreeNodes
+pub mod TreeParts
+pub mod TreeStatements
+pub mod TreePrograms
+pub mod Firsts

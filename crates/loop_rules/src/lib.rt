@@ -9,6 +9,7 @@ mod declared;
 mod expression;
 mod fault;
 mod function;
+pub mod laws;
 mod part;
 mod resolved;
 mod scope;
