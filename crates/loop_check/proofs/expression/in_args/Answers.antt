@@ -1,0 +1,8 @@
+use Rattle.std.proofs.Common.{◌∙◌}
+use Rattle.loop_check.specs.Walk.{inside}
+use Rattle.loop_check.proofs.Searching.{args_step}
+use Rattle.loop_check.proofs.expression.in_args.Goals as goal
+
+pub loop-e-preserved : goal.loop-e-preserved
+loop-e-preserved c =
+    rw c.in_whole.ensures (args_step c.args.readers.now (inside c.args.w.now) c.loop-e.found c.loop-e.e-index c.args.es.now c.e-item.result c.loop-e-test.true c.e-item.is ∙ c.loop-e.invariant)

@@ -1,0 +1,16 @@
+-- Unbroken: programs that break no rule
+pub mod Unbroken
+-- Parts: which cells of a carried table an iteration touches, and which variables it leaves
+pub mod Parts
+-- Search: the first broken rule, as the walk finds it
+pub mod Search
+-- Walk: how the walk's state stands for a spot
+pub mod Walk
+-- Usage: what a function does itself
+pub mod Usage
+-- Readers: which functions read which tables
+pub mod Readers
+-- Checking: what `check` answers
+pub mod Checking
+-- Whole: the search over functions
+pub mod Whole

@@ -1,0 +1,55 @@
+// The first broken rule that was found so far.
+
+ghost use Rattle.std.specs.Prelude.{◌≡◌, ◌∷◌, [], cond};
+ghost use Rattle.loop_rules.specs.Scopes.{is_before};
+ghost use Rattle.loop_check.specs.Search.{is_first, lower, lowest};
+
+use tp_value::Place;
+
+/// A broken rule, and where.
+#[derive(Clone, Copy, PartialEq, Eq, Debug)]
+pub struct Fault {
+    /// The rule's number.
+    pub rule: u8,
+    /// The place.
+    pub place: Place,
+}
+
+/// Whether one place comes before another.
+fn is_before(p: Place, q: Place) -> bool
+    ensures { result ≡ is_before p q }
+{
+    p.line < q.line || (p.line == q.line && p.col < q.col)
+}
+
+/// Whether a fault comes first: by place, and at one place by rule.
+fn is_first(f: Fault, g: Fault) -> bool
+    ensures { result ≡ is_first f g }
+{
+    is_before(f.place, g.place)
+        || (f.place.line == g.place.line && f.place.col == g.place.col && f.rule < g.rule)
+}
+
+/// Keeps the first of what was found and one more fault.
+fn note(found: &mut Option<Fault>, rule: u8, place: Place)
+    ensures { found.new ≡ lower found.old (record { rule = rule; place = place }) }
+{
+    let fault = Fault { rule, place };
+    match *found {
+        None => *found = Some(fault),
+        Some(before) => {
+            if is_first(fault, before) {
+                *found = Some(fault);
+            }
+        }
+    }
+}
+
+/// The same, where the rule is broken.
+pub fn note_if(found: &mut Option<Fault>, rule: u8, broken: bool, place: Place)
+    ensures { found.new ≡ lowest found.old rule (cond broken (place ∷ []) []) }
+{
+    if broken {
+        note(found, rule, place);
+    }
+}
