@@ -26,7 +26,7 @@ use Rattle.loop_check.specs.declared.reader.Reader.{Reader}
 use Rattle.loop_check.specs.Search.{reads_carried, c8}
 use Rattle.loop_check.specs.Readers.{Pair, pair, pairs_of, IsReaders}
 use Rattle.loop_check.proofs.Lists.{Each, each_left, each_right, each_both, each_of, each_at, contains_here, contains_there, contains_cons, contains_none}
-use Rattle.loop_check.proofs.Tests.{no_both, not_false, and_left, and_right}
+use Rattle.loop_check.proofs.Bools.{no_both, not_false, and_left, and_right}
 use Rattle.loop_check.proofs.Found.{eq_is, eq_self}
 use Rattle.loop_check.proofs.Fine.{at_none, none_of}
 use Rattle.loop_check.proofs.Walk.{list_walk}

@@ -4,7 +4,7 @@ use Rattle.std.specs.Cmp.Lexicographic.{bytes_decides}
 use Rattle.loop_rules.specs.Names.{is_in}
 use Rattle.loop_meaning.specs.declared.value.Variable.{Variable}
 use Rattle.loop_meaning.specs.State.{lookup, assign, declare}
-use Rattle.loop_check.proofs.Tests.{or_left, or_right, no_both}
+use Rattle.loop_check.proofs.Bools.{or_left, or_right, no_both}
 
 pub eq_self : (x : List ℕ) → bytes_eq x x ≡ true
 eq_self x = (bytes_decides x x).1 refl

@@ -19,7 +19,7 @@ use Rattle.loop_meaning.specs.declared.value.Answer.TheVariants.{Number}
 use Rattle.loop_meaning.specs.declared.value.Variable.{Variable}
 use Rattle.loop_meaning.specs.State.{lookup}
 use Rattle.loop_meaning.specs.Expressions.{eval}
-use Rattle.loop_check.proofs.Tests.{no_both, not_false, and_left, and_right}
+use Rattle.loop_check.proofs.Bools.{no_both, not_false, and_left, and_right}
 use Rattle.loop_check.proofs.Found.{found_lookup, place_in, eq_is, is_in_more}
 use Rattle.loop_check.proofs.Keeps.{Mode, Fixed, ActOk, SitesOk}
 use Rattle.loop_check.proofs.Fine.{Fine, AllFine, at_none}

@@ -21,7 +21,7 @@ use Rattle.loop_rules.specs.Sites.{Loop, Declares, Parallel, Spot, in_carries, i
 use Rattle.loop_meaning.specs.Cells.{Cell, read_cells, write_cells, Body, bodies_of, run_of, Agree, Disjoint}
 use Rattle.loop_check.specs.Unbroken.{NoneBroken}
 use Rattle.loop_check.proofs.Lists.{each_at, contains_none, contains_cons, contains_append}
-use Rattle.loop_check.proofs.Tests.{or_left, not_false}
+use Rattle.loop_check.proofs.Bools.{or_left, not_false}
 use Rattle.loop_check.proofs.Found.{Found, found_lookup, found_end, found_in, place_in, is_in_end, is_in_more, names_more}
 use Rattle.loop_check.proofs.Keeps.{Mode, Notes, Fixed, Keeps, all_run_ok}
 use Rattle.loop_check.proofs.Calls.{NoWrites, call_ok}

@@ -1,5 +1,5 @@
 pub mod Lists
-pub mod Tests
+pub mod Bools
 pub mod Found
 pub mod Keeps
 pub mod Calls

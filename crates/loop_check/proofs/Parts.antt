@@ -20,7 +20,7 @@ use Rattle.loop_meaning.specs.Cells.{bodies_of}
 use Rattle.loop_check.specs.Unbroken.{NoneBroken}
 use Rattle.loop_check.specs.Parts.{InPart, KeepsTo, Parted}
 use Rattle.loop_check.proofs.Lists.{each_at}
-use Rattle.loop_check.proofs.Tests.{no_both}
+use Rattle.loop_check.proofs.Bools.{no_both}
 use Rattle.loop_check.proofs.Found.{Found, found_lookup, found_more, found_below, found_take, found_in, place_in}
 use Rattle.loop_check.proofs.Keeps.{Mode, Fixed, Keeps}
 use Rattle.loop_check.proofs.Calls.{NoWrites}

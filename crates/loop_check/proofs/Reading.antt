@@ -18,7 +18,7 @@ use Rattle.loop_check.specs.Readers.{add_users, IsReadersOf, Pair, pair, pairs_o
 use Rattle.loop_check.specs.declared.reader.Reader.{Reader}
 use Rattle.loop_check.specs.Walk.{texts_of}
 use Rattle.loop_check.proofs.Lists.{contains_here, contains_there, contains_cons, contains_none, contains_append, contains_left, contains_right}
-use Rattle.loop_check.proofs.Tests.{no_both, order}
+use Rattle.loop_check.proofs.Bools.{no_both, order}
 use Rattle.loop_check.proofs.Found.{eq_is, eq_self, is_in_end, is_in_more}
 
 -- ---- what is found at sites

@@ -14,7 +14,7 @@ use Rattle.loop_rules.specs.Reductions.{any_loop, is_op, some_op, reduced, neare
 use Rattle.loop_rules.specs.Scopes.{at}
 use Rattle.loop_rules.specs.Sites.{Loop}
 use Rattle.loop_check.proofs.Fine.{at_none, append_none_left, append_none_right}
-use Rattle.loop_check.proofs.Tests.{or_left, or_right, not_false, and_left, no_both}
+use Rattle.loop_check.proofs.Bools.{or_left, or_right, not_false, and_left, no_both}
 use Rattle.loop_check.proofs.Found.{eq_is}
 
 -- a `par` whose carry list and reduce list break neither C6 nor C3, where these are round it

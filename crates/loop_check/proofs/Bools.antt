@@ -1,4 +1,4 @@
--- What tests say.
+-- What tests say, and which of two numbers is the lesser.
 use Rattle.std.proofs.Common.{◌≡◌, ℕ, zero, suc, ◌<◌, ◌≤◌, ◌⊎◌, inl, inr, arith, Bool, true, false, ◌&&◌, ◌||◌, not, refl}
 
 pub or_left : (a b : Bool) → (a || b) ≡ false → a ≡ false
