@@ -16,6 +16,7 @@ use Rattle.tpal_machine.specs.declared.ends.Ending.TheVariants as ending
 use Rattle.tpal_machine.specs.declared.ends.Goal.{Goal}
 use Rattle.tpal_machine.specs.declared.ends.Goal.TheVariants as goal
 use Rattle.tpal_machine.specs.declared.ends.Side.{Side}
+use Rattle.tpal_machine.specs.Belongs.{RestBelongsTo, SideBelongsTo}
 use Rattle.tpal_machine.specs.Ended.{is_done}
 use Rattle.tpal_machine.specs.Reading.{table_at, the_target}
 use Rattle.tpal_machine.specs.RestState.{RestState}
@@ -125,7 +126,10 @@ abbrev pub joined : Listing → RestState → Side → Side → Joined
 joined code rest left right =
     joined_by (joined_stop left.stop left.ticks right.stop right.ticks rest.limit) (joined_ticks left.stop left.ticks right.stop right.ticks rest.limit) (joined_output rest left right) (the_target code rest.target) rest left right
 
--- what a rest and two sides merge to: nothing where they aren't of one record
+-- what a rest and two sides merge to: nothing where they aren't of one record, or not of the code
 pub record MergeOf (code : Listing) (rest : RestState) (left right : Side) (both : Joined) : Type 0 where
   pub sides : AreSides code rest left right
+  pub rest_belongs : RestBelongsTo code rest
+  pub left_belongs : SideBelongsTo code left
+  pub right_belongs : SideBelongsTo code right
   pub gives : joined code rest left right ≡ both
