@@ -75,11 +75,14 @@ fn a_loop_is_cut(rt: HostRuntime) -> Result<(), Fail> {
 #[test]
 fn a_call_is_cut(rt: HostRuntime) -> Result<(), Fail> {
     match two_activations(&rt)?.cut(2, 3, CutKind::Call) {
-        Ok(cut) => {
+        Ok(mut cut) => {
             holds(&rt, &cut.rest, 0, &[10, 11, 20, 21, 22]);
             holds(&rt, &cut.child, 2, &[20, 21, 22]);
             holds(&rt, &cut.left, 5, &[30, 31]);
-            assert_eq!(rt; cut.left.oldest(), Some(INNER));
+            assert_eq!(rt; cut.rest.oldest(), None);
+            assert_eq!(rt; cut.child.oldest(), None);
+            assert_eq!(rt; cut.left.drop_oldest(), Some(INNER));
+            assert_eq!(rt; cut.left.drop_oldest(), None);
         }
         Err(_) => assert!(rt; false),
     }

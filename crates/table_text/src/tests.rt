@@ -77,24 +77,41 @@ fn blanks_and_zeros_are_free(rt: HostRuntime) {
     }
 }
 
-#[test]
-fn tables_stand_in_order(rt: HostRuntime) -> Result<(), TableFault> {
-    let tables = tables_of(
-        &rt,
-        rt.alloc(),
-        b"table b 1 1 7 table a 2 1 -9223372036854775808 5",
-    )?;
-    let wanted = [
-        (b"b".as_slice(), 1, 1, [7].as_slice()),
-        (b"a".as_slice(), 2, 1, [-9223372036854775808, 5].as_slice()),
-    ];
+// A table: its name, rows, columns and cells.
+type Wanted<'a> = (&'a [u8], u32, u32, &'a [i64]);
+
+// That the text is read as these tables.
+fn reads_as(
+    rt: &impl Abort,
+    alloc: Global,
+    text: &[u8],
+    wanted: &[Wanted<'_>],
+) -> Result<(), TableFault> {
+    let tables = tables_of(rt, alloc, text)?;
     assert_eq!(rt; tables.len(), wanted.len());
     for (table, (name, rows, cols, cells)) in tables.iter().zip(wanted) {
-        assert_eq!(rt; table.name.items(), name);
-        assert_eq!(rt; (table.rows, table.cols), (rows, cols));
-        assert_eq!(rt; table.cells.items(), cells);
+        assert_eq!(rt; table.name.items(), *name);
+        assert_eq!(rt; (table.rows, table.cols), (*rows, *cols));
+        assert_eq!(rt; table.cells.items(), *cells);
     }
     Ok(())
+}
+
+#[test]
+fn tables_stand_in_order(rt: HostRuntime) -> Result<(), TableFault> {
+    let wanted = [
+        (b"b".as_slice(), 1, 1, [7].as_slice()),
+        (b"a".as_slice(), 1, 1, [5].as_slice()),
+    ];
+    reads_as(&rt, rt.alloc(), b"table b 1 1 7 table a 1 1 5", &wanted)
+}
+
+#[test]
+fn numbers_have_64_bits(rt: HostRuntime) -> Result<(), TableFault> {
+    let cells = [-9223372036854775808, 9223372036854775807];
+    let wanted = [(b"a".as_slice(), 2, 1, cells.as_slice())];
+    let text = b"table a 2 1 -9223372036854775808 9223372036854775807";
+    reads_as(&rt, rt.alloc(), text, &wanted)
 }
 
 #[test]
