@@ -29,7 +29,7 @@ fn programs_print(rt: HostRuntime) -> Result<(), Fail> {
 
 #[test]
 fn texts_are_refused_at_their_first_fault(rt: HostRuntime) -> Result<(), Fail> {
-    let cases: [(&str, &str); 7] = [
+    let cases: [(&str, &str); 8] = [
         ("main { print 1 @ 2; }", "refused E1 at 1:16\n"),
         (
             "main { print 9223372036854775808; }",
@@ -39,7 +39,8 @@ fn texts_are_refused_at_their_first_fault(rt: HostRuntime) -> Result<(), Fail> {
         ("", "refused E3 at 1:1\n"),
         ("main {", "refused E3 at 1:7\n"),
         ("main { print 1 + ; }", "refused E3 at 1:18\n"),
-        ("main { print x; }", "refused E0 not built\n"),
+        ("main { print x; }", "refused E7 C1 at 1:14\n"),
+        ("main { let x = 1; }", "refused E0 not built\n"),
     ];
     for (source, text) in cases {
         let called = run(rt.alloc(), source.as_bytes())?;

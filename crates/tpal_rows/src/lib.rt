@@ -8,3 +8,5 @@ mod calls;
 mod harness;
 #[cfg(test)]
 mod limits;
+#[cfg(test)]
+mod rules;

@@ -45,7 +45,7 @@ fn depth_is_refused_at_its_place(rt: HostRuntime) -> Result<(), Fail> {
     let cases = [
         (blocks, b"refused E14 at 1:230\n".as_slice()),
         (terms, b"refused E14 at 1:526\n".as_slice()),
-        (heights, b"refused E0 not built\n".as_slice()),
+        (heights, b"refused E7 C11 at 1:14\n".as_slice()),
     ];
     for (source, text) in &cases {
         let called = run(alloc, source)?;

@@ -1,7 +1,6 @@
 -- Instructions that are executed one after another.
-use Rattle.std.proofs.Common.{◌≡◌, ℕ, zero, suc, ◌+◌, List, [], ◌∷◌, ◌++◌, length, drop, slice_get, refl, ap, sym, ◌∙◌, arith, subst, zero-add}
-use Rattle.std.specs.Prelude.{Option, Some, None, Result, Ok, Err, ℤ, pos}
-use Rattle.small_machine.specs.declared.code.Alu.{Alu}
+use Rattle.std.proofs.Common.{◌≡◌, ℕ, zero, suc, ◌+◌, List, [], ◌∷◌, ◌++◌, length, drop, slice_get, refl, ap, ◌∙◌, arith, subst, zero-add}
+use Rattle.std.specs.Prelude.{Some, None, Result, Ok, Err, ℤ}
 use Rattle.small_machine.specs.declared.code.Code.{Code}
 use Rattle.small_machine.specs.declared.code.Fault.{Fault}
 use Rattle.small_machine.specs.declared.code.Instr.{Instr}
@@ -9,7 +8,7 @@ use Rattle.small_machine.specs.declared.code.Instr.TheVariants as instrs
 use Rattle.small_machine.specs.declared.code.Word.{Word}
 use Rattle.small_machine.specs.declared.code.Word.TheVariants.{Int, Nil}
 use Rattle.small_machine.specs.State.{State, register, operand}
-use Rattle.small_machine.specs.Step.{Step, Goes, Halts, Faults, execute, result_word, step, step_at, halted, turn_of, went_on, on_number, on_result, next, with_register, Turned, Ended}
+use Rattle.small_machine.specs.Step.{Step, Goes, Halts, Faults, execute, result_word, step_at, halted, turn_of, went_on, on_number, on_result, with_register, Ended}
 
 -- executing these instructions in order, wherever they stand, leads from a state to a state
 pub data Line : List Instr → State → State → Type 0 where

@@ -8,7 +8,6 @@ use Rattle.loop_syntax.specs.declared.statement.Stmt.{Stmt}
 use Rattle.loop_syntax.specs.declared.statement.Stmt.TheVariants.{Let, Set, Put, If', While', Loop', Par', Fold, Call, Both, Print, Emit}
 use Rattle.small_machine.specs.declared.code.Alu.{Alu}
 use Rattle.small_machine.specs.declared.code.Instr.{Instr}
-use Rattle.small_machine.specs.declared.code.Instr.TheVariants as instrs
 use Rattle.small_machine.specs.Code.{IsInstr}
 use Rattle.tpal_tool.specs.Built.{height, IsBuiltExpr, IsBuiltStmt}
 use Rattle.tpal_tool.specs.Lowered.{alu_of, literal_of, combined, lowered, lowered_stmt, lowered_all}

@@ -14,5 +14,7 @@ pub mod Meanings
 pub mod Endings
 -- programs that are built, and their meaning, by their trees alone
 pub mod Trees
+-- programs that are built break no rule
+pub mod Breaks
 -- what a source text owes is one thing alone
 pub mod Soles

@@ -1,7 +1,6 @@
 -- What a program that is built means, and what its code comes to.
-use Rattle.std.proofs.Common.{◌≡◌, ℕ, zero, suc, ◌+◌, List, [], ◌∷◌, ◌++◌, length, drop, refl, ap, sym, ◌∙◌, arith, append_assoc, subst}
-use Rattle.std.specs.Prelude.{ℤ, pos, All}
-use Rattle.std.specs.Fmt.{signed_decimal}
+use Rattle.std.proofs.Common.{◌≡◌, ℕ, suc, ◌+◌, List, [], ◌∷◌, ◌++◌, length, drop, refl, ap, sym, ◌∙◌, arith, append_assoc}
+use Rattle.std.specs.Prelude.{ℤ, All}
 use Rattle.std.proofs.lemmas.List.{append-nil}
 use Rattle.tp_value.specs.declared.values.Place.{Place}
 use Rattle.tp_value.specs.declared.values.Table.{Table}
@@ -15,18 +14,18 @@ use Rattle.loop_syntax.specs.declared.statement.Stmt.{Stmt}
 use Rattle.loop_syntax.specs.declared.statement.Stmt.TheVariants.{Let, Set, Put, If', While', Loop', Par', Fold, Call, Both, Print, Emit}
 use Rattle.loop_syntax.specs.declared.program.Program.{Program}
 use Rattle.loop_meaning.specs.declared.value.Variable.{Variable}
-use Rattle.loop_meaning.specs.State.{State, Ran, done, after, print_line}
+use Rattle.loop_meaning.specs.State.{State, done, after, print_line}
 use Rattle.loop_meaning.specs.Expressions as meaning_of
 use Rattle.loop_meaning.specs.Expressions.{eval, number, bind}
-use Rattle.loop_meaning.specs.Statements.{Setting, given, given_answer, run, run_list}
+use Rattle.loop_meaning.specs.Statements.{Setting, given_answer, run, run_list}
 use Rattle.loop_meaning.specs.Meaning.{meaning, whole_run, make_tables, input_cells, first_state, outcome_of}
 use Rattle.loop_meaning.specs.Calls.{setting}
 use Rattle.small_machine.specs.declared.code.Code.{Code}
 use Rattle.small_machine.specs.State as machine
-use Rattle.small_machine.specs.Step.{turn_of, Ended, calculated, halted}
+use Rattle.small_machine.specs.Step.{turn_of, Ended, calculated}
 use Rattle.tpal_tool.specs.Built.{IsBuiltProgram, IsBuiltExpr, IsBuiltOp, IsBuiltStmt}
 use Rattle.tpal_tool.specs.Lowered.{alu_of, lowered_all}
-use Rattle.tpal_tool.proofs.Execution.{Line, turn_of-line, turn_of-end}
+use Rattle.tpal_tool.proofs.Execution.{turn_of-line, turn_of-end}
 use Rattle.tpal_tool.proofs.Values.{value_of, printed_one, printed, Prints, lowered_all-prints}
 
 calculated-is : (o : BinOp) (place : Place) (m n : ℤ) → IsBuiltOp o → meaning_of.calculated o place m n ≡ number (calculated (alu_of o) m n)

@@ -1,10 +1,9 @@
 -- Programs that are built, and their meaning, by their trees alone.
-use Rattle.std.proofs.Common.{◌≡◌, ℕ, suc, ◌<◌, List, [], ◌∷◌, ◌++◌, length, get_or, refl, ap, sym, ◌∙◌, arith, subst}
-use Rattle.std.specs.Prelude.{All, map, ℤ, Bool, false, IsTrue, ◌↔◌}
+use Rattle.std.proofs.Common.{◌≡◌, ℕ, suc, List, [], ◌∷◌, ◌++◌, refl, ap, sym, ◌∙◌, arith, subst}
+use Rattle.std.specs.Prelude.{All, map, Bool, false, IsTrue, ◌↔◌}
 use Rattle.std.specs.Fmt.{signed_decimal}
 use Rattle.std.proofs.lemmas.List.Elements.{All-cons, All-nil}
 use Rattle.tp_value.specs.declared.values.Table.{Table}
-use Rattle.tp_value.specs.declared.values.Outcome.{Outcome}
 use Rattle.tp_value.specs.declared.values.Stop.TheVariants.{Done}
 use denote.Hole.Carrier
 use Rattle.loop_syntax.specs.declared.statement.Stmt.{Stmt, map-Stmt}
@@ -13,10 +12,10 @@ use Rattle.loop_syntax.specs.declared.statement.Stmt.TheOpen as layers
 use Rattle.loop_syntax.specs.declared.statement.Stmt.TheFolds.{fold-ParLoop, fold_out-Stmt}
 use Rattle.loop_syntax.specs.declared.statement.Stmt.TheVariants.{Let, Set, Put, If', While', Loop', Par', Fold, Call, Both, Print, Emit}
 use Rattle.loop_syntax.specs.declared.program.Program.{Program}
-use Rattle.loop_syntax.specs.Tree.{Node, NLet, NSet, NPut, NIf, NWhile, NLoop, NPar, NFold, NCall, NBoth, NPrint, NEmit, Nodes, Last, Then, ParHead, stmt_step, par_step, nodes, node_of, nodes_of, table_of, func_of, ProgramTree, program_of}
+use Rattle.loop_syntax.specs.Tree.{Node, NLet, NSet, NPut, NIf, NWhile, NLoop, NPar, NFold, NCall, NBoth, NPrint, NEmit, Nodes, Last, Then, ParHead, stmt_step, par_step, node_of, nodes_of, table_of, func_of, ProgramTree, program_of}
 use Rattle.loop_meaning.specs.Meaning.{meaning}
 use Rattle.tpal_tool.specs.Built.{IsBuilt, IsBuiltProgram, IsBuiltStmt, IsBuiltNode, AreBuilt}
-use Rattle.tpal_tool.proofs.Meanings.{meaning-is, prints_outcome}
+use Rattle.tpal_tool.proofs.Meanings.{meaning-is}
 use Rattle.tpal_tool.proofs.Values.{tree_value, printed_one, printed}
 
 -- the tree of a statement, one layer at a time

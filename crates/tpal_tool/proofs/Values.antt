@@ -1,9 +1,8 @@
 -- What the instructions of an expression, of a print and of a list of prints come to.
-use Rattle.std.proofs.Common.{◌≡◌, ◌≢◌, ℕ, zero, suc, ◌+◌, ◌<◌, ◌≤◌, List, [], ◌∷◌, ◌++◌, length, get_or, set, refl, ap, sym, ◌∙◌, arith, append_assoc, get_or-set_same, get_or-set_other, length-set}
+use Rattle.std.proofs.Common.{◌≡◌, ◌≢◌, ℕ, suc, ◌+◌, ◌<◌, ◌≤◌, List, [], ◌∷◌, ◌++◌, length, set, refl, ap, sym, ◌∙◌, arith, append_assoc, get_or-set_same, get_or-set_other, length-set}
 use Rattle.std.specs.Prelude.{Option, Some, None, ℤ, pos, All}
 use Rattle.std.specs.Fmt.{signed_decimal}
 use Rattle.std.proofs.lemmas.List.{append-nil}
-use Rattle.tp_value.specs.declared.values.Place.{Place}
 use Rattle.loop_syntax.specs.declared.expression.Expr.{Expr}
 use Rattle.loop_syntax.specs.declared.expression.Expr.TheVariants as exprs
 use Rattle.loop_syntax.specs.declared.statement.Stmt.{Stmt}
@@ -17,10 +16,10 @@ use Rattle.small_machine.specs.declared.code.Value.TheVariants as values
 use Rattle.small_machine.specs.declared.code.Word.{Word}
 use Rattle.small_machine.specs.declared.code.Word.TheVariants.{Int, Nil}
 use Rattle.small_machine.specs.State.{State, register, operand}
-use Rattle.small_machine.specs.Step.{Goes, calculated, execute, result_word, on_result, on_number, with_register, next}
+use Rattle.small_machine.specs.Step.{Goes, calculated, execute}
 use Rattle.tpal_tool.specs.Built.{height, IsBuiltExpr, IsBuiltStmt}
 use Rattle.tpal_tool.specs.Lowered.{alu_of, literal_of, combined, lowered, lowered_stmt, lowered_all}
-use Rattle.tpal_tool.proofs.Execution.{Line, none, one, Line-append, Line-single}
+use Rattle.tpal_tool.proofs.Execution.{Line, none, Line-append, Line-single}
 
 -- the value of an expression that is built
 abbrev pub tree_value : Tree → ℤ

@@ -1,5 +1,5 @@
 -- The programs that can be run so far: prints of sums and products of literals.
-use Rattle.std.specs.Prelude.{◌≡◌, ℕ, ◌≤◌, suc, max, List, [], All}
+use Rattle.std.specs.Prelude.{◌≡◌, ℕ, ◌≤◌, suc, max, [], All}
 use Rattle.tp_value.specs.declared.limits.TheConstants.{MAX_EXPRESSION_HEIGHT}
 use Rattle.loop_syntax.specs.declared.expression.BinOp.{BinOp}
 use Rattle.loop_syntax.specs.declared.expression.BinOp.TheVariants as op

@@ -1,5 +1,6 @@
 -- The lines that a call writes where it refuses.
 use Rattle.std.specs.Prelude.{ℕ, List, [], ◌∷◌, ◌++◌, codes}
+use Rattle.std.specs.Fmt.{decimal}
 use Rattle.tp_value.specs.declared.values.Place.{Place}
 use Rattle.loop_meaning.specs.Answers.{place_text}
 use Rattle.loop_parse.specs.Text.{TextFault, Byte, Range, Form, Deep}
@@ -23,6 +24,10 @@ fault_line (Byte place) = line_at (codes "E1") place
 fault_line (Range place) = line_at (codes "E2") place
 fault_line (Form place) = line_at (codes "E3") place
 fault_line (Deep place) = line_at (codes "E14") place
+
+-- the first broken rule of a program
+abbrev pub rule_line : ℕ → Place → List ℕ
+rule_line rule place = line_at (codes "E7 C" ++ decimal rule) place
 
 -- a file above its limit
 abbrev pub too_long_line : List ℕ → List ℕ

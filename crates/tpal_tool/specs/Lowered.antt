@@ -3,9 +3,9 @@ use Rattle.std.specs.Prelude.{ℕ, suc, ℤ, List, [], ◌∷◌, ◌++◌, Opti
 use Rattle.loop_syntax.specs.declared.expression.BinOp.{BinOp}
 use Rattle.loop_syntax.specs.declared.expression.BinOp.TheVariants as op
 use Rattle.loop_syntax.specs.declared.expression.Expr.{Expr}
-use Rattle.loop_syntax.specs.declared.expression.Expr.TheVariants.{Int, Var, Cell', Rows, Cols, Neg', Bin'}
+use Rattle.loop_syntax.specs.declared.expression.Expr.TheVariants.{Int, Bin'}
 use Rattle.loop_syntax.specs.declared.statement.Stmt.{Stmt}
-use Rattle.loop_syntax.specs.declared.statement.Stmt.TheVariants.{Let, Set, Put, If', While', Loop', Par', Fold, Call, Both, Print, Emit}
+use Rattle.loop_syntax.specs.declared.statement.Stmt.TheVariants.{Print}
 use Rattle.small_machine.specs.declared.code.Alu.{Alu}
 use Rattle.small_machine.specs.declared.code.Alu.TheVariants as alus
 use Rattle.small_machine.specs.declared.code.Instr.{Instr}

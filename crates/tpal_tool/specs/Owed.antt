@@ -1,6 +1,7 @@
 -- What a call owes.
 use Rattle.std.specs.Prelude.{◌≡◌, ◌≢◌, ◌⊎◌, ℕ, ◌<◌, ◌≤◌, List, [], Option, Some, None, IfSome, length}
 use Rattle.tp_value.specs.declared.limits.TheConstants.{MAX_SOURCE_BYTES}
+use Rattle.tp_value.specs.declared.values.Place.{Place}
 use Rattle.loop_syntax.specs.declared.program.Program.{Program}
 use Rattle.loop_meaning.specs.Answers.{status_of, text_of}
 use Rattle.loop_meaning.specs.Meaning.{meaning}
@@ -8,17 +9,21 @@ use Rattle.tpal_tool.specs.declared.running.TheConstants.{DEFAULT_FUEL}
 use Rattle.tpal_tool.specs.declared.status.Status.{Status}
 use Rattle.tpal_tool.specs.declared.status.Status.TheVariants.{Done, Trap, OutOfFuel, Refused, NoMemory, ReadFault, WriteFault, BadWords}
 use Rattle.tpal_tool.specs.Built.{IsBuilt}
-use Rattle.tpal_tool.specs.Lines.{bad_words_line, fault_line, not_built_line, too_long_line}
+use Rattle.tpal_tool.specs.Lines.{bad_words_line, fault_line, not_built_line, rule_line, too_long_line}
 use Rattle.tpal_tool.specs.Shelf.{HasRisen}
 use Rattle.tpal_tool.specs.Sink.{Appended, PrefixAppended}
 use Rattle.loop_parse.specs.Text.{Reads, TextFault, FirstTextFault}
-use Rattle.loop_syntax.specs.Tree.{ProgramTree, program_of}
+use Rattle.loop_rules.specs.Resolving.{IsFirstBroken}
+use Rattle.loop_rules.specs.Unbroken.{IsResolved}
+use Rattle.loop_syntax.specs.Tree.{program_of}
 use Rattle.tpal_tool.specs.Words.{asked}
 
 -- what a source text of at most the greatest length owes: this status, and this text
 pub data SourceOwes (source : List ℕ) (status : Status) (text : List ℕ) : Type 0 where
   faulty : (fault : TextFault) → FirstTextFault source fault → status ≡ Refused → text ≡ fault_line fault → SourceOwes source status text
-  not_built : (program : ProgramTree) → Reads source program → (IsBuilt program → ⊥) →
+  broken : (program : Program) (rule : ℕ) (place : Place) → Reads source (program_of program) → IsFirstBroken program rule place →
+      status ≡ Refused → text ≡ rule_line rule place → SourceOwes source status text
+  not_built : (program : Program) → Reads source (program_of program) → IsResolved program → (IsBuilt (program_of program) → ⊥) →
       status ≡ Refused → text ≡ not_built_line → SourceOwes source status text
   ran : (program : Program) → Reads source (program_of program) → IsBuilt (program_of program) →
       status ≡ status_of Done Trap OutOfFuel (meaning program [] DEFAULT_FUEL) →

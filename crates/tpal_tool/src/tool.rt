@@ -2,6 +2,7 @@
 
 ghost use Rattle.std.specs.Prelude.{◌≡◌, ◌⊎◌, ◌↔◌, ℕ, ◌<◌, ◌≤◌, List, [], IfOk, Some, None, Err, length, map, string_bytes};
 ghost use Rattle.loop_parse.specs.Text.{Reads};
+ghost use Rattle.loop_rules.specs.Unbroken.{IsResolved};
 ghost use Rattle.loop_syntax.specs.Tree.{program_of};
 ghost use Rattle.loop_syntax.specs.declared.program.Program.{Program};
 ghost use Rattle.tpal_tool.specs.Built.{IsBuilt, IsBuiltProgram};
@@ -13,7 +14,7 @@ ghost use Rattle.tpal_tool.specs.Sink.{Appended};
 ghost use Rattle.tpal_tool.specs.Words.{asked};
 
 use crate::built::is_built;
-use crate::lines::{bad_words_line, fault_line, not_built_line, too_long_line};
+use crate::lines::{bad_words_line, fault_line, not_built_line, rule_line, too_long_line};
 use crate::outcome_text::text_of;
 use crate::reading::{Reading, read_source};
 use crate::running::run_program;
@@ -22,6 +23,7 @@ use crate::sink::{Sink, SinkFault};
 use crate::status::{Status, status_of};
 use crate::words::asked;
 use crate::writing::write_text;
+use loop_rules::{RuleFault, resolve};
 use loop_syntax::Program;
 use std::alloc::Global;
 use tp_value::{MAX_SOURCE_BYTES, NoMemory};
@@ -46,6 +48,41 @@ fn run_answer(alloc: Global, program: &Program) -> Result<Answer, NoMemory>
     Ok(Answer { status, text })
 }
 
+/// The answer to a program that breaks no rule.
+fn resolved_answer(alloc: Global, program: &Program) -> Result<Answer, NoMemory>
+    requires { IsResolved program.now }
+    ensures owes { (source : List ℕ) → Reads source (program_of program.now)
+        → IfOk result (λ answer. SourceOwes source answer.status answer.text.items) }
+    ensures sole { (source : List ℕ) → IsOnlyReading source (Reading.Tree program.now)
+        → IfOk result (λ answer. IsSole source answer.status answer.text.items) }
+{
+    if is_built(program) {
+        run_answer(alloc, program)
+    } else {
+        let text = not_built_line(alloc)?;
+        let status = Status::Refused;
+        Ok(Answer { status, text })
+    }
+}
+
+/// The answer to a program.
+fn program_answer(alloc: Global, program: Program) -> Result<Answer, NoMemory>
+    ensures owes { (source : List ℕ) → Reads source (program_of program)
+        → IfOk result (λ answer. SourceOwes source answer.status answer.text.items) }
+    ensures sole { (source : List ℕ) → IsOnlyReading source (Reading.Tree program)
+        → IfOk result (λ answer. IsSole source answer.status answer.text.items) }
+{
+    match resolve(alloc, program) {
+        Ok(resolved) => resolved_answer(alloc, resolved.program()),
+        Err(RuleFault::Broken { rule, place }) => {
+            let text = rule_line(alloc, rule, place)?;
+            let status = Status::Refused;
+            Ok(Answer { status, text })
+        }
+        Err(RuleFault::NoMemory) => Err(NoMemory),
+    }
+}
+
 /// The answer to a source text of at most the greatest length.
 fn source_answer(alloc: Global, source: &[u8]) -> Result<Answer, NoMemory>
     requires { length source.now ≤ MAX_SOURCE_BYTES }
@@ -53,15 +90,7 @@ fn source_answer(alloc: Global, source: &[u8]) -> Result<Answer, NoMemory>
     ensures sole { IfOk result (λ answer. IsSole source.now answer.status answer.text.items) }
 {
     match read_source(alloc, source)? {
-        Reading::Tree(program) => {
-            if is_built(&program) {
-                run_answer(alloc, &program)
-            } else {
-                let text = not_built_line(alloc)?;
-                let status = Status::Refused;
-                Ok(Answer { status, text })
-            }
-        }
+        Reading::Tree(program) => program_answer(alloc, program),
         Reading::Fault(fault) => {
             let text = fault_line(alloc, fault)?;
             let status = Status::Refused;

@@ -1,6 +1,5 @@
 use Rattle.std.proofs.Common.{◌≡◌, ℕ, ◌+◌, List, [], length, sym, ap, ◌∙◌, arith}
 use Rattle.tp_value.specs.declared.values.Outcome.{Outcome}
-use Rattle.tp_value.specs.declared.values.Stop.TheVariants.{Done}
 use Rattle.loop_meaning.specs.Meaning.{meaning}
 use Rattle.small_machine.specs.declared.code.Code.{Code}
 use Rattle.small_machine.specs.declared.code.Fault.{Fault}
