@@ -1,6 +1,6 @@
 // What calls write and answer.
 
-use crate::harness::{call_with, run};
+use crate::harness::{call_with, repeated, run};
 use std::test::Fail;
 use tpal_tool::Status;
 
@@ -29,23 +29,61 @@ fn programs_print(rt: HostRuntime) -> Result<(), Fail> {
 
 #[test]
 fn texts_are_refused_at_their_first_fault(rt: HostRuntime) -> Result<(), Fail> {
-    let cases: [(&str, &str); 8] = [
-        ("main { print 1 @ 2; }", "refused E1 at 1:16\n"),
+    let cases: [(&str, &str, usize, &str, &str); 10] = [
+        ("main { print 1 @ 2; }", "", 0, "", "refused E1 at 1:16\n"),
         (
             "main { print 9223372036854775808; }",
+            "",
+            0,
+            "",
             "refused E2 at 1:14\n",
         ),
-        ("main { print 1 }", "refused E3 at 1:16\n"),
-        ("", "refused E3 at 1:1\n"),
-        ("main {", "refused E3 at 1:7\n"),
-        ("main { print 1 + ; }", "refused E3 at 1:18\n"),
-        ("main { print x; }", "refused E7 C1 at 1:14\n"),
-        ("main { let x = 1; }", "refused E0 not built\n"),
+        ("main { print 1 }", "", 0, "", "refused E3 at 1:16\n"),
+        ("", "", 0, "", "refused E3 at 1:1\n"),
+        ("main {", "", 0, "", "refused E3 at 1:7\n"),
+        ("main { print 1 + ; }", "", 0, "", "refused E3 at 1:18\n"),
+        ("main {", " if 1 {", 32, "", "refused E14 at 1:230\n"),
+        (
+            "main { print 1",
+            " + 1",
+            128,
+            "; }",
+            "refused E14 at 1:526\n",
+        ),
+        ("main { print x; }", "", 0, "", "refused E7 C1 at 1:14\n"),
+        ("main { let x = 1; }", "", 0, "", "refused E0 not built\n"),
     ];
-    for (source, text) in cases {
-        let called = run(rt.alloc(), source.as_bytes())?;
-        assert_eq!(rt; called.text.as_slice(), text.as_bytes(), "{source}");
-        assert_eq!(rt; called.status, Status::Refused, "{source}");
+    for (first, again, times, last, text) in cases {
+        let source = repeated(rt.alloc(), first, again, times, last)?;
+        let called = run(rt.alloc(), &source)?;
+        assert_eq!(rt; called.text.as_slice(), text.as_bytes(), "{first}");
+        assert_eq!(rt; called.status, Status::Refused, "{first}");
+    }
+    Ok(())
+}
+
+const PRODUCTS: &str = "table t[3][3];
+main {
+  par i in 0..3 carry t[i] {
+    par j in 0..3 carry t[i][j] { t[i][j] = (i + 1) * (j + 1); }
+  }
+  emit t;
+}";
+
+#[test]
+fn a_text_cut_before_its_last_brace_is_refused(rt: HostRuntime) -> Result<(), Fail> {
+    let source = PRODUCTS.as_bytes();
+    for length in 0..source.len() {
+        let prefix = &source[..length];
+        let called = run(rt.alloc(), prefix)?;
+        let single = prefix.ends_with(b".") && !prefix.ends_with(b"..");
+        let owed = if single {
+            b"refused E1 at ".as_slice()
+        } else {
+            b"refused E3 at ".as_slice()
+        };
+        assert!(&rt; called.text.starts_with(owed), "{length} bytes");
+        assert_eq!(rt; called.status, Status::Refused, "{length} bytes");
     }
     Ok(())
 }

@@ -56,3 +56,19 @@ pub fn call_with(
 pub fn run(alloc: Global, source: &[u8]) -> Result<Called, AllocError> {
     call_with(alloc, &["run", "p"], source, Vec::new(alloc))
 }
+
+/// A text, then another so many times, and then a last one.
+pub fn repeated(
+    alloc: Global,
+    first: &str,
+    again: &str,
+    times: usize,
+    last: &str,
+) -> Result<Vec<u8>, AllocError> {
+    let mut text = Vec::from_slice(alloc, first.as_bytes())?;
+    for _ in 0..times {
+        text.extend_from_slice(again.as_bytes())?;
+    }
+    text.extend_from_slice(last.as_bytes())?;
+    Ok(text)
+}
