@@ -7,9 +7,9 @@ ghost use Rattle.tpal_tool.specs.Built.{height, IsBuiltOp, IsBuiltExpr, IsBuiltS
 ghost use Rattle.tpal_tool.specs.Lowered.{alu_of, literal_of, lowered, lowered_stmt, lowered_all};
 
 use loop_syntax::{BinOp, Expr, Program, Stmt};
+use small_machine::{Alu, Code, Instr, Value};
 use std::alloc::Global;
 use tp_value::{Items, NoMemory};
-use small_machine::{Alu, Code, Instr, Value};
 
 fn alu_of(op: BinOp) -> Alu
     requires { IsBuiltOp op }

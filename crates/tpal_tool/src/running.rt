@@ -6,9 +6,9 @@ ghost use Rattle.tpal_tool.specs.Built.{IsBuiltProgram};
 
 use crate::lowering::lower;
 use loop_syntax::Program;
+use small_machine::{Task, Turn, run_task};
 use std::alloc::Global;
 use tp_value::{NoMemory, Outcome};
-use small_machine::{Task, Turn, run_task};
 
 /// The fuel of a run that names none, in ticks.
 pub const DEFAULT_FUEL: u64 = 1_000_000_000;
