@@ -250,7 +250,7 @@ module _ (p : Program) (rs : List Reader) (tells : Tells p rs) where
   pub nothing_broken : None ≡ lowest_in rs None (sites p) → (r : Rule) (q : Place) → IsOfCheck r → Broken p r q → ⊥
   nothing_broken e r q u h = rw (← e) at (broken_covered r q u h)
 
-is_before_tells : (p q : Place) → Decides (is_before p q) ((p.line < q.line) ⊎ ((p.line ≡ q.line) × (p.col < q.col)))
+pub is_before_tells : (p q : Place) → Decides (is_before p q) ((p.line < q.line) ⊎ ((p.line ≡ q.line) × (p.col < q.col)))
 is_before_tells p q = Decides-or _ _ (Decides-ltb _ _) (Decides-and _ _ (Decides-eqb _ _) (Decides-ltb _ _))
 
 same_place : (p q : Place) → p.line ≡ q.line → p.col ≡ q.col → p ≡ q

@@ -20,3 +20,8 @@ pub mod First
 pub mod Wholes
 pub mod Carried
 pub mod Verdict
+pub mod TreeSites
+pub mod TreeWalk
+pub mod TreeBroken
+pub mod TreeReads
+pub mod Firsts
