@@ -1,5 +1,5 @@
-// Programs that break a rule on names, limits, output or variables of loops, each with the place
-// worked out by hand, and programs that break none.
+// Programs that break a rule on names, limits, output or variables of loops, or one on parallel
+// loops, each with the place worked out by hand, and programs that break none.
 
 use crate::harness::run;
 use std::alloc::Global;
@@ -75,6 +75,64 @@ fn output_and_loops_have_their_rules(rt: HostRuntime) -> Result<(), Fail> {
     ];
     for (source, broken) in cases {
         let text = format!(in rt.alloc(); "refused E7 {broken}\n")?;
+        assert!(rt; refuses(rt.alloc(), source, &text)?, "{source}");
+    }
+    Ok(())
+}
+
+#[test]
+fn parallel_loops_have_their_rules(rt: HostRuntime) -> Result<(), Fail> {
+    let cases: [(&str, &str); 6] = [
+        (
+            "main { let s = 0; par i in 0..2 { s = 1; } }",
+            "E8 C2 at 1:35",
+        ),
+        (
+            "main { let s = 0; par i in 0..2 { fold s with 1; } }",
+            "E8 C3 at 1:40",
+        ),
+        (
+            "table t[3][3];\nmain {\n  par i in 0..2 carry t[i] { t[i + 1][0] = 0; }\n}",
+            "E8 C4 at 3:30",
+        ),
+        (
+            "table t[2][2]; main { par i in 0..2 carry t[i] { let x = t[0][0]; } }",
+            "E8 C5 at 1:58",
+        ),
+        (
+            "table t[2][2]; main { let k = 0; par i in 0..2 carry t[k] { } }",
+            "E8 C6 at 1:54",
+        ),
+        (
+            "table t[2][2];\nfn g(x) { return t[x][0]; }\nfn h(x) { let r = 0; call r = g(x); return r; }\nmain {\n  par i in 0..2 carry t[i] { let r = 0; call r = h(i); t[i][0] = r; }\n}",
+            "E8 C8 at 5:50",
+        ),
+    ];
+    for (source, broken) in cases {
+        let text = format!(in rt.alloc(); "refused {broken}\n")?;
+        assert!(rt; refuses(rt.alloc(), source, &text)?, "{source}");
+    }
+    Ok(())
+}
+
+#[test]
+fn the_other_rules_come_first(rt: HostRuntime) -> Result<(), Fail> {
+    let cases: [(&str, &str); 3] = [
+        (
+            "main { let s = 0; par i in 0..2 { s = 1; } print x; }",
+            "E7 C1 at 1:50",
+        ),
+        (
+            "main {\n  let s = 0;\n  par i in 0..4 reduce s by add { print s; }\n}",
+            "E7 C9 at 3:35",
+        ),
+        (
+            "main {\n  let s = 0;\n  par i in 0..4 reduce s by add { let x = s; }\n}",
+            "E8 C3 at 3:43",
+        ),
+    ];
+    for (source, broken) in cases {
+        let text = format!(in rt.alloc(); "refused {broken}\n")?;
         assert!(rt; refuses(rt.alloc(), source, &text)?, "{source}");
     }
     Ok(())

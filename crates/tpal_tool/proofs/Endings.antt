@@ -14,7 +14,7 @@ use Rattle.tpal_tool.specs.declared.running.TheConstants.{DEFAULT_FUEL}
 use Rattle.tpal_tool.specs.declared.status.Status.{Status}
 use Rattle.tpal_tool.specs.declared.status.Status.TheVariants.{Done, Trap, OutOfFuel, Refused, NoMemory}
 use Rattle.tpal_tool.specs.Lines.{too_long_line}
-use Rattle.tpal_tool.specs.Owed.{SourceOwes, faulty, broken, not_built, ran, Owes, bad_words, too_long, fits, IsSource, IsFinal, Ends, finished, read_failed, write_failed, no_memory, IsWritten, whole, failed, no_room, IsSole}
+use Rattle.tpal_tool.specs.Owed.{SourceOwes, faulty, broken, broken_parallel, not_built, ran, Owes, bad_words, too_long, fits, IsSource, IsFinal, Ends, finished, read_failed, write_failed, no_memory, IsWritten, whole, failed, no_room, IsSole}
 use Rattle.tpal_tool.specs.Built.{IsBuilt}
 use Rattle.tpal_tool.specs.Shelf.{HasRisen}
 use Rattle.tpal_tool.specs.Sink.{Appended}
@@ -63,7 +63,8 @@ final-by_stop stops.NoFuel = tt
 SourceOwes-final : {source : List ℕ} {status : Status} {text : List ℕ} → SourceOwes source status text → IsFinal status
 SourceOwes-final (faulty fault refuses is text_is) = final is tt
 SourceOwes-final (broken program rule place reads first is text_is) = final is tt
-SourceOwes-final (not_built program reads resolved unbuilt is text_is) = final is tt
+SourceOwes-final (broken_parallel program rule place reads resolved first is text_is) = final is tt
+SourceOwes-final (not_built program reads none unbuilt is text_is) = final is tt
 SourceOwes-final (ran program reads built is text_is) = final is (final-by_stop (meaning program [] DEFAULT_FUEL).stop)
 
 Owes-final : {words : List (List ℕ)} {source : List ℕ} {status : Status} {text : List ℕ} → Owes words source status text → IsFinal status

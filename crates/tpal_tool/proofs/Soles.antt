@@ -18,13 +18,16 @@ use Rattle.tpal_tool.specs.declared.running.TheConstants.{DEFAULT_FUEL}
 use Rattle.tpal_tool.specs.declared.status.Status.{Status}
 use Rattle.tpal_tool.specs.declared.status.Status.TheVariants.{Done, Trap, OutOfFuel, Refused}
 use Rattle.tpal_tool.specs.Built.{IsBuilt}
-use Rattle.tpal_tool.specs.Lines.{fault_line, fault_of, not_built_line, rule_line}
-use Rattle.tpal_tool.specs.Owed.{faulty, broken, not_built, ran, IsSole}
+use Rattle.tpal_tool.specs.Lines.{fault_line, fault_of, not_built_line, parallel_line, rule_line}
+use Rattle.tpal_tool.specs.Owed.{faulty, broken, broken_parallel, not_built, ran, IsSole}
 use Rattle.tpal_tool.specs.Reading.{lexing_of, IsOnlyReading}
 use Rattle.loop_rules.specs.Resolving.{IsFirstBroken}
 use Rattle.loop_rules.specs.Unbroken.{IsResolved}
 use Rattle.loop_rules.proofs.Firsts.{first-tree, resolved-tree, firsts_agree, not_both}
-use Rattle.tpal_tool.proofs.Breaks.{built_resolved}
+use Rattle.loop_check.specs.Checking as parallel
+use Rattle.loop_check.specs.Unbroken.{NoneBroken}
+use Rattle.loop_check.proofs.Firsts as parallels
+use Rattle.tpal_tool.proofs.Breaks.{built_unbroken, resolved_of}
 use Rattle.tpal_tool.proofs.Trees.{meaning-tree}
 
 -- ---- faults of the lexer
@@ -97,36 +100,56 @@ lexing-alone source (faults.Deep p) fault is only = absurd (none_fault fault is)
 pub ran-sole : (source : List ℕ) (p : Program) (status : Status) (text : List ℕ) → IsOnlyReading source (Tree p) → IsBuilt (program_of p) → status ≡ status_of Done Trap OutOfFuel (meaning p [] DEFAULT_FUEL) → text ≡ text_of (meaning p [] DEFAULT_FUEL) → IsSole source status text
 ran-sole source p status text only built is text_is other line (faulty fault first s t) = absurd (only.1 fault first)
 ran-sole source p status text only built is text_is other line (broken program rule place reads first s t) =
-    absurd (not_both p rule place (built_resolved p built) (first-tree program p rule place (only.0 (program_of program) reads) first))
-ran-sole source p status text only built is text_is other line (not_built program reads resolved unbuilt s t) =
+    absurd (not_both p rule place (resolved_of p (built_unbroken p built)) (first-tree program p rule place (only.0 (program_of program) reads) first))
+ran-sole source p status text only built is text_is other line (broken_parallel program rule place reads resolved first s t) =
+    absurd (parallels.not_both p rule place (built_unbroken p built) (parallels.first-tree program p (only.0 (program_of program) reads) rule place first))
+ran-sole source p status text only built is text_is other line (not_built program reads none unbuilt s t) =
     absurd (unbuilt (subst (λ (q : ProgramTree). IsBuilt q) (sym (only.0 (program_of program) reads)) built))
 ran-sole source p status text only built is text_is other line (ran program reads built_too s t) =
     let same : meaning program [] DEFAULT_FUEL ≡ meaning p [] DEFAULT_FUEL = meaning-tree program p [] DEFAULT_FUEL (only.0 (program_of program) reads) built_too in
     (s ∙ ap (status_of Done Trap OutOfFuel) same ∙ sym is, t ∙ ap text_of same ∙ sym text_is)
 
 -- the refusal of a program that isn't built
-pub not_built-sole : (source : List ℕ) (p : Program) (text : List ℕ) → IsOnlyReading source (Tree p) → IsResolved p → (IsBuilt (program_of p) → ⊥) → text ≡ not_built_line → IsSole source Refused text
-not_built-sole source p text only resolved unbuilt text_is other line (faulty fault first s t) = absurd (only.1 fault first)
-not_built-sole source p text only resolved unbuilt text_is other line (broken program rule place reads first s t) =
-    absurd (not_both p rule place resolved (first-tree program p rule place (only.0 (program_of program) reads) first))
-not_built-sole source p text only resolved unbuilt text_is other line (not_built program reads resolved_too unbuilt_too s t) = (s, t ∙ sym text_is)
-not_built-sole source p text only resolved unbuilt text_is other line (ran program reads built s t) =
+pub not_built-sole : (source : List ℕ) (p : Program) (text : List ℕ) → IsOnlyReading source (Tree p) → NoneBroken p → (IsBuilt (program_of p) → ⊥) → text ≡ not_built_line → IsSole source Refused text
+not_built-sole source p text only none unbuilt text_is other line (faulty fault first s t) = absurd (only.1 fault first)
+not_built-sole source p text only none unbuilt text_is other line (broken program rule place reads first s t) =
+    absurd (not_both p rule place (resolved_of p none) (first-tree program p rule place (only.0 (program_of program) reads) first))
+not_built-sole source p text only none unbuilt text_is other line (broken_parallel program rule place reads resolved first s t) =
+    absurd (parallels.not_both p rule place none (parallels.first-tree program p (only.0 (program_of program) reads) rule place first))
+not_built-sole source p text only none unbuilt text_is other line (not_built program reads none_too unbuilt_too s t) = (s, t ∙ sym text_is)
+not_built-sole source p text only none unbuilt text_is other line (ran program reads built s t) =
     absurd (unbuilt (subst (λ (q : ProgramTree). IsBuilt q) (only.0 (program_of program) reads) built))
 
--- the refusal of a program that breaks a rule
+-- the refusal of a program that breaks a rule on names, limits, output or variables of loops
 pub broken-sole : (source : List ℕ) (p : Program) (rule : ℕ) (place : Place) (text : List ℕ) → IsOnlyReading source (Tree p) → IsFirstBroken p rule place → text ≡ rule_line rule place → IsSole source Refused text
 broken-sole source p rule place text only first text_is other line (faulty fault found s t) = absurd (only.1 fault found)
 broken-sole source p rule place text only first text_is other line (broken program rule' place' reads first' s t) =
     let same : (rule' ≡ rule) × (place' ≡ place) = firsts_agree p rule' rule place' place (first-tree program p rule' place' (only.0 (program_of program) reads) first') first in
     (s, t ∙ ap (λ n. rule_line n place') same.0 ∙ ap (rule_line rule) same.1 ∙ sym text_is)
-broken-sole source p rule place text only first text_is other line (not_built program reads resolved unbuilt s t) =
+broken-sole source p rule place text only first text_is other line (broken_parallel program rule' place' reads resolved first' s t) =
     absurd (not_both p rule place (resolved-tree program p (only.0 (program_of program) reads) resolved) first)
+broken-sole source p rule place text only first text_is other line (not_built program reads none unbuilt s t) =
+    absurd (not_both p rule place (resolved-tree program p (only.0 (program_of program) reads) (resolved_of program none)) first)
 broken-sole source p rule place text only first text_is other line (ran program reads built s t) =
-    absurd (not_both p rule place (resolved-tree program p (only.0 (program_of program) reads) (built_resolved program built)) first)
+    absurd (not_both p rule place (resolved-tree program p (only.0 (program_of program) reads) (resolved_of program (built_unbroken program built))) first)
+
+-- the refusal of a program that breaks a rule on parallel loops, and none of those
+pub parallel-sole : (source : List ℕ) (p : Program) (rule : ℕ) (place : Place) (text : List ℕ) → IsOnlyReading source (Tree p) → IsResolved p → parallel.IsFirstBroken p rule place → text ≡ parallel_line rule place → IsSole source Refused text
+parallel-sole source p rule place text only resolved first text_is other line (faulty fault found s t) = absurd (only.1 fault found)
+parallel-sole source p rule place text only resolved first text_is other line (broken program rule' place' reads first' s t) =
+    absurd (not_both p rule' place' resolved (first-tree program p rule' place' (only.0 (program_of program) reads) first'))
+parallel-sole source p rule place text only resolved first text_is other line (broken_parallel program rule' place' reads resolved' first' s t) =
+    let same : (rule' ≡ rule) × (place' ≡ place) = parallels.firsts_agree p rule' rule place' place (parallels.first-tree program p (only.0 (program_of program) reads) rule' place' first') first in
+    (s, t ∙ ap (λ n. parallel_line n place') same.0 ∙ ap (parallel_line rule) same.1 ∙ sym text_is)
+parallel-sole source p rule place text only resolved first text_is other line (not_built program reads none unbuilt s t) =
+    absurd (parallels.not_both p rule place (parallels.none-tree program p (only.0 (program_of program) reads) none) first)
+parallel-sole source p rule place text only resolved first text_is other line (ran program reads built s t) =
+    absurd (parallels.not_both p rule place (parallels.none-tree program p (only.0 (program_of program) reads) (built_unbroken program built)) first)
 
 -- the refusal of a text with a fault
 pub faulty-sole : (source : List ℕ) (fault : SourceFault) (text : List ℕ) → IsOnlyReading source (Fault fault) → text ≡ fault_line (fault_of fault) → IsSole source Refused text
 faulty-sole source fault text only text_is other line (faulty found first s t) = (s, t ∙ ap fault_line (only.0 found first) ∙ sym text_is)
 faulty-sole source fault text only text_is other line (broken program rule place reads first s t) = absurd (only.1 (program_of program) reads)
-faulty-sole source fault text only text_is other line (not_built program reads resolved unbuilt s t) = absurd (only.1 (program_of program) reads)
+faulty-sole source fault text only text_is other line (broken_parallel program rule place reads resolved first s t) = absurd (only.1 (program_of program) reads)
+faulty-sole source fault text only text_is other line (not_built program reads none unbuilt s t) = absurd (only.1 (program_of program) reads)
 faulty-sole source fault text only text_is other line (ran program reads built s t) = absurd (only.1 (program_of program) reads)

@@ -25,9 +25,13 @@ fault_line (Range place) = line_at (codes "E2") place
 fault_line (Form place) = line_at (codes "E3") place
 fault_line (Deep place) = line_at (codes "E14") place
 
--- the first broken rule of a program
+-- the first broken rule on names, limits, output and variables of loops
 abbrev pub rule_line : ℕ → Place → List ℕ
 rule_line rule place = line_at (codes "E7 C" ++ decimal rule) place
+
+-- the first broken rule on parallel loops, in a program that breaks none of those
+abbrev pub parallel_line : ℕ → Place → List ℕ
+parallel_line rule place = line_at (codes "E8 C" ++ decimal rule) place
 
 -- a file above its limit
 abbrev pub too_long_line : List ℕ → List ℕ

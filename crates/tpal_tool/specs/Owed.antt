@@ -9,12 +9,14 @@ use Rattle.tpal_tool.specs.declared.running.TheConstants.{DEFAULT_FUEL}
 use Rattle.tpal_tool.specs.declared.status.Status.{Status}
 use Rattle.tpal_tool.specs.declared.status.Status.TheVariants.{Done, Trap, OutOfFuel, Refused, NoMemory, ReadFault, WriteFault, BadWords}
 use Rattle.tpal_tool.specs.Built.{IsBuilt}
-use Rattle.tpal_tool.specs.Lines.{bad_words_line, fault_line, not_built_line, rule_line, too_long_line}
+use Rattle.tpal_tool.specs.Lines.{bad_words_line, fault_line, not_built_line, parallel_line, rule_line, too_long_line}
 use Rattle.tpal_tool.specs.Shelf.{HasRisen}
 use Rattle.tpal_tool.specs.Sink.{Appended, PrefixAppended}
 use Rattle.loop_parse.specs.Text.{Reads, TextFault, FirstTextFault}
 use Rattle.loop_rules.specs.Resolving.{IsFirstBroken}
 use Rattle.loop_rules.specs.Unbroken.{IsResolved}
+use Rattle.loop_check.specs.Checking as parallel
+use Rattle.loop_check.specs.Unbroken.{NoneBroken}
 use Rattle.loop_syntax.specs.Tree.{program_of}
 use Rattle.tpal_tool.specs.Words.{asked}
 
@@ -23,7 +25,9 @@ pub data SourceOwes (source : List ℕ) (status : Status) (text : List ℕ) : Ty
   faulty : (fault : TextFault) → FirstTextFault source fault → status ≡ Refused → text ≡ fault_line fault → SourceOwes source status text
   broken : (program : Program) (rule : ℕ) (place : Place) → Reads source (program_of program) → IsFirstBroken program rule place →
       status ≡ Refused → text ≡ rule_line rule place → SourceOwes source status text
-  not_built : (program : Program) → Reads source (program_of program) → IsResolved program → (IsBuilt (program_of program) → ⊥) →
+  broken_parallel : (program : Program) (rule : ℕ) (place : Place) → Reads source (program_of program) → IsResolved program →
+      parallel.IsFirstBroken program rule place → status ≡ Refused → text ≡ parallel_line rule place → SourceOwes source status text
+  not_built : (program : Program) → Reads source (program_of program) → NoneBroken program → (IsBuilt (program_of program) → ⊥) →
       status ≡ Refused → text ≡ not_built_line → SourceOwes source status text
   ran : (program : Program) → Reads source (program_of program) → IsBuilt (program_of program) →
       status ≡ status_of Done Trap OutOfFuel (meaning program [] DEFAULT_FUEL) →

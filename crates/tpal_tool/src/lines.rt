@@ -1,7 +1,7 @@
 // The lines of refusals.
 
 ghost use Rattle.std.specs.Prelude.{◌≡◌, IfOk};
-ghost use Rattle.tpal_tool.specs.Lines.{line_at, fault_line, fault_of, rule_line, too_long_line, not_built_line, bad_words_line};
+ghost use Rattle.tpal_tool.specs.Lines.{line_at, fault_line, fault_of, parallel_line, rule_line, too_long_line, not_built_line, bad_words_line};
 
 use std::alloc::{AllocError, Global};
 use tp_value::Place;
@@ -40,11 +40,20 @@ pub fn fault_line(alloc: Global, fault: SourceFault) -> Result<Vec<u8>, AllocErr
     }
 }
 
-/// The line of a program whose first broken rule is that one.
+/// The line of a program whose first broken rule on names, limits, output and variables of loops is
+/// that one.
 pub fn rule_line(alloc: Global, rule: u8, place: Place) -> Result<Vec<u8>, AllocError>
     ensures { IfOk result (λ line. line.items ≡ rule_line rule place) }
 {
     let code = format!(in alloc; "E7 C{rule}")?;
+    line_at(alloc, &code, place)
+}
+
+/// The line of a program whose first broken rule on parallel loops is that one.
+pub fn parallel_line(alloc: Global, rule: u8, place: Place) -> Result<Vec<u8>, AllocError>
+    ensures { IfOk result (λ line. line.items ≡ parallel_line rule place) }
+{
+    let code = format!(in alloc; "E8 C{rule}")?;
     line_at(alloc, &code, place)
 }
 

@@ -1,6 +1,7 @@
 // The top call.
 
 ghost use Rattle.std.specs.Prelude.{◌≡◌, ◌⊎◌, ◌↔◌, ℕ, ◌<◌, ◌≤◌, List, [], IfOk, Some, None, Err, length, map, string_bytes};
+ghost use Rattle.loop_check.specs.Unbroken.{NoneBroken};
 ghost use Rattle.loop_parse.specs.Text.{Reads};
 ghost use Rattle.loop_rules.specs.Unbroken.{IsResolved};
 ghost use Rattle.loop_syntax.specs.Tree.{program_of};
@@ -14,7 +15,9 @@ ghost use Rattle.tpal_tool.specs.Sink.{Appended};
 ghost use Rattle.tpal_tool.specs.Words.{asked};
 
 use crate::built::is_built;
-use crate::lines::{bad_words_line, fault_line, not_built_line, rule_line, too_long_line};
+use crate::lines::{
+    bad_words_line, fault_line, not_built_line, parallel_line, rule_line, too_long_line,
+};
 use crate::outcome_text::text_of;
 use crate::reading::{Reading, read_source};
 use crate::running::run_program;
@@ -23,7 +26,8 @@ use crate::sink::{Sink, SinkFault};
 use crate::status::{Status, status_of};
 use crate::words::asked;
 use crate::writing::write_text;
-use loop_rules::{RuleFault, resolve};
+use loop_check::check;
+use loop_rules::{Resolved, RuleFault, resolve};
 use loop_syntax::Program;
 use std::alloc::Global;
 use tp_value::{MAX_SOURCE_BYTES, NoMemory};
@@ -49,8 +53,8 @@ fn run_answer(alloc: Global, program: &Program) -> Result<Answer, NoMemory>
 }
 
 /// The answer to a program that breaks no rule.
-fn resolved_answer(alloc: Global, program: &Program) -> Result<Answer, NoMemory>
-    requires { IsResolved program.now }
+fn checked_answer(alloc: Global, program: &Program) -> Result<Answer, NoMemory>
+    requires { NoneBroken program.now }
     ensures owes { (source : List ℕ) → Reads source (program_of program.now)
         → IfOk result (λ answer. SourceOwes source answer.status answer.text.items) }
     ensures sole { (source : List ℕ) → IsOnlyReading source (Reading.Tree program.now)
@@ -65,6 +69,25 @@ fn resolved_answer(alloc: Global, program: &Program) -> Result<Answer, NoMemory>
     }
 }
 
+/// The answer to a program that breaks no rule on names, limits, output and variables of loops.
+fn resolved_answer(alloc: Global, program: Resolved) -> Result<Answer, NoMemory>
+    requires { IsResolved program }
+    ensures owes { (source : List ℕ) → Reads source (program_of program)
+        → IfOk result (λ answer. SourceOwes source answer.status answer.text.items) }
+    ensures sole { (source : List ℕ) → IsOnlyReading source (Reading.Tree program)
+        → IfOk result (λ answer. IsSole source answer.status answer.text.items) }
+{
+    match check(alloc, program) {
+        Ok(checked) => checked_answer(alloc, checked.program()),
+        Err(RuleFault::Broken { rule, place }) => {
+            let text = parallel_line(alloc, rule, place)?;
+            let status = Status::Refused;
+            Ok(Answer { status, text })
+        }
+        Err(RuleFault::NoMemory) => Err(NoMemory),
+    }
+}
+
 /// The answer to a program.
 fn program_answer(alloc: Global, program: Program) -> Result<Answer, NoMemory>
     ensures owes { (source : List ℕ) → Reads source (program_of program)
@@ -73,7 +96,7 @@ fn program_answer(alloc: Global, program: Program) -> Result<Answer, NoMemory>
         → IfOk result (λ answer. IsSole source answer.status answer.text.items) }
 {
     match resolve(alloc, program) {
-        Ok(resolved) => resolved_answer(alloc, resolved.program()),
+        Ok(resolved) => resolved_answer(alloc, resolved),
         Err(RuleFault::Broken { rule, place }) => {
             let text = rule_line(alloc, rule, place)?;
             let status = Status::Refused;

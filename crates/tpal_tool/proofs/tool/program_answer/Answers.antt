@@ -1,4 +1,4 @@
-use Rattle.std.proofs.Common.{refl, sym, ◌∙◌, subst}
+use Rattle.std.proofs.Common.{refl, sym, subst}
 use Rattle.loop_syntax.specs.declared.program.Program.{Program}
 use Rattle.tpal_tool.specs.declared.reading.Reading.TheVariants.{Tree}
 use Rattle.tpal_tool.specs.Owed.{broken}
@@ -9,7 +9,7 @@ use Rattle.tpal_tool.proofs.tool.program_answer.Goals as goal
 pub returns-in-Ok-clause-sole : goal.returns-in-Ok-clause-sole
 returns-in-Ok-clause-sole c source only =
     c.resolved_answer.ensures.sole source
-    (subst (λ (p : Program). IsOnlyReading source (Tree p)) (sym (c.program.ensures.program ∙ c.in-Ok.ensures.program)) only)
+    (subst (λ (p : Program). IsOnlyReading source (Tree p)) (sym c.in-Ok.ensures.program) only)
 
 pub returns-in_ok-text-in-Err-Broken-clause-owes : goal.returns-in_ok-text-in-Err-Broken-clause-owes
 returns-in_ok-text-in-Err-Broken-clause-owes c source reads =
