@@ -6,3 +6,4 @@ pub mod Calls
 pub mod Whole
 pub mod Worked
 pub mod Spending
+pub mod MoreFuel
