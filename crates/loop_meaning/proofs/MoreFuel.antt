@@ -1,12 +1,10 @@
 -- A run that doesn't stop for want of fuel is the same with more fuel.
-use Rattle.std.proofs.Common.{◌≡◌, ◌<◌, ◌≤◌, ◌+◌, ◌-◌, ◌*◌, unsigned_abs, ◌++◌, ◌∷◌, [], ℕ, zero, suc, ℤ, pos, negsuc, ◌+ℤ◌, List, Option, Some, None, Bool, true, false, nat_lt, length, refl, sym, ap, ◌∙◌, arith}
-use mathlib.Core.Path.{fun_ext}
+use Rattle.std.proofs.Common.{◌≡◌, ◌<◌, ◌≤◌, ◌+◌, ◌-◌, ◌∷◌, [], ℕ, zero, suc, ℤ, pos, negsuc, ◌+ℤ◌, List, Option, Some, None, Bool, true, false, nat_lt, length, refl, sym, ap, ◌∙◌, arith}
 use Rattle.std.specs.Int.{int_gap}
 use Rattle.std.proofs.lemmas.Bool.{ltb-true}
 use Rattle.std.proofs.lemmas.Bool.Decides.{nat_tests}
 use Rattle.tp_value.specs.declared.limits.TheConstants.{MAX_CALL_DEPTH}
 use Rattle.tp_value.specs.declared.Place.{Place}
-use Rattle.tp_value.specs.declared.TrapKind.TheVariants.{Deep}
 use Rattle.tp_value.specs.declared.Stop.{Stop}
 use Rattle.tp_value.specs.declared.Stop.TheVariants.{Done, Trap, NoFuel}
 use Rattle.tp_value.specs.declared.Table.{Table}
@@ -20,10 +18,10 @@ use Rattle.loop_syntax.specs.declared.Program.{Program}
 use Rattle.loop_rules.specs.Names.{func_of}
 use Rattle.loop_meaning.specs.declared.value.Answer.{Answer}
 use Rattle.loop_meaning.specs.declared.value.Answer.TheVariants.{Number, Traps}
-use Rattle.loop_meaning.specs.State.{declare, State, Note, Chance, Ran, done, trapped, noted, after, go_on, tick, leave_block}
+use Rattle.loop_meaning.specs.State.{declare, State, Note, Chance, Ran, done, noted, after, go_on, tick, leave_block}
 use Rattle.loop_meaning.specs.Expressions.{eval}
 use Rattle.loop_meaning.specs.Statements.{Setting, Called, given, given_answer, given_two, given_all, choose, block, turns, iteration, iterate, too_wide, unless_wide, with_call, set_var, two_calls, run, run_all, run_list}
-use Rattle.loop_meaning.specs.Calls.{call_at, call_on, enter, bound, returned, no_value, setting}
+use Rattle.loop_meaning.specs.Calls.{call_at, call_on, enter, bound, returned, setting}
 use Rattle.loop_meaning.specs.Meaning.{make_tables, input_cells, first_state, whole_run, outcome_of, meaning, count_chances, chances}
 
 -- q is the run r, where that didn't stop for want of fuel
