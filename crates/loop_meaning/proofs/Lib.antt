@@ -7,3 +7,5 @@ pub mod Whole
 pub mod Worked
 pub mod Spending
 pub mod MoreFuel
+pub mod Ticks
+pub mod WholeFrames

@@ -16,5 +16,7 @@ pub mod Answers
 pub mod Cells
 -- Frames: a `par` or a `both` that is partly done
 pub mod Frames
+-- WholeFrames: when a frame is the whole of its `par` or `both`
+pub mod WholeFrames
 -- Ends: what the evaluator holds and answers
 pub mod Ends

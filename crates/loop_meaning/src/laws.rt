@@ -1,11 +1,20 @@
 // What follows from the definitions alone.
 
-ghost use Rattle.std.specs.Prelude.{◌≡◌, ◌+◌, ◌++◌, ◌<◌, ◌≤◌, ◌↔◌, ◌≢◌, ℕ, List};
+ghost use Rattle.std.specs.Prelude.{◌≡◌, ◌+◌, ◌++◌, ◌<◌, ◌≤◌, ◌↔◌, ◌≢◌, ℕ, Bool, ℤ, List, map};
+ghost use Rattle.std.specs.Int.{int_gap};
+ghost use Rattle.tp_value.specs.declared.Op.{Op};
+ghost use Rattle.loop_syntax.specs.declared.Name.{Name};
+ghost use Rattle.loop_syntax.specs.declared.App.{App};
+ghost use Rattle.loop_syntax.specs.declared.ParLoop.{ParLoop};
 ghost use Rattle.loop_syntax.specs.declared.Reduce.{Reduce};
 ghost use Rattle.loop_syntax.specs.declared.Stmt as statement;
-ghost use Rattle.loop_meaning.specs.State.{State, Ran};
-ghost use Rattle.loop_meaning.specs.Statements.{run_list};
+ghost use Rattle.loop_syntax.specs.declared.Stmt.TheVariants.{Par, Both};
+ghost use Rattle.loop_meaning.specs.declared.frame.Frame.TheVariants.{Range};
+ghost use Rattle.loop_meaning.specs.State.{State, Ran, noted};
+ghost use Rattle.loop_meaning.specs.Statements.{given_two, unless_wide, too_wide, run, run_list};
 ghost use Rattle.loop_meaning.specs.Calls.{setting};
+ghost use Rattle.loop_meaning.specs.Frames.{OfPar, accs_of, run_frame};
+ghost use Rattle.loop_meaning.specs.WholeFrames.{iterations, first_chance, both_by_frame};
 ghost use Rattle.loop_meaning.specs.Meaning.{meaning, chances};
 
 use loop_syntax::Program;
@@ -37,4 +46,24 @@ pub fn more_fuel_changes_nothing(program: &Program, tables: &[Table], fuel: u64)
     ensures statements { (more : ℕ) → fuel ≤ more → (depth : ℕ) (rs : List Reduce) (body : List statement.Stmt) (s : State) →
         (run_list (setting program.now fuel depth rs) body s).stop ≢ Stop.NoFuel →
         run_list (setting program.now more depth rs) body s ≡ run_list (setting program.now fuel depth rs) body s }
+{}
+
+/// A frame of the whole range of a `par`, with the reduced variables' own values as accumulators,
+/// runs its iterations, and ends with the values of those variables; it notes one chance more, that
+/// of the first iteration, where that is begun. A frame of both calls is what a `both` does between
+/// its arguments and its assignments.
+pub fn whole_frames_are_the_loop(program: &Program, fuel: u64)
+    ensures par { (depth : ℕ) (rs : List Reduce) (l : ParLoop) (s : State) →
+        run (setting program.now fuel depth rs) (Par l) s ≡
+        given_two l.from l.to s (λ i j. unless_wide (too_wide i j) l.place (iterations program.now fuel depth l i j) s) }
+    ensures range { (depth : ℕ) (l : ParLoop) (i j : ℤ) (accs : List (Op × ℤ)) (s : State) →
+        map (λ (a : Op × ℤ). a.1) accs ≡ accs_of l.reduces.items s.vars →
+        (run_frame program.now fuel depth (OfPar l) (Range i j accs) s).ran ≡
+        noted (first_chance fuel (int_gap i j) s) (iterations program.now fuel depth l i j s) }
+    ensures accumulators { (depth : ℕ) (l : ParLoop) (i j : ℤ) (accs : List (Op × ℤ)) (s : State) →
+        map (λ (a : Op × ℤ). a.1) accs ≡ accs_of l.reduces.items s.vars →
+        (run_frame program.now fuel depth (OfPar l) (Range i j accs) s).results ≡
+        accs_of l.reduces.items (iterations program.now fuel depth l i j s).state.vars }
+    ensures both { (depth : ℕ) (rs : List Reduce) (child : Bool) (x : Name) (f : App) (y : Name) (g : App) (s : State) →
+        run (setting program.now fuel depth rs) (Both x f y g) s ≡ both_by_frame program.now fuel depth child x f y g s }
 {}
