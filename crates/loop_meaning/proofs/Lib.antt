@@ -9,3 +9,4 @@ pub mod Spending
 pub mod MoreFuel
 pub mod Ticks
 pub mod WholeFrames
+pub mod Depth

@@ -1,8 +1,12 @@
 // What follows from the definitions alone.
 
-ghost use Rattle.std.specs.Prelude.{◌≡◌, ◌+◌, ◌++◌, ◌<◌, ◌≤◌, ◌↔◌, ◌≢◌, ℕ, Bool, ℤ, List, map};
+ghost use Rattle.std.specs.Prelude.{◌≡◌, ◌+◌, ◌++◌, ◌<◌, ◌≤◌, ◌↔◌, ◌≢◌, ℕ, Bool, ℤ, List, [], map};
 ghost use Rattle.std.specs.Int.{int_gap};
+ghost use Rattle.tp_value.specs.declared.limits.TheConstants.{MAX_CALL_DEPTH};
 ghost use Rattle.tp_value.specs.declared.Op.{Op};
+ghost use Rattle.tp_value.specs.declared.Place.{Place};
+ghost use Rattle.tp_value.specs.declared.TrapKind.TheVariants.{Deep};
+ghost use Rattle.loop_rules.specs.Names.{func_of};
 ghost use Rattle.loop_syntax.specs.declared.Name.{Name};
 ghost use Rattle.loop_syntax.specs.declared.App.{App};
 ghost use Rattle.loop_syntax.specs.declared.ParLoop.{ParLoop};
@@ -10,9 +14,9 @@ ghost use Rattle.loop_syntax.specs.declared.Reduce.{Reduce};
 ghost use Rattle.loop_syntax.specs.declared.Stmt as statement;
 ghost use Rattle.loop_syntax.specs.declared.Stmt.TheVariants.{Par, Both};
 ghost use Rattle.loop_meaning.specs.declared.frame.Frame.TheVariants.{Range};
-ghost use Rattle.loop_meaning.specs.State.{State, Ran, noted};
+ghost use Rattle.loop_meaning.specs.State.{State, Note, Ran, noted, trapped, out_of_fuel};
 ghost use Rattle.loop_meaning.specs.Statements.{given_two, unless_wide, too_wide, run, run_list};
-ghost use Rattle.loop_meaning.specs.Calls.{setting};
+ghost use Rattle.loop_meaning.specs.Calls.{setting, enter, no_value};
 ghost use Rattle.loop_meaning.specs.Frames.{OfPar, accs_of, run_frame};
 ghost use Rattle.loop_meaning.specs.WholeFrames.{iterations, first_chance, both_by_frame};
 ghost use Rattle.loop_meaning.specs.Meaning.{meaning, chances};
@@ -66,4 +70,20 @@ pub fn whole_frames_are_the_loop(program: &Program, fuel: u64)
         accs_of l.reduces.items (iterations program.now fuel depth l i j s).state.vars }
     ensures both { (depth : ℕ) (rs : List Reduce) (child : Bool) (x : Name) (f : App) (y : Name) (g : App) (s : State) →
         run (setting program.now fuel depth rs) (Both x f y g) s ≡ both_by_frame program.now fuel depth child x f y g s }
+{}
+
+/// A call at a depth below 10,000 counts its tick and runs the body one level deeper, so depth
+/// 10,000 is reached; a call there counts its tick and traps at the function's name. Where no tick
+/// is left, a call stops for want of fuel at every depth.
+pub fn calls_reach_the_limit(program: &Program, fuel: u64)
+    ensures enters { (depth : ℕ) (rs : List Reduce) (f : List ℕ) (place : Place) (ns : List ℤ) (begin : List Note) (s : State) →
+        depth < MAX_CALL_DEPTH → s.ticks < fuel →
+        (setting program.now fuel depth rs).call f place ns begin s ≡
+        enter (setting program.now fuel (depth + 1) []) (func_of program.now.funcs.items f) ns begin (record s { ticks = s.ticks + 1 }) }
+    ensures traps { (rs : List Reduce) (f : List ℕ) (place : Place) (ns : List ℤ) (begin : List Note) (s : State) →
+        s.ticks < fuel →
+        (setting program.now fuel MAX_CALL_DEPTH rs).call f place ns begin s ≡ no_value (trapped Deep place (record s { ticks = s.ticks + 1 })) }
+    ensures spent { (depth : ℕ) (rs : List Reduce) (f : List ℕ) (place : Place) (ns : List ℤ) (begin : List Note) (s : State) →
+        fuel ≤ s.ticks →
+        (setting program.now fuel depth rs).call f place ns begin s ≡ no_value (out_of_fuel (record s { ticks = fuel + 1 })) }
 {}
