@@ -10,3 +10,4 @@ pub mod MoreFuel
 pub mod Ticks
 pub mod WholeFrames
 pub mod Depth
+pub mod Ranges

@@ -18,5 +18,7 @@ pub mod Cells
 pub mod Frames
 -- WholeFrames: when a frame is the whole of its `par` or `both`
 pub mod WholeFrames
+-- InRange: numbers in the range of 64 bits, in states and in programs
+pub mod InRange
 -- Ends: what the evaluator holds and answers
 pub mod Ends

@@ -2,6 +2,7 @@
 
 ghost use Rattle.std.specs.Prelude.{◌≡◌, ◌+◌, ◌++◌, ◌<◌, ◌≤◌, ◌↔◌, ◌≢◌, ℕ, Bool, ℤ, List, [], map};
 ghost use Rattle.std.specs.Int.{int_gap};
+ghost use Rattle.std.specs.List.{All};
 ghost use Rattle.tp_value.specs.declared.limits.TheConstants.{MAX_CALL_DEPTH};
 ghost use Rattle.tp_value.specs.declared.Op.{Op};
 ghost use Rattle.tp_value.specs.declared.Place.{Place};
@@ -9,11 +10,15 @@ ghost use Rattle.tp_value.specs.declared.TrapKind.TheVariants.{Deep};
 ghost use Rattle.loop_rules.specs.Names.{func_of};
 ghost use Rattle.loop_syntax.specs.declared.Name.{Name};
 ghost use Rattle.loop_syntax.specs.declared.App.{App};
+ghost use Rattle.loop_syntax.specs.declared.Expr.{Expr};
 ghost use Rattle.loop_syntax.specs.declared.ParLoop.{ParLoop};
 ghost use Rattle.loop_syntax.specs.declared.Reduce.{Reduce};
 ghost use Rattle.loop_syntax.specs.declared.Stmt as statement;
 ghost use Rattle.loop_syntax.specs.declared.Stmt.TheVariants.{Par, Both};
 ghost use Rattle.loop_meaning.specs.declared.frame.Frame.TheVariants.{Range};
+ghost use Rattle.loop_meaning.specs.declared.value.Answer.TheVariants.{Number};
+ghost use Rattle.loop_meaning.specs.InRange.{InRange, StateInRange, ExprInRange, StmtInRange, FuncInRange};
+ghost use Rattle.loop_meaning.specs.Expressions.{eval};
 ghost use Rattle.loop_meaning.specs.State.{State, Note, Ran, noted, trapped, out_of_fuel};
 ghost use Rattle.loop_meaning.specs.Statements.{given_two, unless_wide, too_wide, run, run_list};
 ghost use Rattle.loop_meaning.specs.Calls.{setting, enter, no_value};
@@ -86,4 +91,14 @@ pub fn calls_reach_the_limit(program: &Program, fuel: u64)
     ensures spent { (depth : ℕ) (rs : List Reduce) (f : List ℕ) (place : Place) (ns : List ℤ) (begin : List Note) (s : State) →
         fuel ≤ s.ticks →
         (setting program.now fuel depth rs).call f place ns begin s ≡ no_value (out_of_fuel (record s { ticks = fuel + 1 })) }
+{}
+
+/// Numbers stay in the range of 64 bits: where the variables, the cells and sizes of the tables, and
+/// the literals are in it, so are the values of expressions, and so are the variables and tables
+/// after a run of statements at any depth, however it stops.
+pub fn numbers_stay_in_range(program: &Program, fuel: u64)
+    ensures values { (s : State) (e : Expr) (n : ℤ) → StateInRange s → ExprInRange e → (eval s.vars s.tables e).answer ≡ Number n → InRange n }
+    ensures runs { (depth : ℕ) (rs : List Reduce) (body : List statement.Stmt) (s : State) →
+        All FuncInRange program.now.funcs.items → All StmtInRange body → StateInRange s →
+        StateInRange (run_list (setting program.now fuel depth rs) body s).state }
 {}
