@@ -130,7 +130,6 @@ fn merged_task(
     requires ticks { IsFuel kept.limit ticks }
     ensures { IfOk result (λ task. task ≡ merging.merged_task (the_target code.now kept.target) (rest_state kept) left right ticks output.items) }
 {
-    let alloc = *output.allocator();
     let registers = merged_registers(
         kept.base,
         renames_of(code, kept.target),
