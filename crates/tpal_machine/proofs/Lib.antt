@@ -32,3 +32,9 @@ pub mod Belonging
 pub mod Given
 -- what a task is bound to
 pub mod Owing
+-- steps that are diverted or not, and what a task owes where none is
+pub mod Undiverted
+-- one lemma for each instruction, over any predicate that goes backwards
+pub mod Kit
+-- a code written by hand, and what it owes
+pub mod Sample

@@ -32,3 +32,7 @@ pub mod Answer
 pub mod Belonging
 -- what a task will end with, whatever is promoted
 pub mod Owes
+-- what a task will end with where no step is diverted
+pub mod Serial
+-- a small code written by hand
+pub mod Sample

@@ -1,10 +1,12 @@
 // Laws of what a task will end with. The functions do nothing: their contracts are the laws, for those
 // who reason about codes.
 
-ghost use Rattle.std.specs.Prelude.{◌≡◌, ℕ, Bool};
+ghost use Rattle.std.specs.Prelude.{◌≡◌, ℕ, Bool, false, []};
 ghost use Rattle.tpal_machine.specs.declared.ends.Ending.{Ending};
 ghost use Rattle.tpal_machine.specs.Owes.{Owes};
-ghost use Rattle.tpal_machine.specs.State.{State};
+ghost use Rattle.tpal_machine.specs.Sample.{two_and_three, prints_five};
+ghost use Rattle.tpal_machine.specs.Serial.{OwesSerially, IsUnmarked};
+ghost use Rattle.tpal_machine.specs.State.{State, first_state};
 
 use tpal_syntax::Code;
 
@@ -13,3 +15,21 @@ use tpal_syntax::Code;
 pub fn one_ending(code: &Code)
     ensures { (heartbeat : ℕ) (due : Bool) (n m : ℕ) (state : State) (e f : Ending) → Owes code.now heartbeat due n state e → Owes code.now heartbeat due m state f → e ≡ f }
 {}
+
+/// A task that owes an ending whatever is promoted owes it where nothing is.
+pub fn owes_serially(code: &Code)
+    ensures { (heartbeat n : ℕ) (state : State) (e : Ending) → Owes code.now heartbeat false n state e → OwesSerially code.now heartbeat n state e }
+{}
+
+/// Where no mark ever stands, a task that owes an ending where nothing is promoted owes it.
+pub fn owes_unmarked(code: &Code)
+    ensures { (heartbeat n : ℕ) (state : State) (e : Ending) → OwesSerially code.now heartbeat n state e → IsUnmarked code.now heartbeat state → Owes code.now heartbeat false n state e }
+{}
+
+/// A code written by hand owes what it prints, at every heartbeat and fuel.
+pub fn sum_owes(code: &Code)
+    requires { code.now ≡ two_and_three }
+    ensures { (heartbeat limit : ℕ) → Owes code.now heartbeat false 0 (first_state [] limit) prints_five }
+{
+    let _blocks = code.blocks();
+}
