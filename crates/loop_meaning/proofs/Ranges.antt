@@ -1,13 +1,15 @@
 -- Numbers stay in the range of 64 bits.
-use Rattle.std.proofs.Common.{◌≡◌, ◌<◌, ◌+◌, ℕ, zero, suc, ℤ, pos, negsuc, ◌+ℤ◌, ◌-ℤ◌, ◌*ℤ◌, List, [], ◌∷◌, Option, Some, None, Bool, true, false, not, cond, nat_lt, length, bytes_eq, get_or, int_div, int_rem, int_lt, int_le, All, refl, sym, subst, arith}
+use Rattle.std.proofs.Common.{◌≡◌, ◌<◌, ◌+◌, ℕ, zero, suc, ℤ, pos, negsuc, ◌+ℤ◌, ◌-ℤ◌, ◌*ℤ◌, List, [], ◌∷◌, Option, Some, None, Bool, true, false, not, cond, ◌||◌, nat_lt, length, bytes_eq, get_or, int_div, int_rem, int_lt, int_le, unsigned_abs, ◌*◌, All, refl, sym, ◌∙◌, subst, arith}
 use Rattle.std.specs.Int.{int_gap, w64}
 use Rattle.std.specs.Ordering.{int_eq}
 use Rattle.std.specs.Prelude.{⊤}
+use Rattle.std.proofs.lemmas.Bool.{true≢false}
 use Rattle.std.proofs.lemmas.Int.{ints, SFits-int_wrap}
 use Rattle.std.proofs.lemmas.List.{get_or_past}
-use Rattle.std.proofs.lemmas.List.Elements.{All-nil, All-cons, All-head, All-tail, All-append, All-take, All-set, All-get_or}
+use Rattle.std.proofs.lemmas.List.Elements.{All-nil, All-cons, All-head, All-tail, All-append, All-take, All-set, All-get_or, All-replicate}
 use native.Mathlib.Decide.{dec_lt}
 use Rattle.tp_value.specs.Number.{truth}
+use Rattle.tp_value.specs.declared.limits.TheConstants.{MAX_TABLE_CELLS}
 use Rattle.tp_value.specs.declared.Place.{Place}
 use Rattle.tp_value.specs.declared.TrapKind.TheVariants.{Deep}
 use Rattle.tp_value.specs.declared.Table.{Table}
@@ -23,6 +25,8 @@ use Rattle.loop_syntax.specs.declared.Reduce.{Reduce}
 use Rattle.loop_syntax.specs.declared.Stmt.{Stmt, Row_of-Stmt, end_of-Stmt, more_of-Stmt}
 use Rattle.loop_syntax.specs.declared.Stmt.TheVariants.{Let, Set, Put, If', While', Loop', Par', Fold, Call, Both, Print, Emit}
 use Rattle.loop_syntax.specs.declared.Func.{Func}
+use Rattle.loop_syntax.specs.declared.TableDecl.{TableDecl}
+use Rattle.loop_syntax.specs.declared.TableDecl.TheVariants.{Input, Made}
 use Rattle.loop_syntax.specs.declared.Program.{Program}
 use Rattle.loop_rules.specs.Names.{func_of, operator_of}
 use Rattle.reduce_ops.specs.Reduction.{combine}
@@ -34,7 +38,8 @@ use Rattle.loop_meaning.specs.State.{lookup, assign, declare, table_of, has_cell
 use Rattle.loop_meaning.specs.Expressions.{Value, eval, bind, bind_answer, read_cell, calculated, divided}
 use Rattle.loop_meaning.specs.Statements.{Setting, Called, given, given_answer, given_two, given_all, set_var, folded, put_cell, choose, block, turns, iteration, iterate, too_wide, unless_wide, with_call, two_calls, run, run_all, run_list}
 use Rattle.loop_meaning.specs.Calls.{bound, number_in, enter, no_value, call_on, call_at, setting}
-use Rattle.loop_meaning.specs.InRange.{InRange, VariableInRange, TableInRange, StateInRange, ExprInRange, StmtInRange, BlockInRange, FuncInRange}
+use Rattle.loop_meaning.specs.Meaning.{input_cells, is_bad_size, is_too_large, zero_table, add_table, unless_large, make_tables, first_state, whole_run}
+use Rattle.loop_meaning.specs.InRange.{InRange, VariableInRange, TableInRange, StateInRange, ExprInRange, StmtInRange, BlockInRange, FuncInRange, DeclInRange, ProgramInRange}
 
 zero_in : InRange (pos 0)
 zero_in = omega (arith, ints)
@@ -381,3 +386,42 @@ holds_call fs l fuel (suc room) f p ns b k =
 pub runs_in_range : (p : Program) (fuel depth : ℕ) (rs : List Reduce) (body : List Stmt) (s : State) → All FuncInRange p.funcs.items → All StmtInRange body → StateInRange s
     → StateInRange (run_list (setting p fuel depth rs) body s).state
 runs_in_range p fuel depth rs body s l m h = (holds_list fuel (call_at p.funcs.items fuel _) (holds_call p.funcs.items l fuel _) rs body m).leaves s h
+
+-- ---- a whole program
+
+or_true : (b c : Bool) → b || true || c ≡ true
+or_true true c = refl
+or_true false c = refl
+
+-- a table of sizes that aren't too large
+made_in : (c : ℕ) (x : Name) (m n : ℤ) → InRange m → InRange n → is_too_large c m n ≡ false → TableInRange (zero_table x m n)
+made_in c x (pos m) (pos n) f g e = record { cells = All-replicate InRange _ (pos 0) zero_in; rows = f; cols = g }
+made_in c x (pos m) (negsuc n) f g e = absurd (true≢false (sym (or_true (is_bad_size (pos m)) (nat_lt MAX_TABLE_CELLS (c + unsigned_abs (pos m) * unsigned_abs (negsuc n)))) ∙ e))
+made_in c x (negsuc m) n f g e = absurd (true≢false e)
+
+holds_large : (b : Bool) (p : Place) (f : State → Ran) → (b ≡ false → Holds f) → Holds (unless_large b p f)
+holds_large true p f q = record { leaves = λ s h. h }
+holds_large false p f q = q refl
+
+-- a run on one table more
+holds_added : (t : Table) (f : State → Ran) → TableInRange t → Holds f → Holds (λ s. f (add_table t s))
+holds_added t f h p = record { leaves = λ s k. p.leaves (add_table t s)
+    (record { vars = k.vars; tables = All-append TableInRange s.tables (t ∷ []) k.tables (All-cons TableInRange t [] h (All-nil TableInRange)) }) }
+
+holds_tables : (ts : List Table) → All TableInRange ts → (c : ℕ) (ds : List TableDecl) → All DeclInRange ds → Holds (make_tables ts c ds)
+holds_tables ts h c [] l = holds_done
+holds_tables ts h c (Input x ∷ ds) l =
+    holds_added (table_of ts x.text.items) (make_tables ts c ds) (table_in ts x.text.items h) (holds_tables ts h c ds (All-tail DeclInRange (Input x) ds l))
+holds_tables ts h c (Made x a b ∷ ds) l =
+    let d : DeclInRange (Made x a b) = All-head DeclInRange (Made x a b) ds l in
+    holds_two a b _ d.0 d.1 (λ m n f g. holds_large (is_too_large c m n) x.place _
+    (λ e. holds_added (zero_table x m n) (make_tables ts (c + unsigned_abs m * unsigned_abs n) ds) (made_in c x m n f g e)
+    (holds_tables ts h (c + unsigned_abs m * unsigned_abs n) ds (All-tail DeclInRange (Made x a b) ds l))))
+
+pub whole_in_range : (p : Program) (ts : List Table) (fuel : ℕ) → ProgramInRange p → All TableInRange ts → StateInRange (whole_run p ts fuel).state
+unfolding whole_run
+whole_in_range p ts fuel l h =
+    (holds_seq (make_tables ts (input_cells p.tables.items ts) p.tables.items) (run_list (setting p fuel 0 []) p.main.items)
+    (holds_tables ts h (input_cells p.tables.items ts) p.tables.items l.tables)
+    (record { leaves = λ s k. runs_in_range p fuel 0 [] p.main.items s l.funcs l.main k })).leaves first_state
+    (record { vars = All-nil VariableInRange; tables = All-nil TableInRange })

@@ -8,6 +8,9 @@ use Rattle.loop_syntax.specs.declared.Expr.TheVariants.{Int, Var, Cell', Rows, C
 use Rattle.loop_syntax.specs.declared.Stmt.{Stmt, Row_of-Stmt, end_of-Stmt, more_of-Stmt}
 use Rattle.loop_syntax.specs.declared.Stmt.TheVariants.{Let, Set, Put, If', While', Loop', Par', Fold, Call, Both, Print, Emit}
 use Rattle.loop_syntax.specs.declared.Func.{Func}
+use Rattle.loop_syntax.specs.declared.TableDecl.{TableDecl}
+use Rattle.loop_syntax.specs.declared.TableDecl.TheVariants.{Input, Made}
+use Rattle.loop_syntax.specs.declared.Program.{Program}
 use Rattle.loop_meaning.specs.declared.value.Variable.{Variable}
 use Rattle.loop_meaning.specs.State.{State}
 
@@ -61,3 +64,12 @@ abbrev mutual
 
 abbrev pub FuncInRange : Func → Type 0
 FuncInRange f = All StmtInRange f.body.items × ExprInRange f.result
+
+abbrev pub DeclInRange : TableDecl → Type 0
+DeclInRange (Input x) = ⊤
+DeclInRange (Made x a b) = ExprInRange a × ExprInRange b
+
+pub record ProgramInRange (p : Program) : Type 0 where
+  pub tables : All DeclInRange p.tables.items
+  pub funcs : All FuncInRange p.funcs.items
+  pub main : All StmtInRange p.main.items

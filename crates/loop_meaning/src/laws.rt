@@ -17,14 +17,14 @@ ghost use Rattle.loop_syntax.specs.declared.Stmt as statement;
 ghost use Rattle.loop_syntax.specs.declared.Stmt.TheVariants.{Par, Both};
 ghost use Rattle.loop_meaning.specs.declared.frame.Frame.TheVariants.{Range};
 ghost use Rattle.loop_meaning.specs.declared.value.Answer.TheVariants.{Number};
-ghost use Rattle.loop_meaning.specs.InRange.{InRange, StateInRange, ExprInRange, StmtInRange, FuncInRange};
+ghost use Rattle.loop_meaning.specs.InRange.{InRange, TableInRange, StateInRange, ExprInRange, StmtInRange, FuncInRange, ProgramInRange};
 ghost use Rattle.loop_meaning.specs.Expressions.{eval};
 ghost use Rattle.loop_meaning.specs.State.{State, Note, Ran, noted, trapped, out_of_fuel};
 ghost use Rattle.loop_meaning.specs.Statements.{given_two, unless_wide, too_wide, run, run_list};
 ghost use Rattle.loop_meaning.specs.Calls.{setting, enter, no_value};
 ghost use Rattle.loop_meaning.specs.Frames.{OfPar, accs_of, run_frame};
 ghost use Rattle.loop_meaning.specs.WholeFrames.{iterations, first_chance, both_by_frame};
-ghost use Rattle.loop_meaning.specs.Meaning.{meaning, chances};
+ghost use Rattle.loop_meaning.specs.Meaning.{meaning, whole_run, chances};
 
 use loop_syntax::Program;
 use tp_value::{Stop, Table};
@@ -95,10 +95,12 @@ pub fn calls_reach_the_limit(program: &Program, fuel: u64)
 
 /// Numbers stay in the range of 64 bits: where the variables, the cells and sizes of the tables, and
 /// the literals are in it, so are the values of expressions, and so are the variables and tables
-/// after a run of statements at any depth, however it stops.
-pub fn numbers_stay_in_range(program: &Program, fuel: u64)
+/// after a run of statements at any depth, however it stops. So are those after a whole program whose
+/// literals are in it, over given tables that are in it.
+pub fn numbers_stay_in_range(program: &Program, tables: &[Table], fuel: u64)
     ensures values { (s : State) (e : Expr) (n : ℤ) → StateInRange s → ExprInRange e → (eval s.vars s.tables e).answer ≡ Number n → InRange n }
     ensures runs { (depth : ℕ) (rs : List Reduce) (body : List statement.Stmt) (s : State) →
         All FuncInRange program.now.funcs.items → All StmtInRange body → StateInRange s →
         StateInRange (run_list (setting program.now fuel depth rs) body s).state }
+    ensures whole { ProgramInRange program.now → All TableInRange tables.now → StateInRange (whole_run program.now tables.now fuel).state }
 {}
