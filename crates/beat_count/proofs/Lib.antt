@@ -1,0 +1,2 @@
+-- instructions counted one at a time and many at once
+pub mod Counts

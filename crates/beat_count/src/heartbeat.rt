@@ -2,6 +2,7 @@
 
 ghost use Rattle.std.specs.Prelude.{◌≡◌};
 ghost use Rattle.beat_count.specs.Heartbeat.{no_beat, counted, is_diverted, entered, taken};
+ghost use Rattle.beat_count.specs.Counting.{counted_times};
 
 use std::marker::Model;
 
@@ -41,6 +42,14 @@ impl Beat {
         ensures { self.new ≡ counted self.old }
     {
         self.count = self.count.saturating_add(1);
+    }
+
+    /// Counts so many instructions, as that many calls of `count_one` do.
+    #[tactic(auto, using(crate::proofs::Counts::counted_times_is))]
+    pub fn count_many(&mut self, instructions: u64)
+        ensures { self.new ≡ counted_times instructions self.old }
+    {
+        self.count = self.count.saturating_add(instructions);
     }
 
     /// Control enters a promotion-ready block: answers whether it is diverted to the block's

@@ -7,7 +7,7 @@ use tp_value::{Place, Stop, TrapKind};
 fn a_beat_diverts_once(rt: HostRuntime) {
     let mut beat = Beat::new();
     beat.count_one();
-    beat.count_one();
+    beat.count_many(1);
     for want in [true, false, false] {
         assert_eq!(rt; beat.enter(2, true, true), want);
     }
