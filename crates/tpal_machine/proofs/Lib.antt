@@ -38,3 +38,5 @@ pub mod Undiverted
 pub mod Kit
 -- a code written by hand, and what it owes
 pub mod Sample
+-- instructions that go on to the next one, counted afterwards
+pub mod Further

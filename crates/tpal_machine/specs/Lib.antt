@@ -28,6 +28,8 @@ pub mod Seen
 pub mod Fit
 -- what the code answers for an effect, a step and a turn
 pub mod Answer
+-- instructions that go on to the next one of their block
+pub mod Passing
 -- what a step, a turn and a merge give belongs to the code
 pub mod Belonging
 -- what a task will end with, whatever is promoted

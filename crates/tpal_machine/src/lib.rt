@@ -20,6 +20,7 @@ mod making;
 mod moves;
 mod output;
 mod parts;
+mod passing;
 mod records;
 mod rest;
 mod stack;

@@ -1,10 +1,11 @@
 // Instructions on the stack and its marks.
 
-ghost use Rattle.std.specs.Prelude.{◌≡◌, ◌<◌, ◌≤ℤ◌, ◌^◌, pos, ℤ};
+ghost use Rattle.std.specs.Prelude.{◌≡◌, ◌<◌, ◌≤ℤ◌, ◌^◌, OnErr, pos, ℤ};
 ghost use Rattle.stack_marks.specs.Causes.{UnmarkCause};
 ghost use Rattle.tpal_machine.specs.Answer.{Gives, GivesOr};
 ghost use Rattle.tpal_machine.specs.Effect as effect;
 ghost use Rattle.tpal_machine.specs.Fit.{IsOperand, stack_fault};
+ghost use Rattle.tpal_machine.specs.Passing.{Does, Stays};
 ghost use Rattle.tpal_machine.specs.Seen.{state_of, Keeps, AreLow};
 ghost use Rattle.tpal_machine.specs.State.{State};
 
@@ -21,6 +22,9 @@ pub(crate) fn load(frame: &mut Frame, to: u8, base: u8, off: u16) -> Result<(), 
     requires to { to < 32 }
     requires base { base < 32 }
     ensures effect { Gives (effect.load to base off (state_of frame.old)) result (state_of frame.new) }
+    ensures anywhere { Does (effect.load to base off) frame.old result frame.new }
+    ensures refused { OnErr result (frame.new ≡ frame.old) }
+    ensures stays { Stays frame.old frame.new }
     ensures kept { Keeps frame.old frame.new }
 {
     let from = number_of(frame.registers[base as usize])?;
@@ -43,6 +47,9 @@ pub(crate) fn store(frame: &mut Frame, base: u8, off: u16, value: Value) -> Resu
     requires base { base < 32 }
     requires value { IsOperand value }
     ensures effect { Gives (effect.store base off value (state_of frame.old)) result (state_of frame.new) }
+    ensures anywhere { Does (effect.store base off value) frame.old result frame.new }
+    ensures refused { OnErr result (frame.new ≡ frame.old) }
+    ensures stays { Stays frame.old frame.new }
     ensures kept { Keeps frame.old frame.new }
 {
     let from = number_of(frame.registers[base as usize])?;
