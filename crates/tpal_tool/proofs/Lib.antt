@@ -2,10 +2,14 @@
 pub mod Appending
 -- a text that is written piece by piece
 pub mod Pieces
--- the instructions of a lowered program
+-- the instructions of a lowered program, and its code
 pub mod Instructions
--- instructions that are executed one after another
+-- positions in the block of a lowered program
 pub mod Execution
+-- a task that was given no join record is given none by its own steps
+pub mod Unrecorded
+-- the steps of a task to its end, and turns of so many steps
+pub mod CountedSteps
 -- what instructions of expressions and prints come to
 pub mod Values
 -- what a program that is built means, and what its code comes to

@@ -1,6 +1,6 @@
--- What a program that is built means, and what its code comes to.
-use Rattle.std.proofs.Common.{◌≡◌, ℕ, suc, ◌+◌, List, [], ◌∷◌, ◌++◌, length, drop, refl, ap, sym, ◌∙◌, arith, append_assoc}
-use Rattle.std.specs.Prelude.{ℤ, All}
+-- What a program that is built means, and what its code owes.
+use Rattle.std.proofs.Common.{◌≡◌, ℕ, suc, List, [], ◌∷◌, ◌++◌, refl, ap, sym, subst, ◌∙◌, arith, append_assoc}
+use Rattle.std.specs.Prelude.{ℤ, All, None, false}
 use Rattle.std.proofs.lemmas.List.{append-nil}
 use Rattle.tp_value.specs.declared.values.Place.{Place}
 use Rattle.tp_value.specs.declared.values.Table.{Table}
@@ -20,15 +20,26 @@ use Rattle.loop_meaning.specs.Expressions.{eval, number, bind}
 use Rattle.loop_meaning.specs.Statements.{Setting, given_answer, run, run_list}
 use Rattle.loop_meaning.specs.Meaning.{meaning, whole_run, make_tables, input_cells, first_state, outcome_of}
 use Rattle.loop_meaning.specs.Calls.{setting}
-use Rattle.small_machine.specs.declared.code.Code.{Code}
-use Rattle.small_machine.specs.State as machine
-use Rattle.small_machine.specs.Step.{turn_of, Ended, calculated}
+use Rattle.tpal_syntax.specs.declared.blocks.Block.{Block}
+use Rattle.tpal_syntax.specs.declared.instructions.Term.TheVariants as terms
+use Rattle.tpal_syntax.specs.Conditions.{IsCode}
+use Rattle.tpal_syntax.specs.Listing.{Listing}
+use Rattle.tpal_machine.specs.declared.ends.Ending.{Ending}
+use Rattle.tpal_machine.specs.declared.ends.Ending.TheVariants as endings
+use Rattle.tpal_machine.specs.declared.ends.Goal.TheVariants as goals
+use Rattle.tpal_machine.specs.Ended.{ended_at}
+use Rattle.tpal_machine.specs.Serial.{BoundSerially, OwesSerially}
+use Rattle.tpal_machine.specs.Serial as serial
+use Rattle.tpal_machine.specs.State as machine
+use Rattle.tpal_machine.specs.Step.{Ends, advanced}
+use Rattle.tpal_machine.proofs.Given.{first_of}
+use Rattle.tpal_machine.proofs.Kit.{owing_serially, halts}
 use Rattle.tpal_tool.specs.Built.{IsBuiltProgram, IsBuiltExpr, IsBuiltOp, IsBuiltStmt}
-use Rattle.tpal_tool.specs.Lowered.{alu_of, lowered_all}
-use Rattle.tpal_tool.proofs.Execution.{turn_of-line, turn_of-end}
-use Rattle.tpal_tool.proofs.Values.{value_of, printed_one, printed, Prints, lowered_all-prints}
+use Rattle.tpal_tool.specs.Lowered.{alu_of, lowered_all, lowered_block, lowered_code}
+use Rattle.tpal_tool.proofs.Execution.{slice_get-end}
+use Rattle.tpal_tool.proofs.Values.{result_of, value_of, printed_one, printed, Printed, IsBefore, lowered_all-prints}
 
-calculated-is : (o : BinOp) (place : Place) (m n : ℤ) → IsBuiltOp o → meaning_of.calculated o place m n ≡ number (calculated (alu_of o) m n)
+calculated-is : (o : BinOp) (place : Place) (m n : ℤ) → IsBuiltOp o → meaning_of.calculated o place m n ≡ number (result_of (alu_of o) m n)
 calculated-is op.Add place m n built = refl
 calculated-is op.Mul place m n built = refl
 calculated-is op.Sub place m n built = elim built [ ]
@@ -90,14 +101,38 @@ meaning-is p ts fuel built =
     ap (λ ds. outcome_of (after (make_tables ts (input_cells p.tables.items ts) ds first_state) (run_list (setting p fuel 0 []) p.main.items))) built.no_tables
     ∙ ap outcome_of (run_list-is (setting p fuel 0 []) p.main.items first_state built.prints)
 
--- the code of a program that is built comes to its meaning
-pub lowered_all-means : (p : Program) (code : Code) (ts : List Table) (fuel : ℕ) → IsBuiltProgram p → code.body ≡ lowered_all p.main.items → turn_of (length code.body + 1) code machine.first_state ≡ Ended (meaning p ts fuel)
-lowered_all-means p code ts fuel built is =
-    let prints : Prints (lowered_all p.main.items) machine.first_state (printed p.main.items) = lowered_all-prints p.main.items built.prints machine.first_state refl in
-    let whole : drop 0 code.body ≡ lowered_all p.main.items ++ [] = is ∙ sym (append-nil (lowered_all p.main.items)) in
-    let ran : (turn_of (length (lowered_all p.main.items) + 1) code machine.first_state ≡ turn_of 1 code prints.end) × (drop prints.end.at code.body ≡ []) = turn_of-line code [] 1 prints.line whole in
-    ap (λ list. turn_of (length list + 1) code machine.first_state) is
-    ∙ ran.0
-    ∙ turn_of-end code prints.end ran.1
-    ∙ ap (λ out. Ended (record { stop = Done; output = out; ticks = 0 })) prints.output
-    ∙ ap Ended (sym (meaning-is p ts fuel built))
+-- at the end of the block, the run ends with what was printed
+ends_here : (code : Listing) (heartbeat : ℕ) (block : Block) (first s : machine.State) (text : List ℕ) → block.term ≡ terms.Halt → first.goal ≡ goals.Root → first.pending ≡ None → first.output ≡ [] → first.fuel.ticks ≡ 0 → Printed first s text → IsBefore code block s [] → BoundSerially code heartbeat 0 s (endings.Root (record { stop = Done; output = text; ticks = 0 }))
+ends_here code heartbeat block first s text halt root none empty start trace at =
+    let goal : s.goal ≡ goals.Root = ap (λ t. t.goal) trace.same ∙ root in
+    let pending : s.pending ≡ None = ap (λ t. t.pending) trace.same ∙ none in
+    let output : s.output ≡ text = ap (λ t. t.output) trace.same ∙ ap (λ out. out ++ text) empty in
+    let ticks : s.fuel.ticks ≡ 0 = ap (λ t. t.fuel.ticks) trace.same ∙ start in
+    serial.ends s _
+    (halts code heartbeat s (record { block = block; found = at.found; none = slice_get-end block.body s.at at.here; is = halt }) goal pending false
+    ∙ ap (λ g. Ends (ended_at g code Done (advanced s))) goal
+    ∙ ap (λ out. Ends (endings.Root (record { stop = Done; output = out; ticks = s.fuel.ticks }))) output
+    ∙ ap (λ n. Ends (endings.Root (record { stop = Done; output = text; ticks = n }))) ticks)
+
+-- the code of a program that is built owes its meaning, for every fuel, where no step is diverted
+pub lowered-owes : (p : Program) (ts : List Table) (fuel heartbeat : ℕ) → IsBuiltProgram p → IsCode (lowered_code p).tables (lowered_code p).blocks → OwesSerially (lowered_code p) heartbeat 0 (machine.first_state [] fuel) (endings.Root (meaning p ts fuel))
+lowered-owes p ts fuel heartbeat built right =
+    let code : Listing = lowered_code p in
+    let e : Ending = endings.Root (prints_outcome p.main.items) in
+    let bound : BoundSerially code heartbeat 0 (machine.first_state [] fuel) e =
+    lowered_all-prints code heartbeat (lowered_block p) (owing_serially code heartbeat 0 e) p.main.items built.prints (machine.first_state [] fuel) []
+    (record { found = refl; here = sym (append-nil (lowered_all p.main.items)) }) refl
+    (λ s trace at. ends_here code heartbeat (lowered_block p) (machine.first_state [] fuel) s (printed p.main.items) refl refl refl refl refl trace at) in
+    record {
+      belongs = (first_of code [] fuel right refl).belongs;
+      waits_not = refl;
+      bound = subst (λ (o : Outcome). BoundSerially code heartbeat 0 (machine.first_state [] fuel) (endings.Root o)) (sym (meaning-is p ts fuel built)) bound;
+    }
+
+-- the same of a code and a task that are those
+pub code-owes : (p : Program) (ts : List Table) (fuel heartbeat : ℕ) (code : Listing) (task : machine.State) → IsBuiltProgram p → code ≡ lowered_code p → IsCode code.tables code.blocks → task ≡ machine.first_state [] fuel → OwesSerially code heartbeat 0 task (endings.Root (meaning p ts fuel))
+code-owes p ts fuel heartbeat code task built is right first =
+    let right_too : IsCode (lowered_code p).tables (lowered_code p).blocks = subst (λ (c : Listing). IsCode c.tables c.blocks) is right in
+    let owes : OwesSerially (lowered_code p) heartbeat 0 (machine.first_state [] fuel) (endings.Root (meaning p ts fuel)) = lowered-owes p ts fuel heartbeat built right_too in
+    subst (λ (c : Listing). OwesSerially c heartbeat 0 task (endings.Root (meaning p ts fuel))) (sym is)
+    (subst (λ (t : machine.State). OwesSerially (lowered_code p) heartbeat 0 t (endings.Root (meaning p ts fuel))) (sym first) owes)

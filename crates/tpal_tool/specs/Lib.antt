@@ -7,6 +7,8 @@ pub mod Sink
 pub mod Built
 -- the instructions that a program becomes
 pub mod Lowered
+-- the number of steps after which a task ends
+pub mod Steps
 -- the words of a call
 pub mod Words
 -- the lines of refusals

@@ -17,6 +17,7 @@ mod shelf;
 mod shelves;
 mod sink;
 mod sinks;
+mod solo;
 mod standard_output;
 mod status;
 mod tool;

@@ -1,15 +1,16 @@
-// From a tree to instructions.
+// From a tree to code.
 
-ghost use Rattle.std.specs.Prelude.{◌≡◌, ◌≤◌, ◌<◌, ◌+◌, ◌++◌, ◌∷◌, [], OnOk, IfOk, All, length, ◌^◌};
-ghost use Rattle.small_machine.specs.Code.{IsCode};
-ghost use Rattle.small_machine.specs.declared.code.Instr.TheVariants as instrs;
+ghost use Rattle.std.specs.Prelude.{◌≡◌, ◌≤◌, ◌<◌, ◌+◌, ◌++◌, ◌∷◌, [], OnOk, IfOk, All, IsTrue};
+ghost use Rattle.tpal_syntax.specs.declared.instructions.Instr.TheVariants as instrs;
+ghost use Rattle.tpal_syntax.specs.Conditions.{IsCode};
+ghost use Rattle.tpal_syntax.specs.Parts.{is_register, is_value};
 ghost use Rattle.tpal_tool.specs.Built.{height, IsBuiltOp, IsBuiltExpr, IsBuiltStmt, IsBuiltProgram};
-ghost use Rattle.tpal_tool.specs.Lowered.{alu_of, literal_of, lowered, lowered_stmt, lowered_all};
+ghost use Rattle.tpal_tool.specs.Lowered.{alu_of, literal_of, lowered, lowered_stmt, lowered_all, lowered_code, AreFit};
 
 use loop_syntax::{BinOp, Expr, Program, Stmt};
-use small_machine::{Alu, Code, Instr, Value};
 use std::alloc::Global;
 use tp_value::{Items, NoMemory};
+use tpal_syntax::{Alu, Block, Code, Instr, Note, Term, Value};
 
 fn alu_of(op: BinOp) -> Alu
     requires { IsBuiltOp op }
@@ -45,7 +46,10 @@ fn literal_of(e: &Expr) -> Option<i64>
 }
 
 fn calculate(to: u8, alu: Alu, right: Value, body: &mut Vec<Instr>) -> Result<(), NoMemory>
-    ensures { OnOk result (body.new.items ≡ body.old.items ++ instrs.Calc to to alu right ∷ []) }
+    requires register { IsTrue (is_register to) }
+    requires value { IsTrue (is_value 1 right) }
+    ensures appended { OnOk result (body.new.items ≡ body.old.items ++ instrs.Calc to to alu right ∷ []) }
+    ensures fit { OnOk result (AreFit body.old.items → AreFit body.new.items) }
 {
     body.push(Instr::Calc {
         to,
@@ -60,7 +64,8 @@ fn calculate(to: u8, alu: Alu, right: Value, body: &mut Vec<Instr>) -> Result<()
 fn lower_expr(e: &Expr, to: u8, body: &mut Vec<Instr>) -> Result<(), NoMemory>
     requires built { IsBuiltExpr e.now }
     requires registers { to + height e.now ≤ 24 }
-    ensures { OnOk result (body.new.items ≡ body.old.items ++ lowered e.now to) }
+    ensures lowered { OnOk result (body.new.items ≡ body.old.items ++ lowered e.now to) }
+    ensures fit { OnOk result (AreFit body.old.items → AreFit body.new.items) }
 {
     match e {
         Expr::Int(n, _) => {
@@ -89,7 +94,8 @@ fn lower_expr(e: &Expr, to: u8, body: &mut Vec<Instr>) -> Result<(), NoMemory>
 
 fn lower_stmt(statement: &Stmt, body: &mut Vec<Instr>) -> Result<(), NoMemory>
     requires built { IsBuiltStmt statement.now }
-    ensures { OnOk result (body.new.items ≡ body.old.items ++ lowered_stmt statement.now) }
+    ensures lowered { OnOk result (body.new.items ≡ body.old.items ++ lowered_stmt statement.now) }
+    ensures fit { OnOk result (AreFit body.old.items → AreFit body.new.items) }
 {
     match statement {
         Stmt::Print(_, e) => {
@@ -111,21 +117,36 @@ fn lower_stmt(statement: &Stmt, body: &mut Vec<Instr>) -> Result<(), NoMemory>
     }
 }
 
-/// The code of a program that is built: its prints in order.
-pub fn lower(alloc: Global, program: &Program) -> Result<Code, NoMemory>
-    requires built { IsBuiltProgram program.now }
-    ensures lowered { IfOk result (λ code. code.body ≡ lowered_all program.now.main.items) }
-    ensures code { IfOk result IsCode }
-    ensures short { IfOk result (λ code. length code.body + 1 < 2 ^ 32) }
+/// The instructions of statements, in order.
+fn lower_stmts(alloc: Global, statements: &[Stmt]) -> Result<Vec<Instr>, NoMemory>
+    requires built { All IsBuiltStmt statements.now }
+    ensures lowered { IfOk result (λ body. body.items ≡ lowered_all statements.now) }
+    ensures fit { IfOk result (λ body. AreFit body.items) }
 {
     let mut body = Vec::new(alloc);
-    for statement in &program.main {
+    for statement in statements {
         lower_stmt(statement, &mut body)?;
     }
-    if body.len() >= u32::MAX as usize {
-        return Err(NoMemory);
-    }
-    Ok(Code {
+    Ok(body)
+}
+
+/// The code of a program that is built: one block, with its prints in order.
+pub fn lower(alloc: Global, program: &Program) -> Result<Code, NoMemory>
+    requires built { IsBuiltProgram program.now }
+    ensures lowered { IfOk result (λ code. code ≡ lowered_code program.now) }
+    ensures right { IfOk result (λ code. IsCode code.tables code.blocks) }
+{
+    let body = lower_stmts(alloc, &program.main)?;
+    let name = Vec::from_slice(alloc, b"main")?;
+    let mut blocks = Vec::new(alloc);
+    blocks.push(Block {
+        name: Items::new(name),
+        note: Note::Plain,
         body: Items::new(body),
-    })
+        term: Term::Halt,
+    })?;
+    match Code::new(alloc, Vec::new(alloc), blocks)? {
+        Some(code) => Ok(code),
+        None => unreachable!(),
+    }
 }

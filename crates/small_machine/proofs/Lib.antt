@@ -1,2 +1,0 @@
--- one step of a turn at a time
-pub mod Turns
