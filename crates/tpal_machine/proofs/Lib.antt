@@ -32,6 +32,8 @@ pub mod Belonging
 pub mod Given
 -- what a task is bound to
 pub mod Owing
+-- what a task owes, and what it owes within a number of steps
+pub mod Within
 -- steps that are diverted or not, and what a task owes where none is
 pub mod Undiverted
 -- one lemma for each instruction, over any predicate that goes backwards

@@ -34,6 +34,8 @@ pub mod Passing
 pub mod Belonging
 -- what a task will end with, whatever is promoted
 pub mod Owes
+-- what a task will end with, whatever is promoted, told within a number of steps
+pub mod Within
 -- what a task will end with where no step is diverted
 pub mod Serial
 -- a small code written by hand

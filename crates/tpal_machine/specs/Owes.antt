@@ -1,5 +1,5 @@
 -- What a task will end with, whatever is promoted.
-use Rattle.std.specs.Prelude.{◌≡◌, ◌≢◌, ℕ, ◌+◌, ◌≤◌, Bool, true, false, ◌&&◌, ◌==◌, if◌then◌else◌, Option, None, Some}
+use Rattle.std.specs.Prelude.{◌≡◌, ◌≢◌, ℕ, ◌+◌, ◌≤◌, ◌<◌, ◌^◌, Bool, true, false, ◌&&◌, ◌==◌, if◌then◌else◌, Option, None, Some}
 use Rattle.tpal_syntax.specs.Listing.{Listing}
 use Rattle.tpal_syntax.specs.Conditions.{is_ready}
 use Rattle.tpal_machine.specs.declared.ends.Ending.{Ending}
@@ -25,11 +25,15 @@ is_at_point code state = state.at == 0 && is_ready (note_of (block_at code state
 abbrev pub points : Listing → State → ℕ
 points code after = if is_at_point code after then 1 else 0
 
+-- the number of a join record, other than that at which a task ends
+abbrev pub IsOtherRecord : Goal → ℕ → Type 0
+IsOtherRecord goal.Root k = k < 2 ^ 32
+IsOtherRecord (goal.At rec side target) k = (k < 2 ^ 32) × (k ≢ rec)
+
 -- an answer to a task that asked for a join record: none, or a record that isn't the one at which it ends
 abbrev pub IsAnswer : Goal → Option ℕ → Type 0
 IsAnswer g None = Unit {0}
-IsAnswer goal.Root (Some k) = Unit {0}
-IsAnswer (goal.At rec side target) (Some k) = k ≢ rec
+IsAnswer g (Some k) = IsOtherRecord g k
 
 -- A task is bound to an ending, with `due` where a beat came for which no record was asked yet, and with a
 -- least number of promotion points that it enters as long as it isn't diverted: whichever of its steps are

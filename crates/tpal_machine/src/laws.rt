@@ -7,6 +7,7 @@ ghost use Rattle.tpal_machine.specs.Owes.{Owes};
 ghost use Rattle.tpal_machine.specs.Sample.{two_and_three, prints_five};
 ghost use Rattle.tpal_machine.specs.Serial.{OwesSerially, IsUnmarked};
 ghost use Rattle.tpal_machine.specs.State.{State, first_state};
+ghost use Rattle.tpal_machine.specs.Within.{OwesInSteps};
 
 use tpal_syntax::Code;
 
@@ -15,6 +16,14 @@ use tpal_syntax::Code;
 pub fn one_ending(code: &Code)
     ensures { (heartbeat : ℕ) (due : Bool) (n m : ℕ) (state : State) (e f : Ending) → Owes code.now heartbeat due n state e → Owes code.now heartbeat due m state f → e ≡ f }
 {}
+
+/// A task owes an ending exactly where it owes it within some number of steps.
+pub fn owes_in_steps(code: &Code)
+    ensures within { (heartbeat : ℕ) (due : Bool) (n : ℕ) (state : State) (e : Ending) → Owes code.now heartbeat due n state e → OwesInSteps code.now heartbeat due state e }
+    ensures owes { (heartbeat : ℕ) (due : Bool) (state : State) (e : Ending) → OwesInSteps code.now heartbeat due state e → Owes code.now heartbeat due 0 state e }
+{
+    let _blocks = code.blocks();
+}
 
 /// A task that owes an ending whatever is promoted owes it where nothing is.
 pub fn owes_serially(code: &Code)
