@@ -85,7 +85,8 @@ fn are_carries(tables: u8, items: &[CarryAt]) -> bool
     items.iter().all(|item| is_carry(tables, *item))
 }
 
-fn is_target(tables: u8, blocks: u32, target: &Target) -> bool
+/// Whether a join target is one of a code with so many tables and blocks.
+pub fn is_target(tables: u8, blocks: u32, target: &Target) -> bool
     ensures { IsTrue result ↔ IsTarget tables blocks target.now }
 {
     let renames = target.renames.items();

@@ -16,8 +16,10 @@ mod words;
 
 pub use blocks::{Block, CodeTable};
 pub use codes::Code;
+pub use conditions::is_target;
 pub use instructions::{Alu, Instr, Term, Value};
 pub use notes::{CarryAt, CutKind, Note, Target};
+pub use parts::{is_instr, is_term};
 pub use sites::{CallSite, LoopSite};
 pub use words::Word;
 
