@@ -2,6 +2,7 @@
 use Rattle.std.proofs.Common.{◌≡◌, ℕ, zero, suc, ◌≤◌, Bool, true, eqb, ltb, ◌&&◌, List, [], ◌∷◌, ◌++◌, length, map, Some, None, refl, sym, ap, subst, ◌∙◌, append_assoc, arith}
 use Rattle.std.specs.Prelude.{codes, not}
 use Rattle.std.specs.List.{AllByRecursion, flat_map, list_all, join_by}
+use Rattle.std.specs.Cmp.Derive.{both_true}
 use Rattle.std.specs.Fmt.{decimal}
 use Rattle.std.proofs.lemmas.List.Concat.{flat_map-cons}
 use Rattle.tpal_syntax.specs.declared.notes.CarryAt.{CarryAt}
@@ -53,32 +54,41 @@ next_rename p = codes ", " ++ rename_text p
 renamed_register : (r : ℕ) → is_renamed r ≡ true → is_register r ≡ true
 renamed_register r ok = and_left (is_register r) (not (eqb r 30)) (and_left (is_register r && not (eqb r 30)) (not (eqb r 31)) ok)
 
-abbrev both_renamed : ℕ × ℕ → Bool
-both_renamed p = is_renamed p.0 && is_renamed p.1
+abbrev pub both_registers : ℕ × ℕ → Bool
+both_registers p = is_register p.0 && is_register p.1
 
-renames_all : (ps : List (ℕ × ℕ)) → list_all both_renamed ps ≡ true → AllByRecursion (Comes next_rename_at next_rename (λ x. x) Stops) ps
+renames_all : (ps : List (ℕ × ℕ)) → list_all both_registers ps ≡ true → AllByRecursion (Comes next_rename_at next_rename (λ x. x) Stops) ps
 renames_all [] ok = tt
 renames_all (p ∷ ps) ok =
-    let here = and_left (both_renamed p) (list_all both_renamed ps) ok in (
+    let here = and_left (both_registers p) (list_all both_registers ps) ok in (
       record {
-        comes = λ rest s. rename_comes p rest (renamed_register p.0 (and_left (is_renamed p.0) (is_renamed p.1) here)) (renamed_register p.1 (and_right (is_renamed p.0) (is_renamed p.1) here)) s;
+        comes = λ rest s. rename_comes p rest (and_left (is_register p.0) (is_register p.1) here) (and_right (is_register p.0) (is_register p.1) here) s;
         keeps = λ rest s. refl;
       },
-      renames_all ps (and_right (both_renamed p) (list_all both_renamed ps) ok),
+      renames_all ps (and_right (both_registers p) (list_all both_registers ps) ok),
     )
 
-pub renames_come : (n : ℕ) (ps : List (ℕ × ℕ)) (rest : List ℕ) → list_all both_renamed ps ≡ true → length ps ≤ n → renames_at n (join_by rename_text (codes ", ") ps ++ (125 ∷ rest)) ≡ Some (ps, rest)
+pub renames_come : (n : ℕ) (ps : List (ℕ × ℕ)) (rest : List ℕ) → list_all both_registers ps ≡ true → length ps ≤ n → renames_at n (join_by rename_text (codes ", ") ps ++ (125 ∷ rest)) ≡ Some (ps, rest)
 unfolding renames_at
 renames_come n [] rest ok fits = refl
 renames_come n (p ∷ ps) rest ok fits =
     let end = 125 ∷ rest in
     let tail = flat_map next_rename ps in
-    let here = and_left (both_renamed p) (list_all both_renamed ps) ok in
-    let all = renames_all ps (and_right (both_renamed p) (list_all both_renamed ps) ok) in
+    let here = and_left (both_registers p) (list_all both_registers ps) ok in
+    let all = renames_all ps (and_right (both_registers p) (list_all both_registers ps) ok) in
     let first : rename_at ((rename_text p ++ tail) ++ end) ≡ Some (p, tail ++ end) =
-    ap rename_at (append_assoc (rename_text p) tail end) ∙ rename_comes p (tail ++ end) (renamed_register p.0 (and_left (is_renamed p.0) (is_renamed p.1) here)) (renamed_register p.1 (and_right (is_renamed p.0) (is_renamed p.1) here)) (flat_keeps next_rename_at next_rename (λ x. x) Stops ps end all refl) in
+    ap rename_at (append_assoc (rename_text p) tail end) ∙ rename_comes p (tail ++ end) (and_left (is_register p.0) (is_register p.1) here) (and_right (is_register p.0) (is_register p.1) here) (flat_keeps next_rename_at next_rename (λ x. x) Stops ps end all refl) in
     let others : many n next_rename_at (tail ++ end) ≡ Some (ps, end) = many_come next_rename_at next_rename (λ x. x) Stops n ps end all refl refl (omega arith) ∙ ap (λ (qs : List (ℕ × ℕ)). Some (qs, end)) (map_same ps) in
     rw (first, others) refl
+
+-- a renaming names registers
+pub renamed_registers : (ps : List (ℕ × ℕ)) → list_all (λ p. is_renamed p.0 && is_renamed p.1) ps ≡ true → list_all both_registers ps ≡ true
+renamed_registers [] ok = refl
+renamed_registers (p ∷ ps) ok =
+    let here = and_left (is_renamed p.0 && is_renamed p.1) (list_all (λ q. is_renamed q.0 && is_renamed q.1) ps) ok in
+    both_true
+    (both_true (renamed_register p.0 (and_left (is_renamed p.0) (is_renamed p.1) here)) (renamed_register p.1 (and_right (is_renamed p.0) (is_renamed p.1) here)))
+    (renamed_registers ps (and_right (is_renamed p.0 && is_renamed p.1) (list_all (λ q. is_renamed q.0 && is_renamed q.1) ps) ok))
 
 -- ---- carries
 

@@ -81,7 +81,7 @@ relabel_value_same h blocks (Int z) same ok = refl
 relabel_value_same h blocks (Label l) same ok = ap (λ (x : ℕ). Label x) (same l ok)
 relabel_value_same h blocks Nil same ok = refl
 
-relabel_same : (h : ℕ → ℕ) (tables blocks : ℕ) (i : Instr) → ((l : ℕ) → ltb l blocks ≡ true → h l ≡ l) → is_instr tables blocks i ≡ true → relabel h i ≡ i
+pub relabel_same : (h : ℕ → ℕ) (tables blocks : ℕ) (i : Instr) → ((l : ℕ) → ltb l blocks ≡ true → h l ≡ l) → is_instr tables blocks i ≡ true → relabel h i ≡ i
 relabel_same h tables blocks (Calc to left op right) same ok = ap (λ (x : Value). Calc to left op x) (relabel_value_same h blocks right same (and_right ((is_register to && is_register left)) (is_value blocks right) ok))
 relabel_same h tables blocks (Move to value) same ok = ap (λ (x : Value). Move to x) (relabel_value_same h blocks value same (and_right (is_register to) (is_value blocks value) ok))
 relabel_same h tables blocks (IfJump test label) same ok = ap (λ (x : ℕ). IfJump test x) (same label (and_right (is_register test) (ltb label blocks) ok))
@@ -112,7 +112,7 @@ relabel_all_same h tables blocks (i ∷ is) same ok =
     ap (λ (j : Instr). j ∷ map (relabel h) is) (relabel_same h tables blocks i same (and_left (is_instr tables blocks i) (list_all (is_instr tables blocks) is) ok))
     ∙ ap (λ (js : List Instr). i ∷ js) (relabel_all_same h tables blocks is same (and_right (is_instr tables blocks i) (list_all (is_instr tables blocks) is) ok))
 
-relabel_term_same : (h : ℕ → ℕ) (blocks : ℕ) (t : Term) → ((l : ℕ) → ltb l blocks ≡ true → h l ≡ l) → is_term blocks t ≡ true → relabel_term h t ≡ t
+pub relabel_term_same : (h : ℕ → ℕ) (blocks : ℕ) (t : Term) → ((l : ℕ) → ltb l blocks ≡ true → h l ≡ l) → is_term blocks t ≡ true → relabel_term h t ≡ t
 relabel_term_same h blocks (Jump value) same ok = ap (λ (v : Value). Jump v) (relabel_value_same h blocks value same ok)
 relabel_term_same h blocks Halt same ok = refl
 relabel_term_same h blocks (Join r) same ok = refl
@@ -180,7 +180,7 @@ no_block : (f : List ℕ → ℕ) (n : ℕ) → block_at f n [] ≡ None
 unfolding word_at
 no_block f n = refl
 
-word_rest : (name : List ℕ) → is_word name ≡ true → list_all is_word_byte name ≡ true
+pub word_rest : (name : List ℕ) → is_word name ≡ true → list_all is_word_byte name ≡ true
 word_rest [] ok = refl
 word_rest (b ∷ name) ok =
     ap (λ (x : Bool). (x || (leb 48 b && leb b 57)) && list_all is_word_byte name) (and_left (is_letter b) (list_all is_word_byte name) ok)

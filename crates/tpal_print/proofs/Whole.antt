@@ -18,16 +18,16 @@ use Rattle.tpal_syntax.specs.Text.{◌+++◌, line, policy_text, kind_text, rena
 use Rattle.tpal_print.proofs.Reading.{word_at, many, policy_at, renames_at, kind_at, note_at, instr_line_at, term_line_at, block_at, relabel, relabel_term, relabel_note, relabel_block}
 use Rattle.tpal_print.proofs.Pieces.{Words, and_left, and_right, below, word_comes}
 use Rattle.tpal_print.proofs.Lines.{instr_comes, term_comes, term_is_no_instr}
-use Rattle.tpal_print.proofs.Notes.{Comes, many_come, renames_come, carries_come}
+use Rattle.tpal_print.proofs.Notes.{Comes, many_come, renames_come, renamed_registers, carries_come}
 
 -- ---- notes
 
-policy_mid : (comm : Bool) (tail rest : List ℕ) → policy_at ((policy_text comm ++ (codes "; {" ++ tail)) ++ rest) ≡ Some (comm, tail ++ rest)
+pub policy_mid : (comm : Bool) (tail rest : List ℕ) → policy_at ((policy_text comm ++ (codes "; {" ++ tail)) ++ rest) ≡ Some (comm, tail ++ rest)
 unfolding policy_at
 policy_mid false tail rest = refl
 policy_mid true tail rest = refl
 
-kind_mid : (kind : CutKind) (tail rest : List ℕ) → kind_at ((kind_text kind ++ (codes "; carry " ++ tail)) ++ rest) ≡ Some (kind, tail ++ rest)
+pub kind_mid : (kind : CutKind) (tail rest : List ℕ) → kind_at ((kind_text kind ++ (codes "; carry " ++ tail)) ++ rest) ≡ Some (kind, tail ++ rest)
 unfolding kind_at
 kind_mid cut.Loop tail rest = refl
 kind_mid cut.Call tail rest = refl
@@ -54,7 +54,7 @@ target_comes f names tables blocks n t more words few ok short_renames short_car
     let behind_name = codes "; " ++ (kind_text t.kind ++ (codes "; carry " ++ behind_kind)) in
     let behind_list = codes "}; @" ++ (name ++ behind_name) in
     let renames : renames_at n ((list ++ behind_list) ++ rest) ≡ Some (t.renames, codes "; @" ++ ((name ++ behind_name) ++ rest)) =
-    ap (renames_at n) (append_assoc list behind_list rest) ∙ renames_come n t.renames (codes "; @" ++ ((name ++ behind_name) ++ rest)) ok.registers short_renames in
+    ap (renames_at n) (append_assoc list behind_list rest) ∙ renames_come n t.renames (codes "; @" ++ ((name ++ behind_name) ++ rest)) (renamed_registers t.renames ok.registers) short_renames in
     let word : word_at ((name ++ behind_name) ++ rest) ≡ Some (name, behind_name ++ rest) =
     ap word_at (append_assoc name behind_name rest) ∙ word_comes name (behind_name ++ rest) (words t.comb (lt-ltb t.comb blocks ok.comb_is_block)) refl in
     rw (policy_mid t.comm (list ++ behind_list) rest, renames, word, kind_mid t.kind behind_kind rest, carries_come tables n t.carries more few ok.carries short_carries) refl
