@@ -1,0 +1,21 @@
+use Rattle.std.proofs.Common.{arith}
+use Rattle.tpal_asm.specs.Labels.{heads}
+use Rattle.tpal_asm.proofs.Adding.{with_known, with_new, words_after, few_after}
+use Rattle.tpal_asm.proofs.labels.Labels.add.Goals as goal
+
+pub invariant_of-self : goal.invariant_of-self
+invariant_of-self c =
+    let m = c.args.self.now.places in
+    record {
+      few = few_after c.insert.result m.entries c.insert.new.self.entries c.requires.room c.insert.ensures.len c.insert.ensures.err;
+      words = words_after c.insert.result c.args.name c.args.is_ready m.entries c.insert.new.self.entries c.args.self.now.words c.requires.word (omega (arith, c.place.ensures, c.count.ensures, c.if-place-count.true)) c.insert.ensures.entries c.insert.ensures.err;
+    }
+
+pub returns-in_ok-insert : goal.returns-in_ok-insert
+returns-in_ok-insert c =
+    let m = c.args.self.now.places in
+    record { added = with_new c.args.name c.args.is_ready m.entries c.insert.new.self.entries (omega (arith, c.place.ensures, c.count.ensures, c.if-place-count.true)) c.in_ok-insert.ensures.entries }
+
+pub returns-else-place-count : goal.returns-else-place-count
+returns-else-place-count c =
+    record { added = with_known (heads c.args.self.now.places) c.args.name.now c.args.is_ready (omega (arith, c.place.ensures, c.count.ensures, c.if-place-count.false)) }

@@ -1,0 +1,66 @@
+-- The first fault of a text.
+use Rattle.std.specs.Prelude.{◌≡◌, ℕ, ◌+◌, List, [], ◌∷◌, ◌++◌, length}
+use Rattle.tpal_asm.specs.declared.fault.AsmFault.{AsmFault}
+use Rattle.tpal_asm.specs.declared.fault.AsmFault.TheVariants.{Form, Label, Limit, NoMemory}
+use Rattle.tpal_asm.specs.declared.fault.Wrong.{Wrong}
+use Rattle.tpal_asm.specs.declared.fault.Wrong.TheVariants as wrongs
+use Rattle.tpal_asm.specs.Lines.{pieces}
+use Rattle.tpal_asm.specs.Labels.{Head, names_of}
+use Rattle.tpal_asm.specs.Stages.{AreWords, AreHeads, Stage, Says, IsNewName, IsWithin, Leads, first_stage, IsWhole}
+
+-- the line is of the grammar and breaks no condition, but perhaps those on labels and limits: under some names it says something
+pub record IsFormed (heads : List Head) (stage : Stage) (bytes : List ℕ) : Type 0 where
+  pub names : List (List ℕ)
+  pub next : Stage
+  pub words : AreWords names
+  pub says : Says heads names stage bytes next
+
+-- also its labels are names of blocks, and the name that it gives a block is new
+pub record IsLabelled (heads : List Head) (stage : Stage) (bytes : List ℕ) : Type 0 where
+  pub next : Stage
+  pub says : Says heads (names_of heads) stage bytes next
+  pub new : IsNewName next
+
+-- also it is within the limits
+pub record IsRight (heads : List Head) (stage : Stage) (bytes : List ℕ) : Type 0 where
+  pub next : Stage
+  pub says : Says heads (names_of heads) stage bytes next
+  pub new : IsNewName next
+  pub within : IsWithin next
+
+-- what is wrong with a line behind a stage: the first of these tests that it fails
+abbrev pub IsWrong : List Head → Stage → List ℕ → Wrong → Type 0
+IsWrong heads stage bytes wrongs.Form = ¬ IsFormed heads stage bytes
+IsWrong heads stage bytes wrongs.Label = IsFormed heads stage bytes × (¬ IsLabelled heads stage bytes)
+IsWrong heads stage bytes wrongs.Limit = IsLabelled heads stage bytes × (¬ IsRight heads stage bytes)
+IsWrong heads stage bytes wrongs.NoMemory = ⊥
+
+-- the fault of the line of this number with that wrong
+abbrev pub fault_at : Wrong → ℕ → AsmFault
+fault_at wrongs.Form line = Form line
+fault_at wrongs.Label line = Label line
+fault_at wrongs.Limit line = Limit line
+fault_at wrongs.NoMemory line = NoMemory
+
+-- The first fault of a text: at a line behind right ones, or where the last line or its end is missing. Lines count from 1.
+pub data FirstFault (text : List ℕ) : AsmFault → Type 0 where
+  at_line : (heads : List Head) (before behind : List (List ℕ)) (bytes last : List ℕ) (stage : Stage) (wrong : Wrong) →
+      pieces text ≡ (before ++ bytes ∷ behind) ++ last ∷ [] → AreHeads [] (before ++ bytes ∷ behind) heads →
+      Leads heads first_stage before stage → IsWrong heads stage bytes wrong → FirstFault text (fault_at wrong (length before + 1))
+  at_end : (heads : List Head) (lines : List (List ℕ)) (last : List ℕ) (stage : Stage) →
+      pieces text ≡ lines ++ last ∷ [] → AreHeads [] lines heads → Leads heads first_stage lines stage → (¬ ((last ≡ []) × IsWhole stage)) →
+      FirstFault text (Form (length lines + 1))
+
+-- what is said of a fault, but of want of memory
+abbrev pub OnFault : AsmFault → Type 0 → Type 0
+OnFault (Form line) P = P
+OnFault (Label line) P = P
+OnFault (Limit line) P = P
+OnFault NoMemory P = Unit {0}
+
+-- the same of what is wrong with a line
+abbrev pub OnWrong : Wrong → Type 0 → Type 0
+OnWrong wrongs.Form P = P
+OnWrong wrongs.Label P = P
+OnWrong wrongs.Limit P = P
+OnWrong wrongs.NoMemory P = Unit {0}

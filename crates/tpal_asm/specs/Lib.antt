@@ -1,0 +1,14 @@
+-- What is promised of assembling.
+
+-- the names of blocks
+pub mod Labels
+-- the lines of a text
+pub mod Lines
+-- reading a line from its front, as the assembler does
+pub mod Reading
+-- what lines say, one after another
+pub mod Stages
+-- the first fault of a text
+pub mod Faults
+-- the assembler's own words for stages
+pub mod Steps

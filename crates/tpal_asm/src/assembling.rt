@@ -1,0 +1,118 @@
+// From a text to its code.
+
+ghost use Rattle.std.specs.Prelude.{◌≡◌, ◌≤◌, ◌++◌, ◌∷◌, [], ℕ, List, IfOk, IfErr, MatchResult, length};
+ghost use Rattle.tpal_syntax.specs.Conditions.{IsCode, is_ready as is_ready_note};
+ghost use Rattle.tpal_syntax.specs.Text.{CodeText};
+ghost use Rattle.tpal_asm.specs.declared.fault.AsmFault.{AsmFault as Fault};
+ghost use Rattle.tpal_asm.specs.declared.fault.AsmFault.TheVariants as faults;
+ghost use Rattle.tpal_syntax.specs.declared.blocks.Block.{Block};
+ghost use Rattle.tpal_syntax.specs.declared.blocks.CodeTable.{CodeTable};
+ghost use Rattle.tpal_asm.specs.Lines.{pieces};
+ghost use Rattle.tpal_asm.specs.Labels.{heads};
+ghost use Rattle.tpal_asm.specs.Stages.{AreHeads, Outside, IsWhole};
+ghost use Rattle.tpal_asm.specs.Faults.{FirstFault, OnFault};
+ghost use Rattle.tpal_asm.specs.Steps.{seen};
+
+use crate::fault::{AsmFault, at_line};
+use crate::labels::Labels;
+use crate::lines::next_line;
+use crate::stages::Stage;
+use crate::steps::{read_header, step};
+use std::alloc::Global;
+use tp_value::NoMemory;
+use tpal_syntax::{Code, Note};
+
+/// The code of a text, or its first fault. Where a text has a code, that code is answered or memory
+/// was wanting; where it has a fault, that one is its only first fault, and is answered or memory was
+/// wanting.
+pub fn assemble(alloc: Global, text: &[u8]) -> Result<Code, AsmFault>
+    requires bound { length text.now ≤ 67108864 }
+    ensures code { IfOk result (λ code. CodeText text.now code.tables code.blocks) }
+    ensures fault { IfErr result (λ fault. OnFault fault (FirstFault text.now fault)) }
+    ensures refused { IfErr result (λ fault. OnFault fault (
+        (tables : List CodeTable) (blocks : List Block) → ¬ CodeText text.now tables blocks)) }
+    ensures no_fault { (tables : List CodeTable) (blocks : List Block) → CodeText text.now tables blocks →
+        MatchResult result (λ code. code ≡ record { tables = tables; blocks = blocks }) (λ fault. fault ≡ faults.NoMemory) }
+    ensures first_fault { (first : Fault) → FirstFault text.now first →
+        MatchResult result (λ code. ⊥) (λ fault. OnFault fault (fault ≡ first)) }
+{
+    let labels = read_labels(alloc, text)?;
+    read_code(alloc, &labels, text)
+}
+
+// The names of the blocks of a text.
+fn read_labels(alloc: Global, text: &[u8]) -> Result<Labels<'_>, NoMemory>
+    requires bound { length text.now ≤ 67108864 }
+    ensures { IfOk result (λ labels. (lines : List (List ℕ)) (last : List ℕ) → pieces text.now ≡ lines ++ last ∷ [] →
+        AreHeads [] lines (heads labels.places)) }
+{
+    let none = Labels::new(alloc);
+    let mut labels = Labels::new(alloc);
+    let mut rest = text;
+    while let Some((line, others)) = next_line(rest) {
+        if let Some((name, note)) = read_header(alloc, &none, line)? {
+            labels.add(name, is_ready(&note))?;
+        }
+        rest = others;
+    }
+    Ok(labels)
+}
+
+fn is_ready(note: &Note) -> bool
+    ensures { result ≡ is_ready_note note.now }
+{
+    match note {
+        Note::Plain => false,
+        Note::Ready(_) => true,
+        Note::Target(_) => false,
+    }
+}
+
+fn read_code(alloc: Global, labels: &Labels, text: &[u8]) -> Result<Code, AsmFault>
+    requires bound { length text.now ≤ 67108864 }
+    requires named { (lines : List (List ℕ)) (last : List ℕ) → pieces text.now ≡ lines ++ last ∷ [] →
+        AreHeads [] lines (heads labels.now.places) }
+    ensures code { IfOk result (λ code. CodeText text.now code.tables code.blocks) }
+    ensures fault { IfErr result (λ fault. OnFault fault (FirstFault text.now fault)) }
+{
+    let mut stage = Stage {
+        tables: Vec::new(alloc),
+        blocks: Vec::new(alloc),
+        begun: None,
+    };
+    let mut line = 1;
+    let mut rest = text;
+    while let Some((first, others)) = next_line(rest) {
+        match step(alloc, labels, stage, first) {
+            Err(wrong) => return Err(at_line(wrong, line)),
+            Ok(next) => stage = next,
+        }
+        line += 1;
+        rest = others;
+    }
+    if !rest.is_empty() {
+        return Err(AsmFault::Form(line));
+    }
+    end(alloc, stage, line)
+}
+
+// The code behind the last line, which has this number.
+fn end(alloc: Global, stage: Stage, line: u32) -> Result<Code, AsmFault>
+    requires right { IsWhole (seen stage) → IsCode stage.tables.items stage.blocks.items }
+    ensures code { IfOk result (λ code. IsCode code.tables code.blocks) }
+    ensures last { IfOk result (λ code. seen stage ≡ Outside code.tables code.blocks) }
+    ensures fault { IfErr result (λ fault. OnFault fault ((fault ≡ faults.Form line) × (¬ IsWhole (seen stage)))) }
+{
+    let Stage {
+        tables,
+        blocks,
+        begun,
+    } = stage;
+    if begun.is_some() {
+        return Err(AsmFault::Form(line));
+    }
+    match Code::new(alloc, tables, blocks)? {
+        None => Err(AsmFault::Form(line)),
+        Some(code) => Ok(code),
+    }
+}

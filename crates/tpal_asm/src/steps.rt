@@ -1,0 +1,378 @@
+// From a stage to the next one by a line.
+
+ghost use Rattle.std.specs.Prelude.{◌≡◌, ◌≤◌, ◌++◌, ◌∷◌, [], ℕ, List, IfOk, IfErr, true, length, ◌==◌, codes};
+ghost use Rattle.tpal_syntax.specs.Parts.{is_instr, is_term};
+ghost use Rattle.tpal_asm.specs.Reading.{ended, instr_rest, term_rest};
+ghost use Rattle.tpal_asm.specs.Labels.{heads, names_of, place_of};
+ghost use Rattle.tpal_asm.specs.Stages.{Outside, Inside, Says, IsNewName, IsWithin, is_among};
+ghost use Rattle.tpal_asm.specs.Faults.{IsWrong, OnWrong};
+ghost use Rattle.std.specs.Prelude.{◌<◌, OnOk, Some, None, false, slice_index_or};
+ghost use Rattle.tpal_syntax.specs.Conditions.{block_names, input_names};
+ghost use Rattle.tpal_syntax.specs.declared.blocks.CodeTable.{CodeTable};
+ghost use Rattle.tpal_asm.specs.declared.fault.Wrong.TheVariants as wrongs;
+ghost use Rattle.tpal_print.proofs.Reading.{after};
+ghost use Rattle.tpal_asm.specs.Reading.{Reads, header_rest, table_line_rest};
+ghost use Rattle.tpal_asm.specs.Steps.{seen, Unfit, HandlerUnfit, NoteFits, NoteUnfit, header_of, table_of, is_input_of, IsUnrepeated, TableUnfit};
+
+use crate::fault::Wrong;
+use crate::instructions::{instr, term};
+use crate::labels::Labels;
+use crate::notes::note;
+use crate::parts::{behind, number, word};
+use crate::stages::{Begun, Stage};
+use std::alloc::Global;
+use tp_value::{Items, MAX_BLOCKS, MAX_TABLES, NoMemory};
+use tpal_syntax::{Block, CodeTable, Instr, Note, Term, is_instr, is_target, is_term};
+
+/// Greater than every label.
+const ANY_LABEL: u32 = 4_294_967_295;
+
+/// The stage behind a line, which ends with its LF.
+pub fn step(alloc: Global, labels: &Labels, stage: Stage, line: &[u8]) -> Result<Stage, Wrong>
+    requires named { IsNewName (seen stage) }
+    requires small { IsWithin (seen stage) }
+    requires front { (more : List (List ℕ)) × (names_of (heads labels.now.places) ≡ block_names stage.blocks.items ++ more) }
+    ensures right { IfOk result (λ next. (bytes : List ℕ) → line.now ≡ bytes ++ 10 ∷ [] →
+        Says (heads labels.now.places) (names_of (heads labels.now.places)) (seen stage) bytes (seen next)) }
+    ensures new { IfOk result (λ next. IsNewName (seen next)) }
+    ensures within { IfOk result (λ next. IsWithin (seen next)) }
+    ensures wrong { IfErr result (λ w. OnWrong w ((bytes : List ℕ) → line.now ≡ bytes ++ 10 ∷ [] →
+        IsWrong (heads labels.now.places) (seen stage) bytes w)) }
+{
+    let Stage {
+        tables,
+        blocks,
+        begun,
+    } = stage;
+    match begun {
+        Some(begun) => inside(labels, tables, blocks, begun, line),
+        None => outside(alloc, labels, tables, blocks, line),
+    }
+}
+
+// A line of a block that has begun.
+fn inside(
+    labels: &Labels,
+    tables: Vec<CodeTable>,
+    blocks: Vec<Block>,
+    begun: Begun,
+    line: &[u8],
+) -> Result<Stage, Wrong>
+    requires few { length tables.items ≤ 16 }
+    requires room { length blocks.items < 65536 }
+    requires named { is_among begun.name (block_names blocks.items) ≡ false }
+    ensures right { IfOk result (λ next. (bytes : List ℕ) → line.now ≡ bytes ++ 10 ∷ [] →
+        Says (heads labels.now.places) (names_of (heads labels.now.places))
+        (Inside tables.items blocks.items begun.name begun.note begun.body.items) bytes (seen next)) }
+    ensures new { IfOk result (λ next. IsNewName (seen next)) }
+    ensures within { IfOk result (λ next. IsWithin (seen next)) }
+    ensures wrong { IfErr result (λ w. OnWrong w ((bytes : List ℕ) → line.now ≡ bytes ++ 10 ∷ [] →
+        IsWrong (heads labels.now.places) (Inside tables.items blocks.items begun.name begun.note begun.body.items) bytes w)) }
+{
+    let Some(rest) = behind(line, b"  ") else {
+        return Err(Wrong::Form);
+    };
+    if let Some(instr) = whole_instr(labels, rest) {
+        return with_instr(labels, tables, blocks, begun, instr);
+    }
+    match whole_term(labels, rest) {
+        None => Err(Wrong::Form),
+        Some(term) => with_end(labels, tables, blocks, begun, term),
+    }
+}
+
+// Whether the byte that ends a line is all that is left.
+fn is_end(text: &[u8]) -> bool
+    ensures { result ≡ (length text.now == 1) }
+{
+    text.len() == 1
+}
+
+fn whole_instr(labels: &Labels, text: &[u8]) -> Option<Instr>
+    ensures { result ≡ ended (instr_rest (place_of (heads labels.now.places)) text.now) }
+{
+    let (instr, rest) = instr(labels, text)?;
+    if is_end(rest) { Some(instr) } else { None }
+}
+
+fn whole_term(labels: &Labels, text: &[u8]) -> Option<Term>
+    ensures { result ≡ ended (term_rest (place_of (heads labels.now.places)) text.now) }
+{
+    let (term, rest) = term(labels, text)?;
+    if is_end(rest) { Some(term) } else { None }
+}
+
+fn with_instr(
+    labels: &Labels,
+    tables: Vec<CodeTable>,
+    blocks: Vec<Block>,
+    begun: Begun,
+    instr: Instr,
+) -> Result<Stage, Wrong>
+    requires few { length tables.items ≤ 16 }
+    ensures fits { IfOk result (λ next.
+        is_instr (length tables.items) (length (names_of (heads labels.now.places))) instr ≡ true) }
+    ensures next { IfOk result (λ next. seen next ≡
+        Inside tables.items blocks.items begun.name begun.note (begun.body.items ++ instr ∷ [])) }
+    ensures wrong { IfErr result (λ w.
+        Unfit (λ labels. is_instr (length tables.items) labels instr) (length (names_of (heads labels.now.places))) w) }
+{
+    if !is_instr(tables.len() as u8, ANY_LABEL, instr) {
+        return Err(Wrong::Form);
+    }
+    if !is_instr(tables.len() as u8, labels.count(), instr) {
+        return Err(Wrong::Label);
+    }
+    let Begun {
+        name,
+        note,
+        mut body,
+    } = begun;
+    body.push(instr)?;
+    Ok(Stage {
+        tables,
+        blocks,
+        begun: Some(Begun { name, note, body }),
+    })
+}
+
+fn with_end(
+    labels: &Labels,
+    tables: Vec<CodeTable>,
+    mut blocks: Vec<Block>,
+    begun: Begun,
+    term: Term,
+) -> Result<Stage, Wrong>
+    ensures fits { IfOk result (λ next. is_term (length (names_of (heads labels.now.places))) term ≡ true) }
+    ensures next { IfOk result (λ next. seen next ≡ Outside tables.items (blocks.items
+        ++ record { name = begun.name; note = begun.note; body = begun.body.items; term = term } ∷ [])) }
+    ensures wrong { IfErr result (λ w. Unfit (λ labels. is_term labels term) (length (names_of (heads labels.now.places))) w) }
+{
+    if !is_term(ANY_LABEL, term) {
+        return Err(Wrong::Form);
+    }
+    if !is_term(labels.count(), term) {
+        return Err(Wrong::Label);
+    }
+    let Begun { name, note, body } = begun;
+    blocks.push(Block {
+        name,
+        note,
+        body: Items::new(body),
+        term,
+    })?;
+    Ok(Stage {
+        tables,
+        blocks,
+        begun: None,
+    })
+}
+
+// A line behind tables alone, or behind a whole block.
+fn outside(
+    alloc: Global,
+    labels: &Labels,
+    tables: Vec<CodeTable>,
+    blocks: Vec<Block>,
+    line: &[u8],
+) -> Result<Stage, Wrong>
+    requires few { length tables.items ≤ 16 }
+    requires front { (more : List (List ℕ)) × (names_of (heads labels.now.places) ≡ block_names blocks.items ++ more) }
+    ensures right { IfOk result (λ next. (bytes : List ℕ) → line.now ≡ bytes ++ 10 ∷ [] →
+        Says (heads labels.now.places) (names_of (heads labels.now.places)) (Outside tables.items blocks.items) bytes (seen next)) }
+    ensures new { IfOk result (λ next. IsNewName (seen next)) }
+    ensures within { IfOk result (λ next. IsWithin (seen next)) }
+    ensures wrong { IfErr result (λ w. OnWrong w ((bytes : List ℕ) → line.now ≡ bytes ++ 10 ∷ [] →
+        IsWrong (heads labels.now.places) (Outside tables.items blocks.items) bytes w)) }
+{
+    match behind(line, b"table t") {
+        Some(rest) => {
+            if blocks.is_empty() {
+                table(alloc, tables, rest)
+            } else {
+                Err(Wrong::Form)
+            }
+        }
+        None => header(alloc, labels, tables, blocks, line),
+    }
+}
+
+// The line of a table, behind its first word.
+fn table(alloc: Global, mut tables: Vec<CodeTable>, text: &[u8]) -> Result<Stage, Wrong>
+    ensures read { IfOk result (λ next. (table : CodeTable) × (ended (table_line_rest text.now) ≡ Some (length tables.items, table))
+        × IsUnrepeated tables.items table × (length tables.items < 16) × (seen next ≡ Outside (tables.items ++ table ∷ []) [])) }
+    ensures wrong { IfErr result (λ w. TableUnfit tables.items text.now w) }
+{
+    let table = read_table(alloc, &tables, text)?;
+    if tables.len() >= MAX_TABLES {
+        return Err(Wrong::Limit);
+    }
+    tables.push(table)?;
+    Ok(Stage {
+        tables,
+        blocks: Vec::new(alloc),
+        begun: None,
+    })
+}
+
+// The table of a line, behind its first word; its number is the next one, and its name is new.
+fn read_table(alloc: Global, tables: &[CodeTable], text: &[u8]) -> Result<CodeTable, Wrong>
+    ensures read { IfOk result (λ table. ended (table_line_rest text.now) ≡ Some (length tables.now, table)) }
+    ensures new { IfOk result (λ table. IsUnrepeated tables.now table) }
+    ensures wrong { IfErr result (λ w. OnWrong w ((w ≡ wrongs.Form) × ((table : CodeTable) →
+        ended (table_line_rest text.now) ≡ Some (length tables.now, table) → ¬ IsUnrepeated tables.now table))) }
+{
+    let Some((number, table, rest)) = table_line(text) else {
+        return Err(Wrong::Form);
+    };
+    if number != tables.len() as u64 || !is_end(rest) {
+        return Err(Wrong::Form);
+    }
+    match table {
+        None => Ok(CodeTable::Made),
+        Some(name) => {
+            if is_input(tables, name) {
+                Err(Wrong::Form)
+            } else {
+                Ok(CodeTable::Input(Items::new(Vec::from_slice(alloc, name)?)))
+            }
+        }
+    }
+}
+
+// The number of a table, the name where it is an input, and the rest.
+#[tactic(auto, unfolding(crate::specs::Reading::table_line_rest))]
+fn table_line(text: &[u8]) -> Option<(u64, Option<&[u8]>, &[u8])>
+    ensures { Reads table_of result (table_line_rest text.now) }
+{
+    let (number, rest) = number(text, 16)?;
+    if let Some(rest) = behind(rest, b" made") {
+        return Some((number, None, rest));
+    }
+    let rest = behind(rest, b" input ")?;
+    let (name, rest) = word(rest)?;
+    Some((number, Some(name), rest))
+}
+
+// Whether a table is the input of that name.
+fn is_input(tables: &[CodeTable], name: &[u8]) -> bool
+    ensures { result ≡ is_among name.now (input_names tables.now) }
+{
+    let mut rest = tables;
+    while let Some((first, others)) = rest.split_first() {
+        if is_named(first, name) {
+            return true;
+        }
+        rest = others;
+    }
+    false
+}
+
+fn is_named(table: &CodeTable, name: &[u8]) -> bool
+    ensures { result ≡ is_input_of name.now table.now }
+{
+    match table {
+        CodeTable::Input(other) => name == other.items(),
+        CodeTable::Made => false,
+    }
+}
+
+// The first line of a block.
+fn header(
+    alloc: Global,
+    labels: &Labels,
+    tables: Vec<CodeTable>,
+    blocks: Vec<Block>,
+    line: &[u8],
+) -> Result<Stage, Wrong>
+    requires few { length tables.items ≤ 16 }
+    requires front { (more : List (List ℕ)) × (names_of (heads labels.now.places) ≡ block_names blocks.items ++ more) }
+    requires no_table { after (codes "table t") line.now ≡ None }
+    ensures right { IfOk result (λ next. (bytes : List ℕ) → line.now ≡ bytes ++ 10 ∷ [] →
+        Says (heads labels.now.places) (names_of (heads labels.now.places)) (Outside tables.items blocks.items) bytes (seen next)) }
+    ensures new { IfOk result (λ next. IsNewName (seen next)) }
+    ensures within { IfOk result (λ next. IsWithin (seen next)) }
+    ensures wrong { IfErr result (λ w. OnWrong w ((bytes : List ℕ) → line.now ≡ bytes ++ 10 ∷ [] →
+        IsWrong (heads labels.now.places) (Outside tables.items blocks.items) bytes w)) }
+{
+    let Some((name, note)) = read_header(alloc, labels, line)? else {
+        return Err(Wrong::Form);
+    };
+    match check_note(labels, tables.len() as u8, &note) {
+        Ok(()) => {}
+        Err(wrong) => return Err(wrong),
+    }
+    if (labels.place(name) as usize) < blocks.len() {
+        return Err(Wrong::Label);
+    }
+    if blocks.len() >= MAX_BLOCKS as usize {
+        return Err(Wrong::Limit);
+    }
+    Ok(Stage {
+        tables,
+        blocks,
+        begun: Some(Begun {
+            name: Items::new(Vec::from_slice(alloc, name)?),
+            note,
+            body: Vec::new(alloc),
+        }),
+    })
+}
+
+/// The name and the note in the first line of a block.
+#[tactic(auto, unfolding(crate::specs::Reading::header_rest))]
+pub fn read_header<'a>(
+    alloc: Global,
+    labels: &Labels,
+    line: &'a [u8],
+) -> Result<Option<(&'a [u8], Note)>, NoMemory>
+    ensures { IfOk result (λ read. Reads header_of read (ended (header_rest (place_of (heads labels.now.places)) line.now))) }
+{
+    let Some((name, rest)) = word(line) else {
+        return Ok(None);
+    };
+    let Some(rest) = behind(rest, b": ") else {
+        return Ok(None);
+    };
+    match note(alloc, labels, rest, rest.len())? {
+        None => Ok(None),
+        Some((note, rest)) => {
+            if is_end(rest) {
+                Ok(Some((name, note)))
+            } else {
+                Ok(None)
+            }
+        }
+    }
+}
+
+// Whether a note breaks no condition, in a text with so many tables.
+fn check_note(labels: &Labels, tables: u8, note: &Note) -> Result<(), Wrong>
+    ensures fits { OnOk result (NoteFits (heads labels.now.places) tables note.now) }
+    ensures unfit { IfErr result (λ w. NoteUnfit (heads labels.now.places) tables note.now w) }
+{
+    match note {
+        Note::Plain => Ok(()),
+        Note::Ready(handler) => check_handler(labels, *handler),
+        Note::Target(target) => {
+            if !is_target(tables, ANY_LABEL, target) {
+                Err(Wrong::Form)
+            } else if target.comb >= labels.count() {
+                Err(Wrong::Label)
+            } else {
+                Ok(())
+            }
+        }
+    }
+}
+
+fn check_handler(labels: &Labels, handler: u32) -> Result<(), Wrong>
+    ensures fits { OnOk result ((handler < length (names_of (heads labels.now.places)))
+        × ((slice_index_or (heads labels.now.places) handler ([], false)).1 ≡ false)) }
+    ensures unfit { IfErr result (λ w. HandlerUnfit (heads labels.now.places) handler w) }
+{
+    match labels.is_ready(handler) {
+        None => Err(Wrong::Label),
+        Some(is_ready) => { if is_ready { Err(Wrong::Form) } else { Ok(()) } }
+    }
+}
