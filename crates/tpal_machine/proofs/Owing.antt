@@ -8,7 +8,7 @@ use Rattle.tpal_machine.specs.Effect.{answered}
 use Rattle.tpal_machine.specs.Merge as merging
 use Rattle.tpal_machine.specs.Owes.{Bound, ends, goes, beats, asks, forks, forks_on}
 use Rattle.tpal_machine.specs.State.{State}
-use Rattle.tpal_machine.specs.Step.{Step, Goes, step}
+use Rattle.tpal_machine.specs.Step.{Step, step}
 use Rattle.tpal_machine.specs.Within.{Owing, NextOwes, JoinedOwes}
 
 -- bound to an ending for some least number of points

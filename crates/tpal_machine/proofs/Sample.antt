@@ -1,10 +1,9 @@
 -- What a code written by hand owes, by the lemma of each of its instructions.
-use Rattle.std.proofs.Common.{◌≡◌, ℕ, Bool, true, false, [], ◌∷◌, refl}
+use Rattle.std.proofs.Common.{ℕ, true, false, [], ◌∷◌, refl}
 use Rattle.std.specs.Fmt.{digits}
 use Rattle.std.specs.Int.{int_wrap}
 use Rattle.std.specs.Prelude.{pos}
 use Rattle.tpal_syntax.specs.declared.instructions.Alu.TheVariants.{Add}
-use Rattle.tpal_syntax.specs.declared.instructions.Instr.TheVariants as instr
 use Rattle.tpal_syntax.specs.declared.instructions.Value.TheVariants as value
 use Rattle.tpal_syntax.specs.declared.words.Word.TheVariants as word
 use Rattle.tpal_machine.specs.Effect as effect

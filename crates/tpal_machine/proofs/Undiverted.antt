@@ -1,7 +1,7 @@
 -- Steps that are diverted or not, and what a task owes where none is.
-use Rattle.std.proofs.Common.{◌≡◌, ℕ, ◌+◌, ◌≤◌, Bool, true, false, cond, Option, None, Some, Result, Ok, Err, refl, ap, sym, subst, ◌∙◌, arith}
+use Rattle.std.proofs.Common.{◌≡◌, ℕ, Bool, true, false, cond, Option, None, Some, Result, Ok, Err, refl, ap, sym, subst, ◌∙◌}
 use Rattle.std.proofs.lemmas.Bool.{false≢true}
-use Rattle.std.specs.Prelude.{ℤ, pos, slice_get, is_some, nat_eq, nat_le, not, ◌&&◌}
+use Rattle.std.specs.Prelude.{pos, slice_get, is_some, nat_eq, nat_le, not, ◌&&◌}
 use Rattle.std.specs.Ordering.{int_eq}
 use Rattle.beat_count.specs.Heartbeat.{is_diverted}
 use Rattle.stack_marks.specs.declared.mark.Mark.{Mark}
@@ -33,7 +33,7 @@ use Rattle.tpal_machine.specs.Reading.{register, operand, with_register, block_a
 use Rattle.tpal_machine.specs.Serial.{BoundSerially, here, goes_on, IsUnmarked}
 use Rattle.tpal_machine.specs.Serial as serial
 use Rattle.tpal_machine.specs.State.{State}
-use Rattle.tpal_machine.specs.Step.{Step, Goes, Beats, Ends, Asks, Forks, Stuck, Strays, at_block, entered_by, enters, stepped, asked, halting, forked, if_jump, executed, jump, halt, is_end, join_end, join_met, joined, join, finished, advanced, step_at, step_in, step}
+use Rattle.tpal_machine.specs.Step.{Step, Goes, Beats, Ends, Asks, Forks, Stuck, Strays, at_block, entered_by, stepped, asked, halting, forked, if_jump, executed, jump, halt, is_end, join_end, joined, join, finished, advanced, step_at, step_in, step}
 
 -- the same step, but where the first is a beat
 abbrev pub Agree : Step → Step → Type 0

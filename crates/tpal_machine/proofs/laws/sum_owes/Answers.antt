@@ -1,7 +1,7 @@
-use Rattle.std.proofs.Common.{◌≡◌, ℕ, false, [], refl, sym, subst, ap}
+use Rattle.std.proofs.Common.{false, [], refl, sym, subst, ap}
 use Rattle.std.specs.Prelude.{length}
 use Rattle.tpal_machine.specs.Owes.{Bound}
-use Rattle.tpal_machine.specs.Sample.{two_and_three, prints_five}
+use Rattle.tpal_machine.specs.Sample.{prints_five}
 use Rattle.tpal_machine.specs.State.{first_state}
 use Rattle.tpal_machine.proofs.Given.{first_of}
 use Rattle.tpal_machine.proofs.Sample.{sum_owes}
