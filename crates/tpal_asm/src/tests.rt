@@ -145,49 +145,97 @@ fn fault_of(alloc: Global, text: &[u8]) -> Option<AsmFault> {
 }
 
 #[test]
-fn faults_have_their_lines(rt: HostRuntime) -> Result<(), Fail> {
-    let cases: [(&[u8], AsmFault); 25] = [
+fn faults_of_instructions(rt: HostRuntime) -> Result<(), Fail> {
+    let cases: [(&[u8], AsmFault); 15] = [
         (
-            b"main: plain\n  r0 := 2\n  r0 := r0 add 3\n  print r0\n  halt\nmain: plain\n",
-            AsmFault::Label(6),
+            b"main: plain\n  r32 := 2\n  r0 := r0 add 3\n  print r0\n  halt\n",
+            AsmFault::Form(2),
         ),
-        (b"main: plain\n  r32 := 2\n  halt\n", AsmFault::Form(2)),
-        (b"main: plain\n  r0 := 02\n  halt\n", AsmFault::Form(2)),
-        (b"main: plain\n  r0 := -0\n  halt\n", AsmFault::Form(2)),
-        (b"main: plain\n  r00 := 2\n  halt\n", AsmFault::Form(2)),
-        (b"main: plain\n  halt\nmain: plain\n", AsmFault::Label(3)),
-        (b"main: plain\n  jump @a\n", AsmFault::Label(2)),
         (
-            b"main: plain\n  jump @a\n  halt\na: plain\n  halt\n",
+            b"main: plain\n  r0 := 02\n  r0 := r0 add 3\n  print r0\n  halt\n",
+            AsmFault::Form(2),
+        ),
+        (
+            b"main: plain\n  r0 := -0\n  r0 := r0 add 3\n  print r0\n  halt\n",
+            AsmFault::Form(2),
+        ),
+        (
+            b"main: plain\n  r00 := 2\n  r0 := r0 add 3\n  print r0\n  halt\n",
+            AsmFault::Form(2),
+        ),
+        (
+            b"main: plain\n  r0 :=  2\n  r0 := r0 add 3\n  print r0\n  halt\n",
+            AsmFault::Form(2),
+        ),
+        (
+            b"main: plain\n  r0 := 9223372036854775808\n  r0 := r0 add 3\n  print r0\n  halt\n",
+            AsmFault::Form(2),
+        ),
+        (
+            b"main: plain\n  r0 := -9223372036854775809\n  r0 := r0 add 3\n  print r0\n  halt\n",
+            AsmFault::Form(2),
+        ),
+        (
+            b"main: plain\n  r0 := mem[r31+512]\n  r0 := r0 add 3\n  print r0\n  halt\n",
+            AsmFault::Form(2),
+        ),
+        (
+            b"main: plain\n  salloc 513\n  r0 := r0 add 3\n  print r0\n  halt\n",
+            AsmFault::Form(2),
+        ),
+        (
+            b"main: plain\n  emit t0\n  r0 := r0 add 3\n  print r0\n  halt\n",
+            AsmFault::Form(2),
+        ),
+        (
+            b"main: plain\n  trap Size, 0, 1\n  r0 := r0 add 3\n  print r0\n  halt\n",
+            AsmFault::Form(2),
+        ),
+        (
+            b"main: plain\n  jump @a\n  r0 := r0 add 3\n  print r0\n  halt\n",
+            AsmFault::Label(2),
+        ),
+        (
+            b"main: plain\n  if-jump r0, @a\n  r0 := r0 add 3\n  print r0\n  halt\n",
+            AsmFault::Label(2),
+        ),
+        (
+            b"main: plain\n  fork r32, @a\n  r0 := r0 add 3\n  print r0\n  halt\n",
+            AsmFault::Form(2),
+        ),
+        (
+            b"main: plain\n  halt\n  r0 := r0 add 3\n  print r0\n  halt\n",
             AsmFault::Form(3),
         ),
-        (b"main: plain\n  jump @a\na: plain", AsmFault::Label(2)),
-        (
-            b"main: plain\n  jump @main\na: prppt @b\n  halt\nb: plain\n",
-            AsmFault::Form(6),
-        ),
+    ];
+    for (text, fault) in cases {
+        assert_eq!(rt; fault_of(rt.alloc(), text), Some(fault));
+    }
+    Ok(())
+}
+
+#[test]
+fn faults_of_tables_and_notes(rt: HostRuntime) -> Result<(), Fail> {
+    let cases: [(&[u8], AsmFault); 12] = [
+        (b"table t1 made\n", AsmFault::Form(1)),
+        (b"table t0 input a\ntable t1 input a\n", AsmFault::Form(2)),
+        (b"a: plain\n  halt\ntable t0 made\n", AsmFault::Form(3)),
+        (b"a: prppt @a\n  halt\n", AsmFault::Form(1)),
+        (b"a: prppt @c\n  halt\n", AsmFault::Label(1)),
         (
             b"a: prppt @b\n  halt\nb: prppt @a\n  halt\n",
             AsmFault::Form(1),
         ),
-        (b"a: prppt @a\n  halt\n", AsmFault::Form(1)),
-        (b"a: prppt @c\n  halt\n", AsmFault::Label(1)),
-        (b"table t1 made\n", AsmFault::Form(1)),
-        (b"table t0 input a\ntable t1 input a\n", AsmFault::Form(2)),
-        (b"main: plain\n  emit t0\n  halt\n", AsmFault::Form(2)),
-        (
-            b"table t0 made\nmain: plain\n  emit t0\n  halt",
-            AsmFault::Form(4),
-        ),
-        (b"main: plain\n  trap Size, 0, 1\n", AsmFault::Form(2)),
-        (b"main: plain\n  halt \n", AsmFault::Form(2)),
-        (b"main: plain\n halt\n", AsmFault::Form(2)),
         (
             b"a: jtppt assoc; {r0 -> r30}; @a; loop; carry none\n",
             AsmFault::Form(1),
         ),
         (
             b"a: jtppt assoc; {r0 -> r0}; @b; loop; carry none\n",
+            AsmFault::Form(1),
+        ),
+        (
+            b"a: jtppt assoc; {r0 -> r1, r2 -> r1}; @a; loop; carry none\n",
             AsmFault::Form(1),
         ),
         (
@@ -199,8 +247,41 @@ fn faults_have_their_lines(rt: HostRuntime) -> Result<(), Fail> {
             AsmFault::Form(1),
         ),
         (
-            b"main: plain\n  r0 := 9223372036854775808\n",
+            b"table t0 made\na: jtppt assoc; {}; @a; loop; carry t0 rows r0, t0 rows r1\n",
             AsmFault::Form(2),
+        ),
+    ];
+    for (text, fault) in cases {
+        assert_eq!(rt; fault_of(rt.alloc(), text), Some(fault));
+    }
+    Ok(())
+}
+
+#[test]
+fn faults_of_whole_texts(rt: HostRuntime) -> Result<(), Fail> {
+    let cases: [(&[u8], AsmFault); 11] = [
+        (b"", AsmFault::Form(1)),
+        (b"\n", AsmFault::Form(1)),
+        (b"table t0 made\n", AsmFault::Form(2)),
+        (
+            b"main: plain\n  r0 := 2\n  r0 := r0 add 3\n  print r0\n  halt\nmain: plain\n",
+            AsmFault::Label(6),
+        ),
+        (
+            b"main: plain\n  jump @a\n  halt\na: plain\n  halt\n",
+            AsmFault::Form(3),
+        ),
+        (b"main: plain\n  jump @b\n  halt\n", AsmFault::Label(2)),
+        (b"main: plain\n  halt \n  jump @b\n", AsmFault::Form(2)),
+        (b"main: plain\n halt\n", AsmFault::Form(2)),
+        (b"main: plain\n  jump @a\na: plain", AsmFault::Label(2)),
+        (
+            b"main: plain\n  jump @main\na: prppt @b\n  halt\nb: plain\n",
+            AsmFault::Form(6),
+        ),
+        (
+            b"table t0 made\nmain: plain\n  emit t0\n  halt",
+            AsmFault::Form(4),
         ),
     ];
     for (text, fault) in cases {
