@@ -5,7 +5,7 @@ ghost use Rattle.stack_marks.specs.Causes.{UnmarkCause};
 ghost use Rattle.tpal_machine.specs.Answer.{Gives, GivesOr};
 ghost use Rattle.tpal_machine.specs.Effect as effect;
 ghost use Rattle.tpal_machine.specs.Fit.{IsOperand, stack_fault};
-ghost use Rattle.tpal_machine.specs.Passing.{Does, Stays};
+ghost use Rattle.tpal_machine.specs.Passing.{Does, DoesOr, Stays};
 ghost use Rattle.tpal_machine.specs.Seen.{state_of, Keeps, AreLow};
 ghost use Rattle.tpal_machine.specs.State.{State};
 
@@ -67,6 +67,9 @@ pub(crate) fn store(frame: &mut Frame, base: u8, off: u16, value: Value) -> Resu
 /// `salloc n`.
 pub(crate) fn salloc(frame: &mut Frame, cells: u16) -> Result<(), Trouble>
     ensures effect { GivesOr (effect.salloc cells (state_of frame.old)) result (state_of frame.new) }
+    ensures anywhere { DoesOr (effect.salloc cells) frame.old result frame.new }
+    ensures refused { OnErr result (frame.new ≡ frame.old) }
+    ensures stays { Stays frame.old frame.new }
     ensures kept { Keeps frame.old frame.new }
 {
     match frame.stack.push(u32::from(cells)) {
@@ -98,6 +101,9 @@ pub(crate) fn stack_fault(fault: StackFault) -> Fault
 #[tactic(auto, using(crate::proofs::Refusals::sfree_goes, crate::proofs::Refusals::sfree_refused))]
 pub(crate) fn sfree(frame: &mut Frame, cells: u16) -> Result<(), Fault>
     ensures effect { Gives (effect.sfree cells (state_of frame.old)) result (state_of frame.new) }
+    ensures anywhere { Does (effect.sfree cells) frame.old result frame.new }
+    ensures refused { OnErr result (frame.new ≡ frame.old) }
+    ensures stays { Stays frame.old frame.new }
     ensures kept { Keeps frame.old frame.new }
 {
     match frame.stack.pop(u32::from(cells)) {

@@ -1,7 +1,11 @@
 // Instructions that may stop the task.
 
+ghost use Rattle.std.specs.Prelude.{◌≡◌, ℕ, Ok};
+ghost use Rattle.beat_count.specs.BeatState.{BeatState};
+ghost use Rattle.std.specs.Bool.{OnTrue, OnFalse};
 ghost use Rattle.tpal_machine.specs.Answer.{GivesHalt};
 ghost use Rattle.tpal_machine.specs.Effect as effect;
+ghost use Rattle.tpal_machine.specs.Passing.{standing, Stays};
 ghost use Rattle.tpal_machine.specs.Seen.{state_of, Keeps};
 
 use crate::faults::Fault;
@@ -29,6 +33,19 @@ pub(crate) fn tick(frame: &mut Frame) -> Halt
     } else {
         stops(frame, Stop::NoFuel)
     }
+}
+
+/// `tick` where it is within the limit. Where it answers false nothing has changed.
+pub(crate) fn tick_within(frame: &mut Frame) -> bool
+    ensures done { OnTrue result ((beat : BeatState) (at : ℕ) → effect.tick (standing beat at frame.old) ≡ Ok (effect.Goes (standing beat at frame.new))) }
+    ensures same { OnFalse result (frame.new ≡ frame.old) }
+    ensures stays { Stays frame.old frame.new }
+    ensures kept { Keeps frame.old frame.new }
+{
+    if frame.fuel.spent() >= frame.fuel.limit() {
+        return false;
+    }
+    frame.fuel.spend()
 }
 
 /// `trap KIND, line, col`.

@@ -1,8 +1,8 @@
 // Calculations on words.
 
-ghost use Rattle.std.specs.Prelude.{◌≡◌, IfOk, IfErr};
+ghost use Rattle.std.specs.Prelude.{◌≡◌, ◌<◌, IfOk, IfErr, IfSome, MatchOption, Ok, Err};
 ghost use Rattle.tpal_machine.specs.Calculation.{are_same, calculated};
-ghost use Rattle.tpal_machine.specs.Reading.{operand};
+ghost use Rattle.tpal_machine.specs.Reading.{operand, register};
 ghost use Rattle.tpal_machine.specs.Calculation.{unlike, IsNoNumber};
 ghost use Rattle.tpal_machine.specs.Fit.{IsOperand};
 ghost use Rattle.tpal_syntax.specs.declared.words.Word.TheVariants as words;
@@ -25,29 +25,56 @@ pub(crate) fn value_of(registers: &[Word; 32], value: Value) -> Word
     }
 }
 
+/// The number in a register, where it holds one.
+pub(crate) fn number_in(registers: &[Word; 32], r: u8) -> Option<i64>
+    requires { r < 32 }
+    ensures { IfSome result (λ n. register registers.now r ≡ words.Int n) }
+{
+    match registers[r as usize] {
+        Word::Int(number) => Some(number),
+        Word::Label(_) | Word::Rec(_) | Word::Nil => None,
+    }
+}
+
+/// The number that an operand is, where it is one.
+pub(crate) fn number_at(registers: &[Word; 32], value: &Value) -> Option<i64>
+    requires { IsOperand value.now }
+    ensures { IfSome result (λ n. operand registers.now value.now ≡ words.Int n) }
+{
+    match value {
+        Value::Reg(r) => number_in(registers, *r),
+        Value::Int(number) => Some(*number),
+        Value::Label(_) | Value::Nil => None,
+    }
+}
+
+/// The number that a calculation on two numbers gives; none where it divides by 0.
+pub(crate) fn result_of(alu: Alu, left: i64, right: i64) -> Option<i64>
+    ensures { MatchOption result (calculated alu (words.Int left) (words.Int right) ≡ Err Fault.DivZero) (λ n. calculated alu (words.Int left) (words.Int right) ≡ Ok (words.Int n)) }
+{
+    match alu {
+        Alu::Add => Some(add(left, right)),
+        Alu::Sub => Some(sub(left, right)),
+        Alu::Mul => Some(mul(left, right)),
+        Alu::Div => div(left, right),
+        Alu::Rem => rem(left, right),
+        Alu::Eq => Some(eq(left, right)),
+        Alu::Ne => Some(ne(left, right)),
+        Alu::Lt => Some(lt(left, right)),
+        Alu::Le => Some(le(left, right)),
+        Alu::Min => Some(combine(Op::Min, left, right)),
+        Alu::Max => Some(combine(Op::Max, left, right)),
+        Alu::Affine => Some(combine(Op::Affine, left, right)),
+    }
+}
+
 /// The result of a calculation on two numbers.
 pub(crate) fn calculated_on(alu: Alu, left: i64, right: i64) -> Result<Word, Fault>
     ensures { result ≡ calculated alu (words.Int left) (words.Int right) }
 {
-    match alu {
-        Alu::Add => Ok(Word::Int(add(left, right))),
-        Alu::Sub => Ok(Word::Int(sub(left, right))),
-        Alu::Mul => Ok(Word::Int(mul(left, right))),
-        Alu::Div => match div(left, right) {
-            Some(number) => Ok(Word::Int(number)),
-            None => Err(Fault::DivZero),
-        },
-        Alu::Rem => match rem(left, right) {
-            Some(number) => Ok(Word::Int(number)),
-            None => Err(Fault::DivZero),
-        },
-        Alu::Eq => Ok(Word::Int(eq(left, right))),
-        Alu::Ne => Ok(Word::Int(ne(left, right))),
-        Alu::Lt => Ok(Word::Int(lt(left, right))),
-        Alu::Le => Ok(Word::Int(le(left, right))),
-        Alu::Min => Ok(Word::Int(combine(Op::Min, left, right))),
-        Alu::Max => Ok(Word::Int(combine(Op::Max, left, right))),
-        Alu::Affine => Ok(Word::Int(combine(Op::Affine, left, right))),
+    match result_of(alu, left, right) {
+        Some(number) => Ok(Word::Int(number)),
+        None => Err(Fault::DivZero),
     }
 }
 
