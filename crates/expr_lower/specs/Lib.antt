@@ -1,0 +1,12 @@
+-- What is promised of the code of expressions.
+
+-- where the variables and tables of an expression stand
+pub mod Scopes
+-- the instructions and the trap blocks of an expression
+pub mod Bodies
+-- where in a code instructions and blocks stand
+pub mod Standing
+-- how a task holds variables and tables
+pub mod Holding
+-- what the code of an expression comes to
+pub mod Leaving
