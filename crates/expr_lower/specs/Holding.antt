@@ -1,6 +1,6 @@
 -- How a task holds variables and tables.
 use Rattle.std.specs.Prelude.{◌≡◌, ℕ, ℤ, pos, ◌+ℤ◌, ⊤, List, Some, length}
-use Rattle.std.specs.List.{All}
+use Rattle.std.specs.List.{AllByRecursion}
 use Rattle.slices.specs.Holding.{cell_at}
 use Rattle.stack_marks.specs.Stacks.{word_at}
 use Rattle.tp_value.specs.declared.Table.{Table}
@@ -28,4 +28,4 @@ pub record Holds (scope : Scope) (vars : List Variable) (tables : List Table) (n
   pub variables : (x : List ℕ) → HasVariable scope x → word_at state.stack (base +ℤ pos (offset_of scope x)) ≡ Some (Int (lookup vars x))
   pub rows : (t : List ℕ) → HasTable scope t → (table_at state.tables (table_number scope t)).rows ≡ (table_of tables t).rows
   pub cols : (t : List ℕ) → HasTable scope t → (table_at state.tables (table_number scope t)).cols ≡ (table_of tables t).cols
-  pub cells : All (IsHeld scope tables state) notes
+  pub cells : AllByRecursion (IsHeld scope tables state) notes

@@ -1,13 +1,43 @@
 // Where the variables and tables of an expression stand.
 
+ghost use Rattle.std.specs.Prelude.{◌≡◌, ◌≤◌, length};
+ghost use Rattle.expr_lower.specs.Scopes.{cell_in, number_in, offset_of, table_number};
+
 /// What an expression may name, and the label of the first block that it may have.
 #[derive(Drop)]
 pub struct Scope {
-    /// The variables' names, each with its cell of the activation. Where a name stands twice, the
-    /// first counts.
+    /// The variables' names, each with its cell of the activation, below 512. Where a name stands
+    /// twice, the first counts.
     pub cells: Vec<(Vec<u8>, u16)>,
-    /// The tables' names, by their numbers.
+    /// The tables' names, by their numbers. There are at most 16.
     pub tables: Vec<Vec<u8>>,
     /// The label of the next block, below 65,536.
     pub next_label: u32,
+}
+
+/// The cell of a variable in its activation, or 0 where the scope doesn't have it.
+pub fn offset_of(scope: &Scope, name: &[u8]) -> u16
+    ensures { result ≡ offset_of scope.now name.now }
+{
+    for cell in &scope.cells {
+        if cell.0.as_slice() == name {
+            return cell.1;
+        }
+    }
+    0
+}
+
+/// The number of a table, or how many there are where the scope doesn't have it.
+pub fn table_number(scope: &Scope, name: &[u8]) -> u8
+    requires { length scope.now.tables.items ≤ 16 }
+    ensures { result ≡ table_number scope.now name.now }
+{
+    let mut number: u8 = 0;
+    for table in &scope.tables {
+        if table.as_slice() == name {
+            return number;
+        }
+        number += 1;
+    }
+    number
 }

@@ -1,0 +1,189 @@
+// The code of an expression.
+
+ghost use Rattle.std.specs.Prelude.{◌≡◌, ℕ, ◌≤◌, ◌<◌, ◌+◌, ◌^◌, ◌++◌, ◌∷◌, [], List, length, if◌then◌else◌, IfOk, OnOk};
+ghost use Rattle.tp_value.specs.declared.Table.{Table};
+ghost use Rattle.loop_rules.specs.Limits.{height};
+ghost use Rattle.loop_meaning.specs.declared.value.Variable.{Variable};
+ghost use Rattle.loop_meaning.specs.Expressions.{eval};
+ghost use Rattle.tpal_syntax.specs.Listing.{Listing};
+ghost use Rattle.tpal_machine.specs.State.{State};
+ghost use Rattle.expr_lower.specs.Bodies.{can_trap, trap_block, operation, cell_read, body_of, traps_of, trap_count, blocks_of};
+ghost use Rattle.tp_value.specs.declared.TrapKind.TheVariants.{Divide, Index};
+ghost use Rattle.expr_lower.specs.Holding.{Holds};
+ghost use Rattle.expr_lower.specs.Leaving.{ComesTo};
+ghost use Rattle.expr_lower.specs.Scopes.{IsIn};
+ghost use Rattle.expr_lower.specs.Standing.{AreAt};
+
+use crate::cells::push_cell_read;
+use crate::operators::{can_trap, literal, push_operation};
+use crate::scope::{Scope, offset_of, table_number};
+use crate::traps::{name_of, push_trap};
+use loop_syntax::{BinOp, Expr, Name};
+use std::alloc::Global;
+use tp_value::{Items, NoMemory, Place, TrapKind};
+use tpal_syntax::{Alu, Block, Instr, Note, Term, Value};
+
+/// Where the code of an expression leaves its value, and where its trap blocks stand.
+#[derive(Clone, Copy)]
+pub struct Site {
+    /// The register of the value, below 24.
+    pub to: u8,
+    /// The label of the first trap block of the list to which the expression's own are appended.
+    pub first: u32,
+}
+
+// the same with the next register
+fn above(at: Site) -> Site
+    requires { at.to ≤ 23 }
+    ensures to { result.to ≡ at.to + 1 }
+    ensures first { result.first ≡ at.first }
+{
+    Site { to: at.to + 1, first: at.first }
+}
+
+// Appends the instructions that read a cell, and its trap block. Those of its row and of its column
+// are given.
+fn push_cell(
+    alloc: Global,
+    body: &mut Vec<Instr>,
+    traps: &mut Vec<Block>,
+    at: Site,
+    name: &Name,
+    table: u8,
+    row: &[Instr],
+    col: &[Instr],
+) -> Result<(), NoMemory>
+    requires registers { at.to ≤ 22 }
+    requires labels { at.first + length traps.old.items < 2 ^ 32 }
+    ensures body { OnOk result (body.new.items ≡ body.old.items ++ cell_read table at.to row.now col.now (at.first + length traps.old.items)) }
+    ensures traps { OnOk result (traps.new.items ≡ traps.old.items ++ trap_block (at.first + length traps.old.items) Index name.now.place ∷ []) }
+    ensures count { OnOk result (length traps.new.items ≡ length traps.old.items + 1) }
+{
+    let trap = at.first + traps.len() as u32;
+    push_trap(alloc, traps, trap, TrapKind::Index, name.place)?;
+    push_cell_read(body, table, at.to, row, col, trap)
+}
+
+// Appends the instructions of an operator behind those of its left operand, and its trap block if it
+// has one. The instructions of the right operand are given, and its number where it is a literal.
+fn push_operator(
+    alloc: Global,
+    body: &mut Vec<Instr>,
+    traps: &mut Vec<Block>,
+    at: Site,
+    op: BinOp,
+    place: Place,
+    right: &[Instr],
+    number: Option<i64>,
+) -> Result<(), NoMemory>
+    requires registers { at.to ≤ 22 }
+    requires labels { at.first + length traps.old.items < 2 ^ 32 }
+    ensures body { OnOk result (body.new.items ≡ body.old.items ++ operation op at.to right.now number (at.first + length traps.old.items)) }
+    ensures traps { OnOk result (traps.new.items ≡ traps.old.items ++ (if can_trap op number then trap_block (at.first + length traps.old.items) Divide place ∷ [] else [])) }
+    ensures count { OnOk result (length traps.new.items ≡ length traps.old.items + (if can_trap op number then 1 else 0)) }
+{
+    let trap = at.first + traps.len() as u32;
+    push_operation(body, op, at.to, right, number, trap)?;
+    if can_trap(op, number) {
+        push_trap(alloc, traps, trap, TrapKind::Divide, place)?;
+    }
+    Ok(())
+}
+
+/// Appends to a body the instructions that leave an expression's value in register `at.to`, and its
+/// trap blocks to those that are there. The first of all these trap blocks has the label `at.first`.
+pub fn push_expr(
+    alloc: Global,
+    body: &mut Vec<Instr>,
+    traps: &mut Vec<Block>,
+    expr: &Expr,
+    scope: &Scope,
+    at: Site,
+) -> Result<(), NoMemory>
+    requires few_tables { length scope.now.tables.items ≤ 16 }
+    requires registers { at.to + height expr.now ≤ 24 }
+    requires labels { at.first + length traps.old.items + trap_count expr.now < 2 ^ 32 }
+    ensures body { OnOk result (body.new.items ≡ body.old.items ++ body_of scope.now (at.first + length traps.old.items) expr.now at.to) }
+    ensures traps { OnOk result (traps.new.items ≡ traps.old.items ++ traps_of (at.first + length traps.old.items) expr.now) }
+    ensures count { OnOk result (length traps.new.items ≡ length traps.old.items + trap_count expr.now) }
+{
+    let to = at.to;
+    match expr {
+        Expr::Int(number, _) => body.push(Instr::Move { to, value: Value::Int(*number) })?,
+        Expr::Var(name) => {
+            let off = offset_of(scope, name.text.as_slice());
+            body.push(Instr::Load { to, base: 31, off })?;
+        }
+        Expr::Cell(name, i, j) => {
+            let mut row = Vec::new(alloc);
+            push_expr(alloc, &mut row, traps, i, scope, at)?;
+            let mut col = Vec::new(alloc);
+            push_expr(alloc, &mut col, traps, j, scope, above(at))?;
+            let table = table_number(scope, name.text.as_slice());
+            push_cell(alloc, body, traps, at, name, table, &row, &col)?;
+        }
+        Expr::Rows(name) => {
+            let table = table_number(scope, name.text.as_slice());
+            body.push(Instr::Rows { to, table })?;
+        }
+        Expr::Cols(name) => {
+            let table = table_number(scope, name.text.as_slice());
+            body.push(Instr::Cols { to, table })?;
+        }
+        Expr::Neg(a, _) => {
+            push_expr(alloc, body, traps, a, scope, at)?;
+            body.push(Instr::Calc { to, left: to, alu: Alu::Mul, right: Value::Int(-1) })?;
+        }
+        Expr::Bin(op, place, a, b) => {
+            push_expr(alloc, body, traps, a, scope, at)?;
+            let mut right = Vec::new(alloc);
+            push_expr(alloc, &mut right, traps, b, scope, above(at))?;
+            push_operator(alloc, body, traps, at, *op, *place, &right, literal(b))?;
+        }
+    }
+    Ok(())
+}
+
+// The blocks of an expression.
+fn blocks_of(alloc: Global, expr: &Expr, scope: &Scope, to: u8) -> Result<Vec<Block>, NoMemory>
+    requires few_tables { length scope.now.tables.items ≤ 16 }
+    requires registers { to + height expr.now ≤ 24 }
+    requires label { scope.now.next_label < 65536 }
+    ensures { IfOk result (λ blocks. blocks.items ≡ blocks_of scope.now expr.now to) }
+{
+    let mut body = Vec::new(alloc);
+    let mut traps = Vec::new(alloc);
+    let first = scope.next_label + 1;
+    push_expr(alloc, &mut body, &mut traps, expr, scope, Site { to, first })?;
+    let behind = first + traps.len() as u32;
+    let name = name_of(alloc, scope.next_label)?;
+    let mut blocks = Vec::new(alloc);
+    blocks.push(Block {
+        name: Items::new(name),
+        note: Note::Plain,
+        body: Items::new(body),
+        term: Term::Jump(Value::Label(behind)),
+    })?;
+    blocks.append(&mut traps)?;
+    Ok(blocks)
+}
+
+/// The blocks of an expression, which stand from `scope.next_label` on. A task that begins at the
+/// first of them, and holds the scope's variables and tables, leaves the expression's value in
+/// register `to` and goes on at the label behind the last of them, or it traps as the expression
+/// does. It changes no register below `to` or above 23, no cell of the stack and no table.
+pub fn lower_expr(alloc: Global, expr: &Expr, scope: &Scope, to: u8) -> Result<Vec<Block>, NoMemory>
+    requires in_scope { IsIn scope.now expr.now }
+    requires few_tables { length scope.now.tables.items ≤ 16 }
+    requires registers { to + height expr.now ≤ 24 }
+    requires label { scope.now.next_label < 65536 }
+    ensures blocks { IfOk result (λ blocks. blocks.items ≡ blocks_of scope.now expr.now to) }
+    ensures answer { IfOk result (λ blocks. (code : Listing) (heartbeat : ℕ) (vars : List Variable) (tables : List Table) (state : State)
+        → AreAt code scope.now.next_label blocks.items
+        → state.block ≡ scope.now.next_label → state.at ≡ 0
+        → Holds scope.now vars tables (eval vars tables expr.now).notes state
+        → ComesTo code heartbeat (scope.now.next_label + length blocks.items) to (eval vars tables expr.now).answer state) }
+{
+    let blocks = blocks_of(alloc, expr, scope, to)?;
+    Ok(blocks)
+}
