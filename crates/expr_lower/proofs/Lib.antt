@@ -1,0 +1,9 @@
+pub mod Standing
+pub mod Registers
+pub mod Evaluating
+pub mod Operations
+pub mod Indexes
+pub mod CellReads
+pub mod Law
+pub mod Coming
+pub mod Counting
