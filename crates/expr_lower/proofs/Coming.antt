@@ -148,5 +148,5 @@ comes_to code heartbeat scope vars tables e to state inside within (found, traps
       ends = refl;
     } in
     let comes : ComesTo code heartbeat (scope.next_label + 1 + trap_count e) to (eval vars tables e).answer state =
-        by_answer code heartbeat (scope.next_label + 1 + trap_count e) to state (eval vars tables e).answer (λ K after. expr_law code heartbeat K scope vars tables e (scope.next_label + 1) to inside within traps state [] (term.Jump (value.Label (scope.next_label + 1 + trap_count e))) stands holds after) in
+    by_answer code heartbeat (scope.next_label + 1 + trap_count e) to state (eval vars tables e).answer (λ K after. expr_law code heartbeat K scope vars tables e (scope.next_label + 1) to inside within traps state [] (term.Jump (value.Label (scope.next_label + 1 + trap_count e))) stands holds after) in
     subst (λ (l : ℕ). ComesTo code heartbeat l to (eval vars tables e).answer state) behind comes

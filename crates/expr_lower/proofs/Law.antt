@@ -80,12 +80,12 @@ height_positive (Neg' p a place) = omega arith
 height_positive (Bin' o place p a q b) = omega arith
 
 -- the registers of the operands of a node
-record Fits (to : ℕ) (a b : Expr) : Type 0 where
-  node : to ≤ 22
-  first : to + height a ≤ 24
-  second : to + 1 + height b ≤ 24
+pub record Fits (to : ℕ) (a b : Expr) : Type 0 where
+  pub node : to ≤ 22
+  pub first : to + height a ≤ 24
+  pub second : to + 1 + height b ≤ 24
 
-fits : (to : ℕ) (a b : Expr) → to + suc (max (height a) (height b)) ≤ 24 → Fits to a b
+pub fits : (to : ℕ) (a b : Expr) → to + suc (max (height a) (height b)) ≤ 24 → Fits to a b
 fits to a b within = record {
   node = omega (arith, height_positive a, le-max_left (height a) (height b));
   first = omega (arith, le-max_left (height a) (height b));
@@ -121,7 +121,7 @@ module _ (code : Listing) (heartbeat : ℕ) (K : Back code heartbeat) (scope : S
   expr_law (Cell' t p a q b) label to is within are state more end stands holds after =
       let registers : Fits to a b = fits to a b within in
       let blocks : Three code label (trap_count a) (trap_count b) (traps_of label a) (traps_of (label + trap_count a) b) (trap_block (label + trap_count a + trap_count b) Index t.place ∷ []) = three code label (trap_count a) (trap_count b) _ _ _ (length_traps a label) (length_traps b (label + trap_count a)) are in
-      cell_law code heartbeat K scope vars tables t is.0 to (label + trap_count a + trap_count b) registers.node blocks.third.0
+      cell_law code heartbeat K scope vars tables t is.0 (label + trap_count a + trap_count b) blocks.third.0 to registers.node
       (body_of scope label a to) (body_of scope (label + trap_count a) b (to + 1)) (eval vars tables a).answer (eval vars tables b).answer (eval vars tables a).notes (eval vars tables b).notes
       (expr_law a label to is.1 registers.first blocks.first) (expr_law b (label + trap_count a) (to + 1) is.2 registers.second blocks.second) state more end stands holds after
   expr_law (Rows t) label to is within are state more end stands holds after =

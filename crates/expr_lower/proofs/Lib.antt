@@ -7,3 +7,4 @@ pub mod CellReads
 pub mod Law
 pub mod Coming
 pub mod Counting
+pub mod Fitting

@@ -137,8 +137,8 @@ module _ (code : Listing) (heartbeat : ℕ) (K : Back code heartbeat) (scope : S
 
   tested_law : (o : Alu) (f : ℤ → ℤ → ℤ) → Divides o f → (to trap : ℕ) (place : Place) → to ≤ 22 → block_at code trap ≡ Some (trap_block trap Divide place) → (m : ℤ) (body : List Instr) (answer : Answer) (notes before : List Note) → Evaluates code heartbeat K scope vars tables body (to + 1) answer notes → (form : Bool) → nat_lt to 22 ≡ form
       → EvaluatesOn code heartbeat K scope vars tables m (cond form
-          (body ++ instr.Calc (to + 2) (to + 1) alu.Eq (value.Int (pos 0)) ∷ instr.IfJump (to + 2) trap ∷ instr.Calc to to o (value.Reg (to + 1)) ∷ [])
-          (body ++ (instr.Calc (to + 1) (to + 1) alu.Eq (value.Int (pos 0)) ∷ instr.IfJump (to + 1) trap ∷ body ++ instr.Calc to to o (value.Reg (to + 1)) ∷ []))) to
+      (body ++ instr.Calc (to + 2) (to + 1) alu.Eq (value.Int (pos 0)) ∷ instr.IfJump (to + 2) trap ∷ instr.Calc to to o (value.Reg (to + 1)) ∷ [])
+      (body ++ (instr.Calc (to + 1) (to + 1) alu.Eq (value.Int (pos 0)) ∷ instr.IfJump (to + 1) trap ∷ body ++ instr.Calc to to o (value.Reg (to + 1)) ∷ []))) to
       (bind_answer answer notes (λ n. meaning.divided f place m n)).answer (before ++ (bind_answer answer notes (λ n. meaning.divided f place m n)).notes)
   tested_law o f divides to trap place within found m body answer notes before evaluates true form_is =
       let low : to < 22 = ltb-true to 22 form_is in

@@ -109,8 +109,8 @@ tested_division o to right trap =
     if nat_lt to 22
     then right ++ instr.Calc (to + 2) (to + 1) alu.Eq (value.Int (pos 0)) ∷ instr.IfJump (to + 2) trap ∷ instr.Calc to to o (value.Reg (to + 1)) ∷ []
     else right
-        ++ (instr.Calc (to + 1) (to + 1) alu.Eq (value.Int (pos 0)) ∷ instr.IfJump (to + 1) trap ∷ right
-        ++ instr.Calc to to o (value.Reg (to + 1)) ∷ [])
+    ++ (instr.Calc (to + 1) (to + 1) alu.Eq (value.Int (pos 0)) ∷ instr.IfJump (to + 1) trap ∷ right
+    ++ instr.Calc to to o (value.Reg (to + 1)) ∷ [])
 
 abbrev pub division : Alu → ℕ → List Instr → Option ℤ → ℕ → List Instr
 division o to right None trap = tested_division o to right trap
@@ -149,21 +149,21 @@ abbrev pub col_test : ℕ → ℕ → ℕ → ℕ → List Instr
 col_test table col test trap =
     instr.Cols test table ∷ instr.Calc test test alu.Le (value.Reg col) ∷ instr.IfJump test trap ∷ []
 
+-- a trap where a row and a column in two registers are those of no cell of a table, tested in a third
+abbrev pub range_tests : ℕ → ℕ → ℕ → ℕ → ℕ → List Instr
+range_tests table row col test trap = below_test row col test trap ++ (row_test table row test trap ++ col_test table col test trap)
+
 -- A cell, behind the instructions that leave its row in `to` and its column above it. Where the tests have
 -- no register of their own, they take those of the row and the column, which are computed anew.
 abbrev pub cell_read : ℕ → ℕ → List Instr → List Instr → ℕ → List Instr
 cell_read table to row col trap =
     if nat_lt to 22
-    then row
-        ++ (col
-        ++ (below_test to (to + 1) (to + 2) trap
-        ++ (row_test table to (to + 2) trap
-        ++ (col_test table (to + 1) (to + 2) trap ++ instr.Fetch to table to (to + 1) ∷ []))))
+    then row ++ (col ++ (range_tests table to (to + 1) (to + 2) trap ++ instr.Fetch to table to (to + 1) ∷ []))
     else row
-        ++ (col
-        ++ (below_test to (to + 1) (to + 1) trap
-        ++ (row_test table to (to + 1) trap
-        ++ (col ++ (col_test table (to + 1) to trap ++ (row ++ (col ++ instr.Fetch to table to (to + 1) ∷ [])))))))
+    ++ (col
+    ++ (below_test to (to + 1) (to + 1) trap
+    ++ (row_test table to (to + 1) trap
+    ++ (col ++ (col_test table (to + 1) to trap ++ (row ++ (col ++ instr.Fetch to table to (to + 1) ∷ [])))))))
 
 -- ---- expressions
 

@@ -1,49 +1,94 @@
 // The instructions that read a cell of a table, with the tests of its row and its column.
 
 ghost use Rattle.std.specs.Prelude.{◌≡◌, ◌≤◌, ◌+◌, ◌++◌, ◌∷◌, [], OnOk};
-ghost use Rattle.expr_lower.specs.Bodies.{below_test, row_test, col_test, cell_read};
+ghost use Rattle.expr_lower.specs.Bodies.{below_test, row_test, col_test, range_tests, cell_read};
 
 use tp_value::NoMemory;
 use tpal_syntax::{Alu, Instr, Value};
 
 // Appends a trap where the row or the column is below 0.
-fn push_below_test(body: &mut Vec<Instr>, row: u8, col: u8, test: u8, trap: u32) -> Result<(), NoMemory>
+fn push_below_test(
+    body: &mut Vec<Instr>,
+    row: u8,
+    col: u8,
+    test: u8,
+    trap: u32,
+) -> Result<(), NoMemory>
     ensures { OnOk result (body.new.items ≡ body.old.items ++ below_test row col test trap) }
 {
-    body.push(Instr::Calc { to: test, left: row, alu: Alu::Min, right: Value::Reg(col) })?;
-    body.push(Instr::Calc { to: test, left: test, alu: Alu::Lt, right: Value::Int(0) })?;
+    body.push(Instr::Calc {
+        to: test,
+        left: row,
+        alu: Alu::Min,
+        right: Value::Reg(col),
+    })?;
+    body.push(Instr::Calc {
+        to: test,
+        left: test,
+        alu: Alu::Lt,
+        right: Value::Int(0),
+    })?;
     body.push(Instr::IfJump { test, label: trap })?;
     Ok(())
 }
 
 // Appends a trap where the row isn't below the number of rows.
-fn push_row_test(body: &mut Vec<Instr>, table: u8, row: u8, test: u8, trap: u32) -> Result<(), NoMemory>
+fn push_row_test(
+    body: &mut Vec<Instr>,
+    table: u8,
+    row: u8,
+    test: u8,
+    trap: u32,
+) -> Result<(), NoMemory>
     ensures { OnOk result (body.new.items ≡ body.old.items ++ row_test table row test trap) }
 {
     body.push(Instr::Rows { to: test, table })?;
-    body.push(Instr::Calc { to: test, left: test, alu: Alu::Le, right: Value::Reg(row) })?;
+    body.push(Instr::Calc {
+        to: test,
+        left: test,
+        alu: Alu::Le,
+        right: Value::Reg(row),
+    })?;
     body.push(Instr::IfJump { test, label: trap })?;
     Ok(())
 }
 
 // Appends a trap where the column isn't below the number of columns.
-fn push_col_test(body: &mut Vec<Instr>, table: u8, col: u8, test: u8, trap: u32) -> Result<(), NoMemory>
+fn push_col_test(
+    body: &mut Vec<Instr>,
+    table: u8,
+    col: u8,
+    test: u8,
+    trap: u32,
+) -> Result<(), NoMemory>
     ensures { OnOk result (body.new.items ≡ body.old.items ++ col_test table col test trap) }
 {
     body.push(Instr::Cols { to: test, table })?;
-    body.push(Instr::Calc { to: test, left: test, alu: Alu::Le, right: Value::Reg(col) })?;
+    body.push(Instr::Calc {
+        to: test,
+        left: test,
+        alu: Alu::Le,
+        right: Value::Reg(col),
+    })?;
     body.push(Instr::IfJump { test, label: trap })?;
     Ok(())
 }
 
-// Appends the tests with a register of their own.
-fn push_tests(body: &mut Vec<Instr>, table: u8, to: u8, trap: u32) -> Result<(), NoMemory>
-    requires { to ≤ 21 }
-    ensures { OnOk result (body.new.items ≡ body.old.items ++ (below_test to (to + 1) (to + 2) trap ++ (row_test table to (to + 2) trap ++ col_test table (to + 1) (to + 2) trap))) }
+/// Appends a jump to the block at `trap` where the row and the column in two registers are those of
+/// no cell of a table. It tests them in a third register, and changes no other.
+pub fn push_range_tests(
+    body: &mut Vec<Instr>,
+    table: u8,
+    row: u8,
+    col: u8,
+    test: u8,
+    trap: u32,
+) -> Result<(), NoMemory>
+    ensures { OnOk result (body.new.items ≡ body.old.items ++ range_tests table row col test trap) }
 {
-    push_below_test(body, to, to + 1, to + 2, trap)?;
-    push_row_test(body, table, to, to + 2, trap)?;
-    push_col_test(body, table, to + 1, to + 2, trap)
+    push_below_test(body, row, col, test, trap)?;
+    push_row_test(body, table, row, test, trap)?;
+    push_col_test(body, table, col, test, trap)
 }
 
 // Appends the tests in the registers of the row and the column, which are computed anew.
@@ -83,10 +128,15 @@ pub fn push_cell_read(
     body.extend_from_slice(row)?;
     body.extend_from_slice(col)?;
     if to < 22 {
-        push_tests(body, table, to, trap)?;
+        push_range_tests(body, table, to, to + 1, to + 2, trap)?;
     } else {
         push_tests_in_place(body, table, to, row, col, trap)?;
     }
-    body.push(Instr::Fetch { to, table, row: to, col: to + 1 })?;
+    body.push(Instr::Fetch {
+        to,
+        table,
+        row: to,
+        col: to + 1,
+    })?;
     Ok(())
 }

@@ -5,6 +5,7 @@ ghost use Rattle.tp_value.specs.declared.Table.{Table};
 ghost use Rattle.loop_rules.specs.Limits.{height};
 ghost use Rattle.loop_meaning.specs.declared.value.Variable.{Variable};
 ghost use Rattle.loop_meaning.specs.Expressions.{eval};
+ghost use Rattle.loop_meaning.specs.InRange.{ExprInRange};
 ghost use Rattle.tpal_syntax.specs.Listing.{Listing};
 ghost use Rattle.tpal_machine.specs.State.{State};
 ghost use Rattle.expr_lower.specs.Bodies.{can_trap, trap_block, operation, cell_read, body_of, traps_of, trap_count, blocks_of};
@@ -38,7 +39,10 @@ fn above(at: Site) -> Site
     ensures to { result.to ≡ at.to + 1 }
     ensures first { result.first ≡ at.first }
 {
-    Site { to: at.to + 1, first: at.first }
+    Site {
+        to: at.to + 1,
+        first: at.first,
+    }
 }
 
 // Appends the instructions that read a cell, and its trap block. Those of its row and of its column
@@ -106,10 +110,14 @@ pub fn push_expr(
     ensures body { OnOk result (body.new.items ≡ body.old.items ++ body_of scope.now (at.first + length traps.old.items) expr.now at.to) }
     ensures traps { OnOk result (traps.new.items ≡ traps.old.items ++ traps_of (at.first + length traps.old.items) expr.now) }
     ensures count { OnOk result (length traps.new.items ≡ length traps.old.items + trap_count expr.now) }
+    ensures literals { OnOk result (ExprInRange expr.now) }
 {
     let to = at.to;
     match expr {
-        Expr::Int(number, _) => body.push(Instr::Move { to, value: Value::Int(*number) })?,
+        Expr::Int(number, _) => body.push(Instr::Move {
+            to,
+            value: Value::Int(*number),
+        })?,
         Expr::Var(name) => {
             let off = offset_of(scope, name.text.as_slice());
             body.push(Instr::Load { to, base: 31, off })?;
@@ -132,7 +140,12 @@ pub fn push_expr(
         }
         Expr::Neg(a, _) => {
             push_expr(alloc, body, traps, a, scope, at)?;
-            body.push(Instr::Calc { to, left: to, alu: Alu::Mul, right: Value::Int(-1) })?;
+            body.push(Instr::Calc {
+                to,
+                left: to,
+                alu: Alu::Mul,
+                right: Value::Int(-1),
+            })?;
         }
         Expr::Bin(op, place, a, b) => {
             push_expr(alloc, body, traps, a, scope, at)?;
@@ -154,7 +167,14 @@ fn blocks_of(alloc: Global, expr: &Expr, scope: &Scope, to: u8) -> Result<Vec<Bl
     let mut body = Vec::new(alloc);
     let mut traps = Vec::new(alloc);
     let first = scope.next_label + 1;
-    push_expr(alloc, &mut body, &mut traps, expr, scope, Site { to, first })?;
+    push_expr(
+        alloc,
+        &mut body,
+        &mut traps,
+        expr,
+        scope,
+        Site { to, first },
+    )?;
     let behind = first + traps.len() as u32;
     let name = name_of(alloc, scope.next_label)?;
     let mut blocks = Vec::new(alloc);
@@ -173,12 +193,12 @@ fn blocks_of(alloc: Global, expr: &Expr, scope: &Scope, to: u8) -> Result<Vec<Bl
 /// register `to` and goes on at the label behind the last of them, or it traps as the expression
 /// does. It changes no register below `to` or above 23, no cell of the stack and no table.
 pub fn lower_expr(alloc: Global, expr: &Expr, scope: &Scope, to: u8) -> Result<Vec<Block>, NoMemory>
-    requires in_scope { IsIn scope.now expr.now }
     requires few_tables { length scope.now.tables.items ≤ 16 }
     requires registers { to + height expr.now ≤ 24 }
     requires label { scope.now.next_label < 65536 }
     ensures blocks { IfOk result (λ blocks. blocks.items ≡ blocks_of scope.now expr.now to) }
     ensures answer { IfOk result (λ blocks. (code : Listing) (heartbeat : ℕ) (vars : List Variable) (tables : List Table) (state : State)
+        → IsIn scope.now expr.now
         → AreAt code scope.now.next_label blocks.items
         → state.block ≡ scope.now.next_label → state.at ≡ 0
         → Holds scope.now vars tables (eval vars tables expr.now).notes state

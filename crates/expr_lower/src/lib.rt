@@ -10,6 +10,10 @@ mod operators;
 mod scope;
 mod traps;
 
+pub use cells::push_range_tests;
 pub use expression::{Site, lower_expr, push_expr};
 pub use scope::Scope;
-pub use traps::name_of;
+pub use traps::{name_of, push_trap};
+
+#[cfg(test)]
+mod tests;

@@ -61,10 +61,20 @@ fn push_calculation(
     ensures { OnOk result (body.new.items ≡ body.old.items ++ calculation alu to right.now number) }
 {
     match number {
-        Some(n) => body.push(Instr::Calc { to, left: to, alu, right: Value::Int(n) })?,
+        Some(n) => body.push(Instr::Calc {
+            to,
+            left: to,
+            alu,
+            right: Value::Int(n),
+        })?,
         None => {
             body.extend_from_slice(right)?;
-            body.push(Instr::Calc { to, left: to, alu, right: Value::Reg(to + 1) })?;
+            body.push(Instr::Calc {
+                to,
+                left: to,
+                alu,
+                right: Value::Reg(to + 1),
+            })?;
         }
     }
     Ok(())
@@ -76,7 +86,12 @@ fn push_turned(body: &mut Vec<Instr>, alu: Alu, to: u8, right: &[Instr]) -> Resu
     ensures { OnOk result (body.new.items ≡ body.old.items ++ turned alu to right.now) }
 {
     body.extend_from_slice(right)?;
-    body.push(Instr::Calc { to, left: to + 1, alu, right: Value::Reg(to) })?;
+    body.push(Instr::Calc {
+        to,
+        left: to + 1,
+        alu,
+        right: Value::Reg(to),
+    })?;
     Ok(())
 }
 
@@ -93,12 +108,22 @@ fn push_tested_division(
 {
     body.extend_from_slice(right)?;
     let test = if to < 22 { to + 2 } else { to + 1 };
-    body.push(Instr::Calc { to: test, left: to + 1, alu: Alu::Eq, right: Value::Int(0) })?;
+    body.push(Instr::Calc {
+        to: test,
+        left: to + 1,
+        alu: Alu::Eq,
+        right: Value::Int(0),
+    })?;
     body.push(Instr::IfJump { test, label: trap })?;
     if to >= 22 {
         body.extend_from_slice(right)?;
     }
-    body.push(Instr::Calc { to, left: to, alu, right: Value::Reg(to + 1) })?;
+    body.push(Instr::Calc {
+        to,
+        left: to,
+        alu,
+        right: Value::Reg(to + 1),
+    })?;
     Ok(())
 }
 
@@ -115,12 +140,23 @@ fn push_division(
 {
     match number {
         Some(0) => {
-            body.push(Instr::Move { to, value: Value::Int(1) })?;
-            body.push(Instr::IfJump { test: to, label: trap })?;
+            body.push(Instr::Move {
+                to,
+                value: Value::Int(1),
+            })?;
+            body.push(Instr::IfJump {
+                test: to,
+                label: trap,
+            })?;
             Ok(())
         }
         Some(n) => {
-            body.push(Instr::Calc { to, left: to, alu, right: Value::Int(n) })?;
+            body.push(Instr::Calc {
+                to,
+                left: to,
+                alu,
+                right: Value::Int(n),
+            })?;
             Ok(())
         }
         None => push_tested_division(body, alu, to, right, trap),

@@ -22,18 +22,18 @@ returns-in_ok-push_operator-in-Bin-clause-body t c =
     let b = c.in-Bin.b.value in
     let start = c.args.at.first + length c.args.traps.now.items in
     let behind : c.args.at.first + length c.push_expr-in-Bin.new.traps.items ≡ start + trap_count a =
-        omega (arith, c.in_ok-push_expr-in-Bin.ensures.count, ap trap_count c.deref-in-Bin.ensures) in
+    omega (arith, c.in_ok-push_expr-in-Bin.ensures.count, ap trap_count c.deref-in-Bin.ensures) in
     let last : c.args.at.first + length c.push_expr-in-Bin-2.new.traps.items ≡ start + trap_count a + trap_count b =
-        omega (arith, behind, c.in_ok-push_expr-in-Bin-2.ensures.count, ap trap_count c.deref-in-Bin-2.ensures) in
+    omega (arith, behind, c.in_ok-push_expr-in-Bin-2.ensures.count, ap trap_count c.deref-in-Bin-2.ensures) in
     let left : c.push_expr-in-Bin.new.body.items ≡ c.args.body.now.items ++ body_of scope start a to =
-        c.in_ok-push_expr-in-Bin.ensures.body ∙ ap (λ (e : Expr). c.args.body.now.items ++ body_of scope start e to) c.deref-in-Bin.ensures in
+    c.in_ok-push_expr-in-Bin.ensures.body ∙ ap (λ (e : Expr). c.args.body.now.items ++ body_of scope start e to) c.deref-in-Bin.ensures in
     let right : c.push_expr-in-Bin-2.new.body.items ≡ body_of scope (start + trap_count a) b (to + 1) =
-        c.in_ok-push_expr-in-Bin-2.ensures.body
-        ∙ ap (λ (xs : List Instr). xs ++ body_of scope (c.above-in-Bin.result.first + length c.push_expr-in-Bin.new.traps.items) c.deref-in-Bin-2.result.now c.above-in-Bin.result.to) c.new-right.ensures.items
-        ∙ ap (λ (n : ℕ). body_of scope (n + length c.push_expr-in-Bin.new.traps.items) c.deref-in-Bin-2.result.now c.above-in-Bin.result.to) c.above-in-Bin.ensures.first
-        ∙ ap (λ (n : ℕ). body_of scope n c.deref-in-Bin-2.result.now c.above-in-Bin.result.to) behind
-        ∙ ap (λ (e : Expr). body_of scope (start + trap_count a) e c.above-in-Bin.result.to) c.deref-in-Bin-2.ensures
-        ∙ ap (λ (n : ℕ). body_of scope (start + trap_count a) b n) c.above-in-Bin.ensures.to in
+    c.in_ok-push_expr-in-Bin-2.ensures.body
+    ∙ ap (λ (xs : List Instr). xs ++ body_of scope (c.above-in-Bin.result.first + length c.push_expr-in-Bin.new.traps.items) c.deref-in-Bin-2.result.now c.above-in-Bin.result.to) c.new-right.ensures.items
+    ∙ ap (λ (n : ℕ). body_of scope (n + length c.push_expr-in-Bin.new.traps.items) c.deref-in-Bin-2.result.now c.above-in-Bin.result.to) c.above-in-Bin.ensures.first
+    ∙ ap (λ (n : ℕ). body_of scope n c.deref-in-Bin-2.result.now c.above-in-Bin.result.to) behind
+    ∙ ap (λ (e : Expr). body_of scope (start + trap_count a) e c.above-in-Bin.result.to) c.deref-in-Bin-2.ensures
+    ∙ ap (λ (n : ℕ). body_of scope (start + trap_count a) b n) c.above-in-Bin.ensures.to in
     let own = operation c.in-Bin.op to (body_of scope (start + trap_count a) b (to + 1)) (literal b) (start + trap_count a + trap_count b) in
     c.in_ok-push_operator-in-Bin.ensures.body
     ∙ ap (λ (xs : List Instr). xs ++ operation c.in-Bin.op to c.deref-in-Bin-3.result.now c.literal.result (c.args.at.first + length c.push_expr-in-Bin-2.new.traps.items)) left
@@ -49,17 +49,17 @@ returns-in_ok-push_operator-in-Bin-clause-traps t c =
     let b = c.in-Bin.b.value in
     let start = c.args.at.first + length c.args.traps.now.items in
     let behind : c.args.at.first + length c.push_expr-in-Bin.new.traps.items ≡ start + trap_count a =
-        omega (arith, c.in_ok-push_expr-in-Bin.ensures.count, ap trap_count c.deref-in-Bin.ensures) in
+    omega (arith, c.in_ok-push_expr-in-Bin.ensures.count, ap trap_count c.deref-in-Bin.ensures) in
     let last : c.args.at.first + length c.push_expr-in-Bin-2.new.traps.items ≡ start + trap_count a + trap_count b =
-        omega (arith, behind, c.in_ok-push_expr-in-Bin-2.ensures.count, ap trap_count c.deref-in-Bin-2.ensures) in
+    omega (arith, behind, c.in_ok-push_expr-in-Bin-2.ensures.count, ap trap_count c.deref-in-Bin-2.ensures) in
     let left : c.push_expr-in-Bin.new.traps.items ≡ c.args.traps.now.items ++ traps_of start a =
-        c.in_ok-push_expr-in-Bin.ensures.traps ∙ ap (λ (e : Expr). c.args.traps.now.items ++ traps_of start e) c.deref-in-Bin.ensures in
+    c.in_ok-push_expr-in-Bin.ensures.traps ∙ ap (λ (e : Expr). c.args.traps.now.items ++ traps_of start e) c.deref-in-Bin.ensures in
     let right : c.push_expr-in-Bin-2.new.traps.items ≡ (c.args.traps.now.items ++ traps_of start a) ++ traps_of (start + trap_count a) b =
-        c.in_ok-push_expr-in-Bin-2.ensures.traps
-        ∙ ap (λ (n : ℕ). c.push_expr-in-Bin.new.traps.items ++ traps_of (n + length c.push_expr-in-Bin.new.traps.items) c.deref-in-Bin-2.result.now) c.above-in-Bin.ensures.first
-        ∙ ap (λ (n : ℕ). c.push_expr-in-Bin.new.traps.items ++ traps_of n c.deref-in-Bin-2.result.now) behind
-        ∙ ap (λ (e : Expr). c.push_expr-in-Bin.new.traps.items ++ traps_of (start + trap_count a) e) c.deref-in-Bin-2.ensures
-        ∙ ap (λ (xs : List Block). xs ++ traps_of (start + trap_count a) b) left in
+    c.in_ok-push_expr-in-Bin-2.ensures.traps
+    ∙ ap (λ (n : ℕ). c.push_expr-in-Bin.new.traps.items ++ traps_of (n + length c.push_expr-in-Bin.new.traps.items) c.deref-in-Bin-2.result.now) c.above-in-Bin.ensures.first
+    ∙ ap (λ (n : ℕ). c.push_expr-in-Bin.new.traps.items ++ traps_of n c.deref-in-Bin-2.result.now) behind
+    ∙ ap (λ (e : Expr). c.push_expr-in-Bin.new.traps.items ++ traps_of (start + trap_count a) e) c.deref-in-Bin-2.ensures
+    ∙ ap (λ (xs : List Block). xs ++ traps_of (start + trap_count a) b) left in
     let own : ℕ → List Block = λ n. cond (can_trap c.in-Bin.op (literal b)) (trap_block n Divide c.in-Bin.place ∷ []) [] in
     c.in_ok-push_operator-in-Bin.ensures.traps
     ∙ ap (λ (xs : List Block). xs ++ cond (can_trap c.in-Bin.op c.literal.result) (trap_block (c.args.at.first + length c.push_expr-in-Bin-2.new.traps.items) Divide c.in-Bin.place ∷ []) []) right

@@ -8,6 +8,7 @@ use Rattle.tpal_machine.specs.State.{State}
 use Rattle.expr_lower.specs.Bodies.{blocks_of}
 use Rattle.expr_lower.specs.Holding.{Holds}
 use Rattle.expr_lower.specs.Leaving.{ComesTo}
+use Rattle.expr_lower.specs.Scopes.{IsIn}
 use Rattle.expr_lower.specs.Standing.{AreAt}
 use Rattle.expr_lower.proofs.Coming.{comes_to}
 use Rattle.expr_lower.proofs.expression.lower_expr.Goals as goal
@@ -16,6 +17,6 @@ pub returns-clause-answer : goal.returns-clause-answer
 returns-clause-answer c =
     let scope = c.args.scope.now in
     let e = c.args.expr.now in
-    subst (λ (blocks : List Block). (code : Listing) (heartbeat : ℕ) (vars : List Variable) (tables : List Table) (state : State) → AreAt code scope.next_label blocks → state.block ≡ scope.next_label → state.at ≡ 0 → Holds scope vars tables (eval vars tables e).notes state → ComesTo code heartbeat (scope.next_label + length blocks) c.args.to (eval vars tables e).answer state)
-    (sym c.in_ok-blocks.ensures) (λ code heartbeat vars tables state are at_label at_start holds.
-    comes_to code heartbeat scope vars tables e c.args.to state c.requires.in_scope c.requires.registers are at_label at_start holds)
+    subst (λ (blocks : List Block). (code : Listing) (heartbeat : ℕ) (vars : List Variable) (tables : List Table) (state : State) → IsIn scope e → AreAt code scope.next_label blocks → state.block ≡ scope.next_label → state.at ≡ 0 → Holds scope vars tables (eval vars tables e).notes state → ComesTo code heartbeat (scope.next_label + length blocks) c.args.to (eval vars tables e).answer state)
+    (sym c.in_ok-blocks.ensures) (λ code heartbeat vars tables state inside are at_label at_start holds.
+    comes_to code heartbeat scope vars tables e c.args.to state inside c.requires.registers are at_label at_start holds)
