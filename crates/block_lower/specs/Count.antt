@@ -1,0 +1,65 @@
+-- How many blocks the code of a program may have: a sum over its tree.
+use Rattle.std.specs.Prelude.{ℕ, ◌+◌, ◌*◌, List}
+use Rattle.std.specs.List.{sum_by}
+use Rattle.loop_syntax.specs.declared.Expr.{Expr}
+use Rattle.loop_syntax.specs.declared.Expr.TheVariants.{Int, Var, Cell', Rows, Cols, Neg', Bin'}
+use Rattle.loop_syntax.specs.declared.Stmt.{Stmt, Row_of-Stmt, end_of-Stmt, more_of-Stmt}
+use Rattle.loop_syntax.specs.declared.Stmt.TheVariants.{Let, Set, Put, If', While', Loop', Par', Fold, Call, Both, Print, Emit}
+use Rattle.loop_syntax.specs.declared.Func.{Func}
+use Rattle.loop_syntax.specs.declared.TableDecl.{TableDecl}
+use Rattle.loop_syntax.specs.declared.TableDecl.TheVariants.{Input, Made}
+use Rattle.loop_syntax.specs.declared.Program.{Program}
+
+-- the nodes of an expression
+abbrev pub nodes : Expr → ℕ
+nodes (Int n place) = 1
+nodes (Var x) = 1
+nodes (Cell' t p a q b) = 1 + nodes a + nodes b
+nodes (Rows t) = 1
+nodes (Cols t) = 1
+nodes (Neg' p a place) = 1 + nodes a
+nodes (Bin' o place p a q b) = 1 + nodes a + nodes b
+
+-- 8 for each node of an expression
+abbrev pub blocks_of_expr : Expr → ℕ
+blocks_of_expr e = 8 * nodes e
+
+abbrev pub blocks_of_exprs : List Expr → ℕ
+blocks_of_exprs es = sum_by blocks_of_expr es
+
+-- 64 for a `par` or a `both`, 16 for another statement, 8 for each node of its expressions, and the same for
+-- the statements inside
+abbrev mutual
+  pub blocks : Stmt → ℕ
+  blocks (Let x e) = 16 + blocks_of_expr e
+  blocks (Set x e) = 16 + blocks_of_expr e
+  blocks (Put t a b e) = 16 + blocks_of_expr a + blocks_of_expr b + blocks_of_expr e
+  blocks (If' e p body q other) = 16 + blocks_of_expr e + blocks_of_all body + blocks_of_all other
+  blocks (While' e p body) = 16 + blocks_of_expr e + blocks_of_all body
+  blocks (Loop' x a b p body) = 16 + blocks_of_expr a + blocks_of_expr b + blocks_of_all body
+  blocks (Par' place x a b carry_place carries reduces p body) = 64 + blocks_of_expr a + blocks_of_expr b + blocks_of_all body
+  blocks (Fold x e) = 16 + blocks_of_expr e
+  blocks (Call x f) = 16 + blocks_of_exprs f.args.items
+  blocks (Both x f y g) = 64 + blocks_of_exprs f.args.items + blocks_of_exprs g.args.items
+  blocks (Print place e) = 16 + blocks_of_expr e
+  blocks (Emit place t) = 16
+
+  pub blocks_of_all : {m : _} → Row_of-Stmt m → ℕ
+  blocks_of_all end_of-Stmt = 0
+  blocks_of_all (more_of-Stmt first rest) = blocks first + blocks_of_all rest
+
+abbrev pub blocks_of_list : List Stmt → ℕ
+blocks_of_list body = sum_by blocks body
+
+-- 8 for a function, and what its statements and its result have
+abbrev pub blocks_of_func : Func → ℕ
+blocks_of_func f = 8 + blocks_of_list f.body.items + blocks_of_expr f.result
+
+-- 8 for a table, and what its size has
+abbrev pub blocks_of_decl : TableDecl → ℕ
+blocks_of_decl (Input t) = 8
+blocks_of_decl (Made t a b) = 8 + blocks_of_expr a + blocks_of_expr b
+
+-- 8 for main, and what its statements, the tables and the functions have
+abbrev pub blocks_of_program : Program → ℕ
+blocks_of_program p = 8 + sum_by blocks_of_decl p.tables.items + sum_by blocks_of_func p.funcs.items + blocks_of_list p.main.items

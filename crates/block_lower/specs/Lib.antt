@@ -1,0 +1,2 @@
+-- How many blocks the code of a program may have
+pub mod Count
