@@ -1,0 +1,27 @@
+-- Which variables and tables are visible where, and which cells a scope gives them.
+use Rattle.std.specs.Prelude.{◌≡◌, ℕ, suc, ⊤, List, [], ◌∷◌, ◌++◌, map, Vec}
+use Rattle.std.specs.declared.alloc.Global.{Global}
+use Rattle.loop_syntax.specs.declared.Stmt.{Stmt}
+use Rattle.loop_syntax.specs.declared.Stmt.TheVariants.{Let}
+use Rattle.expr_lower.specs.declared.scope.Scope.{Scope}
+use Rattle.block_lower.specs.Layout.{value_cell}
+
+-- each variable has the cell of its level
+abbrev pub AreLaid : ℕ → List (Vec ℕ Global × ℕ) → Type 0
+AreLaid level [] = ⊤
+AreLaid level (c ∷ cs) = (c.1 ≡ value_cell level) × AreLaid (suc level) cs
+
+-- a scope has just these variables and tables, in this order
+pub record Sees (scope : Scope) (names tables : List (List ℕ)) : Type 0 where
+  pub named : map (λ (c : Vec ℕ Global × ℕ). c.0.items) scope.cells.items ≡ names
+  pub laid : AreLaid 0 scope.cells.items
+  pub listed : map (λ (t : Vec ℕ Global). t.items) scope.tables.items ≡ tables
+
+-- the variables that are visible after a statement
+abbrev pub names_after : List (List ℕ) → Stmt → List (List ℕ)
+names_after names (Let x e) = names ++ x.text.items ∷ []
+names_after names _ = names
+
+abbrev pub names_after_list : List (List ℕ) → List Stmt → List (List ℕ)
+names_after_list names [] = names
+names_after_list names (s ∷ ss) = names_after_list (names_after names s) ss
