@@ -89,24 +89,6 @@ fn a_text_cut_before_its_last_brace_is_refused(rt: HostRuntime) -> Result<(), Fa
 }
 
 #[test]
-fn words_that_are_not_of_the_form_are_bad(rt: HostRuntime) -> Result<(), Fail> {
-    let cases: [&[&str]; 6] = [
-        &[],
-        &["run"],
-        &["run", "-p"],
-        &["run", "p", "t"],
-        &["walk", "p"],
-        &["run", "--beat=1"],
-    ];
-    for words in cases {
-        let called = call_with(rt.alloc(), words, b"main { }", Vec::new(rt.alloc()))?;
-        assert_eq!(rt; called.text.as_slice(), b"bad words\n".as_slice());
-        assert_eq!(rt; called.status, Status::BadWords);
-    }
-    Ok(())
-}
-
-#[test]
 fn an_absent_file_is_a_fault_of_reading(rt: HostRuntime) -> Result<(), Fail> {
     let called = call_with(rt.alloc(), &["run", "q"], b"main { }", Vec::new(rt.alloc()))?;
     assert_eq!(rt; called.text.as_slice(), b"".as_slice());

@@ -18,20 +18,27 @@ fn words_of(alloc: Global, words: &[&str]) -> Result<Vec<String>, AllocError> {
     Ok(list)
 }
 
-/// Calls with these words over a shelf that has one text, under the name `p`, and a sink whose
-/// listed calls fail.
-pub fn call_with(
+fn texts_of(alloc: Global, texts: &[(&str, &[u8])]) -> Result<Vec<(String, Vec<u8>)>, AllocError> {
+    let mut list = Vec::new(alloc);
+    for (name, text) in texts {
+        list.push((
+            String::from_str(alloc, name)?,
+            Vec::from_slice(alloc, text)?,
+        ))?;
+    }
+    Ok(list)
+}
+
+/// Calls with these words over a shelf that has these texts by name, and a sink whose listed calls
+/// fail.
+pub fn call_over(
     alloc: Global,
     words: &[&str],
-    source: &[u8],
+    texts: &[(&str, &[u8])],
     fails: Vec<(u32, u32)>,
 ) -> Result<Called, AllocError> {
     let words = words_of(alloc, words)?;
-    let mut texts = Vec::new(alloc);
-    texts.push((
-        String::from_str(alloc, "p")?,
-        Vec::from_slice(alloc, source)?,
-    ))?;
+    let texts = texts_of(alloc, texts)?;
     let mut shelf = MemShelf {
         texts,
         fails: Vec::new(alloc),
@@ -50,6 +57,17 @@ pub fn call_with(
         text: bytes,
         status,
     })
+}
+
+/// Calls with these words over a shelf that has one text, under the name `p`, and a sink whose
+/// listed calls fail.
+pub fn call_with(
+    alloc: Global,
+    words: &[&str],
+    source: &[u8],
+    fails: Vec<(u32, u32)>,
+) -> Result<Called, AllocError> {
+    call_over(alloc, words, &[("p", source)], fails)
 }
 
 /// Runs a source text under the name `p`.

@@ -5,8 +5,14 @@
 #[cfg(test)]
 mod calls;
 #[cfg(test)]
+mod compiling;
+#[cfg(test)]
 mod harness;
 #[cfg(test)]
 mod limits;
 #[cfg(test)]
 mod rules;
+#[cfg(test)]
+mod tables;
+#[cfg(test)]
+mod words;

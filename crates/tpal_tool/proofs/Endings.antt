@@ -1,120 +1,373 @@
 -- How a call ends.
 use Rattle.std.proofs.Common.{◌≡◌, ℕ, suc, ◌<◌, ◌≤◌, List, [], length, refl, ap, sym, ◌∙◌, arith, subst, inl, inr}
-use Rattle.std.specs.Prelude.{Option, Some, None, IfSome, unwrap_or, replicate, ◌⊎◌}
+use Rattle.std.specs.Prelude.{Option, Some, None, Result, Ok, Err, IfOk, IfSome, IsSomeAnd, unwrap_or, replicate, ◌⊎◌}
 use Rattle.std.proofs.lemmas.List.{length-replicate}
-use Rattle.tp_value.specs.declared.limits.TheConstants.{MAX_SOURCE_BYTES}
+use Rattle.tp_value.specs.declared.limits.TheConstants.{MAX_SOURCE_BYTES, MAX_TABLES_BYTES}
 use Rattle.tp_value.specs.declared.values.Stop.{Stop}
 use Rattle.tp_value.specs.declared.values.Stop.TheVariants as stops
+use Rattle.tp_value.specs.declared.values.Table.{Table}
 use Rattle.loop_syntax.specs.declared.program.Program.{Program}
 use Rattle.loop_syntax.specs.Tree.{program_of}
-use Rattle.loop_parse.specs.Text.{Reads}
 use Rattle.loop_meaning.specs.Answers.{by_stop, status_of, text_of}
 use Rattle.loop_meaning.specs.Meaning.{meaning}
-use Rattle.tpal_tool.specs.declared.running.TheConstants.{DEFAULT_FUEL}
+use Rattle.table_text.specs.TablesText.{TablesOf, FirstTableFault}
+use Rattle.table_text.specs.declared.fault.TableFault.{TableFault}
 use Rattle.tpal_tool.specs.declared.status.Status.{Status}
-use Rattle.tpal_tool.specs.declared.status.Status.TheVariants.{Done, Trap, OutOfFuel, Refused, NoMemory}
-use Rattle.tpal_tool.specs.Lines.{too_long_line}
-use Rattle.tpal_tool.specs.Owed.{SourceOwes, faulty, broken, broken_parallel, not_built, ran, Owes, bad_words, too_long, fits, IsSource, IsFinal, Ends, finished, read_failed, write_failed, no_memory, IsWritten, whole, failed, no_room, IsSole}
+use Rattle.tpal_tool.specs.declared.status.Status.TheVariants.{Done, Trap, OutOfFuel, Refused, NoMemory, ReadFault, WriteFault}
 use Rattle.tpal_tool.specs.Built.{IsBuilt}
+use Rattle.tpal_tool.specs.Lines.{tables_line, too_long_line}
+use Rattle.tpal_tool.specs.Owed.{RunOwes, faulty_tables, ran, CompilesTo, Owes, Owed, bad_words, too_long, refused, compiled, tables_too_long, AreTexts, IsTables, IsToldTables, IsFinal, Finished, Names, ReadFailed, program_failed, tables_failed, Ends, finished, read_failed, write_failed, no_memory, IsWritten, whole, failed, no_room, NamedRunOwes, long, fits}
+use Rattle.tpal_tool.specs.Owed as owed
 use Rattle.tpal_tool.specs.Shelf.{HasRisen}
 use Rattle.tpal_tool.specs.Sink.{Appended}
+use Rattle.tpal_tool.specs.Verdict.{Refuses, Accepts, RefusesOnly, AcceptsOnly}
+use Rattle.tpal_tool.specs.Words.{Command, Run, Compile, program_name, tables_name}
 use Rattle.tpal_tool.proofs.Meanings.{meaning-is}
-use Rattle.tpal_tool.proofs.Trees.{built_program}
-use Rattle.tpal_tool.specs.Words.{asked}
+use Rattle.tpal_tool.proofs.Trees.{built_program, meaning-tree}
 
 some_same : {A : Type 0} {a b : A} → Some a ≡ Some b → a ≡ b
 some_same {a = a} same = ap (λ o. unwrap_or o a) same
 
-turned : (o : Option (List ℕ)) (source : List ℕ) → IfSome o (λ text. source ≡ text) → IfSome o (λ text. text ≡ source)
-turned None source is = tt
-turned (Some text) source is = sym is
+some_none : {A : Type 0} {a : A} → None ≡ Some a → ⊥
+some_none never = cc
 
--- the text of the name that the words ask for
-source_of : (words : List (List ℕ)) (told : List ℕ → Option (List ℕ)) (name source : List ℕ) → asked words ≡ Some name → IfSome (told name) (λ text. text ≡ source) → IsSource words told source
-source_of words told name source asked_is told_is other is = subst (λ (n : List ℕ). IfSome (told n) (λ text. text ≡ source)) (some_same (sym asked_is ∙ is)) told_is
+-- what an answer gives gives more
+pub ok_map : {A E : Type 0} (r : Result A E) {P Q : A → Type 0} → ((a : A) → P a → Q a) → IfOk r P → IfOk r Q
+ok_map (Ok a) more is = more a is
+ok_map (Err e) more is = tt
 
--- what the words owe, over some text that is the named one where that is told
-abbrev pub Owed : (words : List (List ℕ)) (told : List ℕ → Option (List ℕ)) (status : Status) (text : List ℕ) → Type 0
-Owed words told status text = (source : List ℕ) × IsSource words told source × Owes words source status text
+-- ---- the texts that a call is about
 
-pub fits-owed : (words : List (List ℕ)) (told : List ℕ → Option (List ℕ)) (name source : List ℕ) (status : Status) (text : List ℕ) → asked words ≡ Some name → IfSome (told name) (λ t. source ≡ t) → length source ≤ MAX_SOURCE_BYTES → SourceOwes source status text → IsSole source status text → Owed words told status text
-fits-owed words told name source status text asked_is told_is low owes sole = (source, source_of words told name source asked_is (turned (told name) source told_is), fits asked_is low owes sole)
+pub turned : (o : Option (List ℕ)) (text : List ℕ) → IfSome o (λ told. text ≡ told) → IfSome o (λ told. told ≡ text)
+turned None text is = tt
+turned (Some told) text is = sym is
+
+-- a text for a name: the told one, or the empty one
+some_text : (o : Option (List ℕ)) → (text : List ℕ) × IfSome o (λ told. told ≡ text)
+some_text None = ([], tt)
+some_text (Some told) = (told, refl)
+
+some_tables : (told : List ℕ → Option (List ℕ)) (over : Option (List ℕ)) → (tables : List ℕ) × IsTables told over tables
+some_tables told None = ([], refl)
+some_tables told (Some name) = some_text (told name)
+
+texts_of : (wanted : Option Command) (told : List ℕ → Option (List ℕ)) (command : Command) (source tables : List ℕ) → wanted ≡ Some command → IfSome (told (program_name command)) (λ text. text ≡ source) → IsTables told (tables_name command) tables → AreTexts wanted told source tables
+texts_of wanted told command source tables asked_is is_source is_tables = record {
+  is_source = λ other is. subst (λ (c : Command). IfSome (told (program_name c)) (λ text. text ≡ source)) (some_same (sym asked_is ∙ is)) is_source;
+  is_tables = λ other is. subst (λ (c : Command). IsTables told (tables_name c) tables) (some_same (sym asked_is ∙ is)) is_tables;
+}
+
+-- with words that are not of the form, no text is named
+pub bad_words-owed : (told : List ℕ → Option (List ℕ)) (status : Status) (text : List ℕ) → Owes None [] [] status text → Owed None told status text
+bad_words-owed told status text owes = ([], [], record { is_source = λ command is. absurd (some_none is); is_tables = λ command is. absurd (some_none is) }, owes)
 
 longer : (n : ℕ) → (xs : List ℕ) × (n < length xs)
 longer n = (replicate (suc n) 0, omega (arith, length-replicate {A = ℕ} (suc n) 0))
 
-some_longer : (o : Option (List ℕ)) (n : ℕ) → IfSome o (λ text. n < length text) → (source : List ℕ) × IfSome o (λ text. text ≡ source) × (n < length source)
+some_longer : (o : Option (List ℕ)) (n : ℕ) → IfSome o (λ text. n < length text) → (text : List ℕ) × IfSome o (λ told. told ≡ text) × (n < length text)
 some_longer None n is = let one : (xs : List ℕ) × (n < length xs) = longer n in (one.0, tt, one.1)
 some_longer (Some text) n is = (text, refl, is)
 
-pub too_long-owed : (words : List (List ℕ)) (told : List ℕ → Option (List ℕ)) (name : List ℕ) (status : Status) (text : List ℕ) → asked words ≡ Some name → IfSome (told name) (λ t. MAX_SOURCE_BYTES < length t) → (status ≡ Refused) × (text ≡ too_long_line name) → Owed words told status text
-too_long-owed words told name status text asked_is long is =
-    let one : (source : List ℕ) × IfSome (told name) (λ t. t ≡ source) × (MAX_SOURCE_BYTES < length source) = some_longer (told name) MAX_SOURCE_BYTES long in
-    (one.0, source_of words told name one.0 asked_is one.1, too_long asked_is one.2 is.0 is.1)
+pub too_long-owed : (told : List ℕ → Option (List ℕ)) (command : Command) (status : Status) (text : List ℕ) → IfSome (told (program_name command)) (λ t. MAX_SOURCE_BYTES < length t) → status ≡ Refused → text ≡ too_long_line (program_name command) → Owed (Some command) told status text
+too_long-owed told command status text is_long is text_is =
+    let source : (s : List ℕ) × IfSome (told (program_name command)) (λ t. t ≡ s) × (MAX_SOURCE_BYTES < length s) = some_longer (told (program_name command)) MAX_SOURCE_BYTES is_long in
+    let tables : (t : List ℕ) × IsTables told (tables_name command) t = some_tables told (tables_name command) in
+    (source.0, tables.0, texts_of (Some command) told command source.0 tables.0 refl source.1 tables.1, too_long refl source.2 is text_is)
 
-final : {owed status : Status} → owed ≡ status → IsFinal status → IsFinal owed
-final {owed} {status} is ends = subst (λ (s : Status). IsFinal s) (sym is) ends
+pub refused-owed : (told : List ℕ → Option (List ℕ)) (command : Command) (source : List ℕ) (status : Status) (text : List ℕ) → IfSome (told (program_name command)) (λ t. source ≡ t) → length source ≤ MAX_SOURCE_BYTES → RefusesOnly source text → status ≡ Refused → Owed (Some command) told status text
+refused-owed told command source status text is_source low only is =
+    let tables : (t : List ℕ) × IsTables told (tables_name command) t = some_tables told (tables_name command) in
+    (source, tables.0, texts_of (Some command) told command source tables.0 refl (turned (told (program_name command)) source is_source) tables.1, refused refl low only is)
+
+pub compiled-owed : (told : List ℕ → Option (List ℕ)) (name source : List ℕ) (program : Program) (status : Status) (text : List ℕ) → IfSome (told name) (λ t. source ≡ t) → length source ≤ MAX_SOURCE_BYTES → AcceptsOnly source program → status ≡ Done → CompilesTo program text → Owed (Some (Compile name)) told status text
+compiled-owed told name source program status text is_source low only is compiles =
+    (source, [], texts_of (Some (Compile name)) told (Compile name) source [] refl (turned (told name) source is_source) refl, compiled refl low only is compiles)
+
+pub run-owed : (told : List ℕ → Option (List ℕ)) (name source : List ℕ) (over : Option (List ℕ)) (fuel : ℕ) (program : Program) (status : Status) (text : List ℕ) → IfSome (told name) (λ t. source ≡ t) → length source ≤ MAX_SOURCE_BYTES → AcceptsOnly source program → NamedRunOwes program told over fuel status text → Owed (Some (Run name over fuel)) told status text
+run-owed told name source over fuel program status text is_source low only (long {name = other} over_is is_long is text_is) =
+    let tables : (t : List ℕ) × IfSome (told other) (λ told_text. told_text ≡ t) × (MAX_TABLES_BYTES < length t) = some_longer (told other) MAX_TABLES_BYTES is_long in (
+      source,
+      tables.0,
+      texts_of (Some (Run name over fuel)) told (Run name over fuel) source tables.0 refl (turned (told name) source is_source) (subst (λ (o : Option (List ℕ)). IsTables told o tables.0) (sym over_is) tables.1),
+      tables_too_long {name = name} {over = other} {fuel = fuel} (ap (λ o. Some (Run name o fuel)) over_is) low only tables.2 is text_is,
+    )
+run-owed told name source over fuel program status text is_source low only (fits tables is_tables few owes) =
+    (source, tables, texts_of (Some (Run name over fuel)) told (Run name over fuel) source tables refl (turned (told name) source is_source) is_tables, owed.ran {name = name} {over = over} {fuel = fuel} refl low only few owes)
+
+-- ---- faults of reading
+
+-- a count that rose behind another one rose
+risen_from : (old mid new : ℕ) → old ≤ mid → HasRisen mid new → HasRisen old new
+risen_from old mid new more (inl above) = inl (omega (arith, more, above))
+risen_from old mid new more (inr last) = inr last
+
+pub tables-failed : (told : List ℕ → Option (List ℕ)) (name source : List ℕ) (over : Option (List ℕ)) (fuel : ℕ) (program : Program) (reads reads' : List ℕ → ℕ) → IfSome (told name) (λ t. source ≡ t) → length source ≤ MAX_SOURCE_BYTES → AcceptsOnly source program → IsSomeAnd over (λ n. HasRisen (reads n) (reads' n)) → ReadFailed (Some (Run name over fuel)) told reads reads'
+tables-failed told name source None fuel program reads reads' is_source low only never = elim never [ ]
+tables-failed told name source (Some over) fuel program reads reads' is_source low only risen = tables_failed refl source (turned (told name) source is_source) low only risen
+
+-- a fault behind a fetch that told what was told before
+pub later-failed : (wanted : Option Command) (told told' : List ℕ → Option (List ℕ)) (old mid new : List ℕ → ℕ) → ((name : List ℕ) → told' name ≡ told name) → ((name : List ℕ) → old name ≤ mid name) → ReadFailed wanted told' mid new → ReadFailed wanted told old new
+later-failed wanted told told' old mid new same more (program_failed {command = command} asked_is risen) =
+    program_failed asked_is (risen_from (old (program_name command)) (mid (program_name command)) (new (program_name command)) (more (program_name command)) risen)
+later-failed wanted told told' old mid new same more (tables_failed {name = name} {over = over} asked_is source is_source low only risen) =
+    tables_failed asked_is source (subst (λ (o : Option (List ℕ)). IfSome o (λ text. text ≡ source)) (same name) is_source) low only (risen_from (old over) (mid over) (new over) (more over) risen)
+
+-- ---- statuses
+
+final : {status other : Status} → status ≡ other → IsFinal other → IsFinal status
+final is ends = subst (λ (s : Status). IsFinal s) (sym is) ends
 
 final-by_stop : (stop : Stop) → IsFinal (by_stop Done Trap OutOfFuel stop)
 final-by_stop stops.Done = tt
 final-by_stop (stops.Trap kind place) = tt
 final-by_stop stops.NoFuel = tt
 
-SourceOwes-final : {source : List ℕ} {status : Status} {text : List ℕ} → SourceOwes source status text → IsFinal status
-SourceOwes-final (faulty fault refuses is text_is) = final is tt
-SourceOwes-final (broken program rule place reads first is text_is) = final is tt
-SourceOwes-final (broken_parallel program rule place reads resolved first is text_is) = final is tt
-SourceOwes-final (not_built program reads none unbuilt is text_is) = final is tt
-SourceOwes-final (ran program reads built is text_is) = final is (final-by_stop (meaning program [] DEFAULT_FUEL).stop)
+RunOwes-final : {program : Program} {tables : List ℕ} {fuel : ℕ} {status : Status} {text : List ℕ} → RunOwes program tables fuel status text → IsFinal status
+RunOwes-final (faulty_tables fault first is text_is) = final is tt
+RunOwes-final {program = program} {fuel = fuel} (ran inputs are is text_is) = final is (final-by_stop (meaning program inputs fuel).stop)
 
-Owes-final : {words : List (List ℕ)} {source : List ℕ} {status : Status} {text : List ℕ} → Owes words source status text → IsFinal status
+Owes-final : {wanted : Option Command} {source tables : List ℕ} {status : Status} {text : List ℕ} → Owes wanted source tables status text → IsFinal status
 Owes-final (bad_words none is text_is) = final is tt
-Owes-final (too_long asked_is long is text_is) = final is tt
-Owes-final (fits asked_is low owes sole) = SourceOwes-final owes
-
--- a call that wrote what it owes ends as it should
-pub written-ends : (words : List (List ℕ)) (told : List ℕ → Option (List ℕ)) (reads reads' : List ℕ → ℕ) (old new : Option (List ℕ)) (writes writes' : ℕ) (owed : Status) (text : List ℕ) (status : Status) → Owed words told owed text → IsWritten old new writes writes' owed text status → Ends words told reads reads' old new writes writes' status
-written-ends words told reads reads' old new writes writes' owed text status is (whole same appended) =
-    let owes : Owes words is.0 status text = subst (λ (s : Status). Owes words is.0 s text) (sym same) is.2 in
-    finished (Owes-final owes) (record { source = is.0; is_source = is.1; text = text; owed = owes; written = appended })
-written-ends words told reads reads' old new writes writes' owed text status is (failed same risen some prefix) =
-    write_failed same risen (record { source = is.0; is_source = is.1; status = owed; text = text; owed = is.2; some = some; written = prefix })
-written-ends words told reads reads' old new writes writes' owed text status is (no_room same some prefix) =
-    no_memory same (inr (record { source = is.0; is_source = is.1; status = owed; text = text; owed = is.2; some = some; written = prefix }))
-
-some_none : {A : Type 0} {a : A} → None ≡ Some a → ⊥
-some_none never = cc
-
--- a source that isn't too long owes what its words owe, and nothing else
-owed_fits : (words : List (List ℕ)) (name source : List ℕ) (status : Status) (text : List ℕ) → asked words ≡ Some name → length source ≤ MAX_SOURCE_BYTES → Owes words source status text → SourceOwes source status text × IsSole source status text
-owed_fits words name source status text asked_is low (bad_words is s t) = absurd (some_none (sym is ∙ asked_is))
-owed_fits words name source status text asked_is low (too_long is long s t) = absurd (omega (arith, low, long))
-owed_fits words name source status text asked_is low (fits is low' owes sole) = (owes, sole)
+Owes-final (too_long asked_is is_long is text_is) = final is tt
+Owes-final (refused asked_is low only is) = final is tt
+Owes-final (compiled asked_is low only is compiles) = final is tt
+Owes-final (tables_too_long asked_is low only is_long is text_is) = final is tt
+Owes-final (owed.ran asked_is low only few owes) = RunOwes-final owes
 
 not_final : {P : Type 0} {status other : Status} → status ≡ other → IsFinal status → (IsFinal other → ⊥) → P
 not_final {status} {other} is ends never = absurd (never (subst (λ (s : Status). IsFinal s) is ends))
 
--- a call that came to its end wrote what the told source owes
-pub final-writes : (words : List (List ℕ)) (told : List ℕ → Option (List ℕ)) (reads reads' : List ℕ → ℕ) (old new : Option (List ℕ)) (writes writes' : ℕ) (status : Status) → Ends words told reads reads' old new writes writes' status → IsFinal status → (name source line : List ℕ) (other : Status) → asked words ≡ Some name → told name ≡ Some source → length source ≤ MAX_SOURCE_BYTES → SourceOwes source other line → (status ≡ other) × Appended old new line
-final-writes words told reads reads' old new writes writes' status (finished ends f) final_is name source line other asked_is told_is low owes =
-    let here : source ≡ f.source = subst (λ (o : Option (List ℕ)). IfSome o (λ text. text ≡ f.source)) told_is (f.is_source name asked_is) in
-    let owed : Owes words source status f.text = subst (λ (s : List ℕ). Owes words s status f.text) (sym here) f.owed in
-    let both : SourceOwes source status f.text × IsSole source status f.text = owed_fits words name source status f.text asked_is low owed in
-    let same : (other ≡ status) × (line ≡ f.text) = both.1 other line owes in
-    (sym same.0, subst (λ (text : List ℕ). Appended old new text) (sym same.1) f.written)
-final-writes words told reads reads' old new writes writes' status (read_failed is cause silent) final_is name source line other asked_is told_is low owes = not_final is final_is (λ never. never)
-final-writes words told reads reads' old new writes writes' status (write_failed is risen cut) final_is name source line other asked_is told_is low owes = not_final is final_is (λ never. never)
-final-writes words told reads reads' old new writes writes' status (no_memory is cut) final_is name source line other asked_is told_is low owes = not_final is final_is (λ never. never)
+no_write_fault : WriteFault ≡ ReadFault → ⊥
+no_write_fault is = cc
 
--- a call with a program that is built, and without a fault, is done, or finds no memory
-pub complete-ends : (words : List (List ℕ)) (told : List ℕ → Option (List ℕ)) (reads reads' : List ℕ → ℕ) (old new : Option (List ℕ)) (writes writes' : ℕ) (status : Status) → Ends words told reads reads' old new writes writes' status → (name source : List ℕ) (program : Program) → asked words ≡ Some name → told name ≡ Some source → length source ≤ MAX_SOURCE_BYTES → Reads source (program_of program) → IsBuilt (program_of program) → (HasRisen (reads name) (reads' name) → ⊥) → (HasRisen writes writes' → ⊥) → (status ≡ Done) ⊎ (status ≡ NoMemory)
-complete-ends words told reads reads' old new writes writes' status (finished ends f) name source program asked_is told_is low is_read built no_read no_write =
-    let owes : SourceOwes source (status_of Done Trap OutOfFuel (meaning program [] DEFAULT_FUEL)) (text_of (meaning program [] DEFAULT_FUEL)) = ran program is_read built refl refl in
-    let wrote : (status ≡ status_of Done Trap OutOfFuel (meaning program [] DEFAULT_FUEL)) × Appended old new (text_of (meaning program [] DEFAULT_FUEL)) =
-    final-writes words told reads reads' old new writes writes' status (finished ends f) ends name source _ _ asked_is told_is low owes in
-    inl (wrote.0 ∙ ap (status_of Done Trap OutOfFuel) (meaning-is program [] DEFAULT_FUEL (built_program program built)))
-complete-ends words told reads reads' old new writes writes' status (read_failed is cause silent) name source program asked_is told_is low is_read built no_read no_write =
-    let same : cause.name ≡ name = some_same (sym cause.is_asked ∙ asked_is) in
-    absurd (no_read (subst (λ (n : List ℕ). HasRisen (reads n) (reads' n)) same cause.risen))
-complete-ends words told reads reads' old new writes writes' status (write_failed is risen cut) name source program asked_is told_is low is_read built no_read no_write = absurd (no_write risen)
-complete-ends words told reads reads' old new writes writes' status (no_memory is cut) name source program asked_is told_is low is_read built no_read no_write = inr is
+no_want : NoMemory ≡ ReadFault → ⊥
+no_want is = cc
+
+-- a call that wrote what it owes ends as it should
+pub written-ends : (wanted : Option Command) (told : List ℕ → Option (List ℕ)) (reads reads' : List ℕ → ℕ) (old new : Option (List ℕ)) (writes writes' : ℕ) (first : Status) (text : List ℕ) (status : Status) → Owed wanted told first text → IsWritten old new writes writes' first text status → Ends wanted told reads reads' old new writes writes' status
+written-ends wanted told reads reads' old new writes writes' first text status (source, tables, are_texts, owes) (whole same appended) =
+    let mine : Owes wanted source tables status text = subst (λ (s : Status). Owes wanted source tables s text) (sym same) owes in
+    finished (Owes-final mine) (record { source = source; tables = tables; are_texts = are_texts; text = text; owed = mine; written = appended })
+written-ends wanted told reads reads' old new writes writes' first text status (source, tables, are_texts, owes) (failed same risen some prefix) =
+    write_failed same risen (record { source = source; tables = tables; are_texts = are_texts; status = first; text = text; owed = owes; some = some; written = prefix })
+written-ends wanted told reads reads' old new writes writes' first text status (source, tables, are_texts, owes) (no_room same some prefix) =
+    no_memory same (inr (record { source = source; tables = tables; are_texts = are_texts; status = first; text = text; owed = owes; some = some; written = prefix }))
+
+-- a call that ended with such a status came to its end
+pub final-finished : (wanted : Option Command) (told : List ℕ → Option (List ℕ)) (reads reads' : List ℕ → ℕ) (old new : Option (List ℕ)) (writes writes' : ℕ) (status : Status) → Ends wanted told reads reads' old new writes writes' status → IsFinal status → Finished wanted told old new status
+final-finished wanted told reads reads' old new writes writes' status (finished ends f) is_final = f
+final-finished wanted told reads reads' old new writes writes' status (read_failed is cause silent) is_final = not_final is is_final (λ x. x)
+final-finished wanted told reads reads' old new writes writes' status (write_failed is risen cut) is_final = not_final is is_final (λ x. x)
+final-finished wanted told reads reads' old new writes writes' status (no_memory is cut) is_final = not_final is is_final (λ x. x)
+
+-- a fault of reading has its cause
+pub read_fault-failed : (wanted : Option Command) (told : List ℕ → Option (List ℕ)) (reads reads' : List ℕ → ℕ) (old new : Option (List ℕ)) (writes writes' : ℕ) (status : Status) → Ends wanted told reads reads' old new writes writes' status → status ≡ ReadFault → ReadFailed wanted told reads reads'
+read_fault-failed wanted told reads reads' old new writes writes' status (finished ends f) is = not_final is ends (λ x. x)
+read_fault-failed wanted told reads reads' old new writes writes' status (read_failed same cause silent) is = cause
+read_fault-failed wanted told reads reads' old new writes writes' status (write_failed same risen cut) is = absurd (no_write_fault (sym same ∙ is))
+read_fault-failed wanted told reads reads' old new writes writes' status (no_memory same cut) is = absurd (no_want (sym same ∙ is))
+
+-- ---- what a call wrote that came to its end
+
+abbrev over_of_run : Option (List ℕ) → Command → Option (List ℕ)
+over_of_run other (Run name over fuel) = over
+over_of_run other (Compile name) = other
+
+abbrev fuel_of_run : ℕ → Command → ℕ
+fuel_of_run other (Run name over fuel) = fuel
+fuel_of_run other (Compile name) = other
+
+run_no_compile : (name other : List ℕ) (over : Option (List ℕ)) (fuel : ℕ) → Run name over fuel ≡ Compile other → ⊥
+run_no_compile name other over fuel is = cc
+
+-- a tables text is read in one way only
+pub record ReadOneWay : Type 0 where
+  pub one_list : (text : List ℕ) (a b : List Table) → TablesOf text a → TablesOf text b → a ≡ b
+  pub one_fault : (text : List ℕ) (a b : TableFault) → FirstTableFault text a → FirstTableFault text b → a ≡ b
+  pub not_both : (text : List ℕ) (tables : List Table) (fault : TableFault) → TablesOf text tables → FirstTableFault text fault → ⊥
+
+-- what a run owes is one thing alone
+run_same : ReadOneWay → (p q : Program) (tables : List ℕ) (fuel : ℕ) (status status' : Status) (text text' : List ℕ) → (program_of p ≡ program_of q) × IsBuilt (program_of p) → RunOwes p tables fuel status text → RunOwes q tables fuel status' text' → (status ≡ status') × (text ≡ text')
+run_same way p q tables fuel status status' text text' same (faulty_tables fault first is text_is) (faulty_tables fault' first' is' text_is') =
+    let one : fault ≡ fault' = way.one_fault tables fault fault' first first' in
+    (is ∙ sym is', text_is ∙ ap tables_line one ∙ sym text_is')
+run_same way p q tables fuel status status' text text' same (faulty_tables fault first is text_is) (ran inputs are is' text_is') =
+    absurd (way.not_both tables inputs fault are first)
+run_same way p q tables fuel status status' text text' same (ran inputs are is text_is) (faulty_tables fault first is' text_is') =
+    absurd (way.not_both tables inputs fault are first)
+run_same way p q tables fuel status status' text text' same (ran inputs are is text_is) (ran inputs' are' is' text_is') =
+    let one : inputs ≡ inputs' = way.one_list tables inputs inputs' are are' in
+    let meant : meaning p inputs fuel ≡ meaning q inputs' fuel = meaning-tree p q inputs fuel same.0 same.1 ∙ ap (λ list. meaning q list fuel) one in
+    (is ∙ ap (status_of Done Trap OutOfFuel) meant ∙ sym is', text_is ∙ ap text_of meant ∙ sym text_is')
+
+module _ (wanted : Option Command) (told : List ℕ → Option (List ℕ)) (old new : Option (List ℕ)) (status : Status) where
+  -- the told text of the program's name is the source
+  source_same : (f : Finished wanted told old new status) (command : Command) (source : List ℕ) → wanted ≡ Some command → told (program_name command) ≡ Some source → source ≡ f.source
+  source_same f command source asked_is told_is = subst (λ (o : Option (List ℕ)). IfSome o (λ text. text ≡ f.source)) told_is (f.are_texts.is_source command asked_is)
+
+  tables_same : (f : Finished wanted told old new status) (command : Command) (over : Option (List ℕ)) (tables : List ℕ) → wanted ≡ Some command → tables_name command ≡ over → IsToldTables told over tables → tables ≡ f.tables
+  tables_same f command None tables asked_is over_is told_is =
+      let mine : IsTables told None f.tables = subst (λ (o : Option (List ℕ)). IsTables told o f.tables) over_is (f.are_texts.is_tables command asked_is) in
+      told_is ∙ sym mine
+  tables_same f command (Some name) tables asked_is over_is told_is =
+      let mine : IsTables told (Some name) f.tables = subst (λ (o : Option (List ℕ)). IsTables told o f.tables) over_is (f.are_texts.is_tables command asked_is) in
+      subst (λ (o : Option (List ℕ)). IfSome o (λ text. text ≡ f.tables)) told_is mine
+
+  wrote : {text line : List ℕ} → text ≡ line → Appended old new text → Appended old new line
+  wrote is appended = subst (λ (t : List ℕ). Appended old new t) is appended
+
+  accepted_here : (source mine : List ℕ) (program : Program) → source ≡ mine → Accepts source program → Accepts mine program
+  accepted_here source mine program same a = subst (λ (s : List ℕ). Accepts s program) same a
+
+  -- a source that is too long
+  pub finished-too_long : (f : Finished wanted told old new status) (command : Command) (source : List ℕ) → wanted ≡ Some command → told (program_name command) ≡ Some source → MAX_SOURCE_BYTES < length source → (status ≡ Refused) × Appended old new (too_long_line (program_name command))
+  finished-too_long f command source asked_is told_is is_long = by f.owed f.written
+    where
+      over_it : MAX_SOURCE_BYTES < length f.source
+      over_it = subst (λ (s : List ℕ). MAX_SOURCE_BYTES < length s) (source_same f command source asked_is told_is) is_long
+
+      by : {text : List ℕ} → Owes wanted f.source f.tables status text → Appended old new text → (status ≡ Refused) × Appended old new (too_long_line (program_name command))
+      by (bad_words none is text_is) appended = absurd (some_none (sym none ∙ asked_is))
+      by (too_long also _ is text_is) appended = (is, wrote (text_is ∙ ap (λ c. too_long_line (program_name c)) (some_same (sym also ∙ asked_is))) appended)
+      by (refused also low only is) appended = absurd (omega (arith, low, over_it))
+      by (compiled also low only is compiles) appended = absurd (omega (arith, low, over_it))
+      by (tables_too_long also low only _ is text_is) appended = absurd (omega (arith, low, over_it))
+      by (owed.ran also low only few owes) appended = absurd (omega (arith, low, over_it))
+
+  -- a source that is refused
+  pub finished-refused : (f : Finished wanted told old new status) (command : Command) (source line : List ℕ) → wanted ≡ Some command → told (program_name command) ≡ Some source → length source ≤ MAX_SOURCE_BYTES → Refuses source line → (status ≡ Refused) × Appended old new line
+  finished-refused f command source line asked_is told_is fits_it refuses = by f.owed f.written
+    where
+      same : source ≡ f.source
+      same = source_same f command source asked_is told_is
+
+      under : length f.source ≤ MAX_SOURCE_BYTES
+      under = subst (λ (s : List ℕ). length s ≤ MAX_SOURCE_BYTES) same fits_it
+
+      here : Refuses f.source line
+      here = subst (λ (s : List ℕ). Refuses s line) same refuses
+
+      by : {text : List ℕ} → Owes wanted f.source f.tables status text → Appended old new text → (status ≡ Refused) × Appended old new line
+      by (bad_words none is text_is) appended = absurd (some_none (sym none ∙ asked_is))
+      by (too_long also over_it is text_is) appended = absurd (omega (arith, under, over_it))
+      by (refused also low only is) appended = (is, wrote (sym (only.one_line line here)) appended)
+      by (compiled also low only is compiles) appended = absurd (only.not_refused line here)
+      by (tables_too_long also low only _ is text_is) appended = absurd (only.not_refused line here)
+      by (owed.ran also low only few owes) appended = absurd (only.not_refused line here)
+
+  -- a program that is compiled
+  pub finished-compiled : (f : Finished wanted told old new status) (name source : List ℕ) (program : Program) → wanted ≡ Some (Compile name) → told name ≡ Some source → length source ≤ MAX_SOURCE_BYTES → Accepts source program → status ≡ Done
+  finished-compiled f name source program asked_is told_is fits_it accepts = by f.owed
+    where
+      same : source ≡ f.source
+      same = source_same f (Compile name) source asked_is told_is
+
+      under : length f.source ≤ MAX_SOURCE_BYTES
+      under = subst (λ (s : List ℕ). length s ≤ MAX_SOURCE_BYTES) same fits_it
+
+      by : {text : List ℕ} → Owes wanted f.source f.tables status text → status ≡ Done
+      by (bad_words none is text_is) = absurd (some_none (sym none ∙ asked_is))
+      by (too_long also over_it is text_is) = absurd (omega (arith, under, over_it))
+      by (refused also low only is) = absurd (only.not_accepted program (accepted_here source f.source program same accepts))
+      by (compiled also low only is compiles) = is
+      by (tables_too_long {name = other} {over = over} {fuel = fuel} also low only _ is text_is) = absurd (run_no_compile other name (Some over) fuel (some_same (sym also ∙ asked_is)))
+      by (owed.ran {name = other} {over = over} {fuel = fuel} also low only few owes) = absurd (run_no_compile other name over fuel (some_same (sym also ∙ asked_is)))
+
+  -- a run whose tables text is too long
+  pub finished-tables_too_long : (f : Finished wanted told old new status) (name over source tables : List ℕ) (fuel : ℕ) (program : Program) → wanted ≡ Some (Run name (Some over) fuel) → told name ≡ Some source → length source ≤ MAX_SOURCE_BYTES → Accepts source program → told over ≡ Some tables → MAX_TABLES_BYTES < length tables → (status ≡ Refused) × Appended old new (too_long_line over)
+  finished-tables_too_long f name over source tables fuel program asked_is told_is fits_it accepts tables_told is_long = by f.owed f.written
+    where
+      same : source ≡ f.source
+      same = source_same f (Run name (Some over) fuel) source asked_is told_is
+
+      under : length f.source ≤ MAX_SOURCE_BYTES
+      under = subst (λ (s : List ℕ). length s ≤ MAX_SOURCE_BYTES) same fits_it
+
+      over_it : MAX_TABLES_BYTES < length f.tables
+      over_it = subst (λ (t : List ℕ). MAX_TABLES_BYTES < length t) (tables_same f (Run name (Some over) fuel) (Some over) tables asked_is refl tables_told) is_long
+
+      by : {text : List ℕ} → Owes wanted f.source f.tables status text → Appended old new text → (status ≡ Refused) × Appended old new (too_long_line over)
+      by (bad_words none is text_is) appended = absurd (some_none (sym none ∙ asked_is))
+      by (too_long also beyond is text_is) appended = absurd (omega (arith, under, beyond))
+      by (refused also low only is) appended = absurd (only.not_accepted program (accepted_here source f.source program same accepts))
+      by (compiled {name = other} also low only is compiles) appended = absurd (run_no_compile name other (Some over) fuel (some_same (sym asked_is ∙ also)))
+      by (tables_too_long {over = other} also low only _ is text_is) appended =
+          let one : other ≡ over = some_same (ap (over_of_run None) (some_same (sym also ∙ asked_is))) in
+          (is, wrote (text_is ∙ ap too_long_line one) appended)
+      by (owed.ran also low only few owes) appended = absurd (omega (arith, few, over_it))
+
+  -- a run over a tables text that isn't too long
+  pub finished-ran : ReadOneWay → (f : Finished wanted told old new status) (name source tables text : List ℕ) (over : Option (List ℕ)) (fuel : ℕ) (program : Program) (other : Status) → wanted ≡ Some (Run name over fuel) → told name ≡ Some source → length source ≤ MAX_SOURCE_BYTES → Accepts source program → IsToldTables told over tables → length tables ≤ MAX_TABLES_BYTES → RunOwes program tables fuel other text → (status ≡ other) × Appended old new text
+  finished-ran way f name source tables text over fuel program other asked_is told_is fits_it accepts tables_told few_it owes_it = by f.owed f.written
+    where
+      same : source ≡ f.source
+      same = source_same f (Run name over fuel) source asked_is told_is
+
+      tables_is : tables ≡ f.tables
+      tables_is = tables_same f (Run name over fuel) over tables asked_is refl tables_told
+
+      under : length f.source ≤ MAX_SOURCE_BYTES
+      under = subst (λ (s : List ℕ). length s ≤ MAX_SOURCE_BYTES) same fits_it
+
+      few_here : length f.tables ≤ MAX_TABLES_BYTES
+      few_here = subst (λ (t : List ℕ). length t ≤ MAX_TABLES_BYTES) tables_is few_it
+
+      accepts_here : Accepts f.source program
+      accepts_here = accepted_here source f.source program same accepts
+
+      owes_here : RunOwes program f.tables fuel other text
+      owes_here = subst (λ (t : List ℕ). RunOwes program t fuel other text) tables_is owes_it
+
+      by : {mine : List ℕ} → Owes wanted f.source f.tables status mine → Appended old new mine → (status ≡ other) × Appended old new text
+      by (bad_words none is text_is) appended = absurd (some_none (sym none ∙ asked_is))
+      by (too_long also beyond is text_is) appended = absurd (omega (arith, under, beyond))
+      by (refused also low only is) appended = absurd (only.not_accepted program accepts_here)
+      by (compiled {name = compiled_name} also low only is compiles) appended = absurd (run_no_compile name compiled_name over fuel (some_same (sym asked_is ∙ also)))
+      by (tables_too_long also low only beyond is text_is) appended = absurd (omega (arith, few_here, beyond))
+      by {mine = mine} (owed.ran {over = over'} {fuel = fuel'} {program = q} also low only few owes) appended =
+          let fuel_is : fuel' ≡ fuel = ap (fuel_of_run 0) (some_same (sym also ∙ asked_is)) in
+          let tree : program_of program ≡ program_of q = only.one_program program accepts_here in
+          let mine_owes : RunOwes q f.tables fuel status mine = subst (λ (n : ℕ). RunOwes q f.tables n status mine) fuel_is owes in
+          let one : (other ≡ status) × (text ≡ mine) = run_same way program q f.tables fuel other status text mine (tree, accepts_here.built) owes_here mine_owes in
+          (sym one.0, wrote (sym one.1) appended)
+
+-- ---- calls that meet no fault
+
+module _ (wanted : Option Command) (told : List ℕ → Option (List ℕ)) (reads reads' : List ℕ → ℕ) (old new : Option (List ℕ)) (writes writes' : ℕ) (status : Status) where
+  -- a call that meets no fault came to its end, or found no memory
+  unhurt : (command : Command) → wanted ≡ Some command → ((read : List ℕ) → Names command read → HasRisen (reads read) (reads' read) → ⊥) → (HasRisen writes writes' → ⊥) → Ends wanted told reads reads' old new writes writes' status → (Finished wanted told old new status) ⊎ (status ≡ NoMemory)
+  unhurt command asked_is no_read no_write (finished ends f) = inl f
+  unhurt command asked_is no_read no_write (read_failed is (program_failed {command = other} also risen) silent) =
+      let same : other ≡ command = some_same (sym also ∙ asked_is) in
+      absurd (no_read (program_name other) (inl (ap program_name same)) risen)
+  unhurt command asked_is no_read no_write (read_failed is (tables_failed {name = name} {over = over} {fuel = fuel} also source is_source low only risen) silent) =
+      let same : Run name (Some over) fuel ≡ command = some_same (sym also ∙ asked_is) in
+      absurd (no_read over (inr (ap tables_name (sym same))) risen)
+  unhurt command asked_is no_read no_write (write_failed is risen cut) = absurd (no_write risen)
+  unhurt command asked_is no_read no_write (no_memory is cut) = inr is
+
+  -- a program that is built comes to its end
+  run_is_done : (program : Program) (inputs : List Table) (fuel : ℕ) → IsBuilt (program_of program) → status_of Done Trap OutOfFuel (meaning program inputs fuel) ≡ Done
+  run_is_done program inputs fuel built = ap (status_of Done Trap OutOfFuel) (meaning-is program inputs fuel (built_program program built))
+
+  pub runs-ends : ReadOneWay → Ends wanted told reads reads' old new writes writes' status → (name source tables : List ℕ) (over : Option (List ℕ)) (fuel : ℕ) (program : Program) (inputs : List Table) → wanted ≡ Some (Run name over fuel) → told name ≡ Some source → length source ≤ MAX_SOURCE_BYTES → Accepts source program → IsToldTables told over tables → length tables ≤ MAX_TABLES_BYTES → TablesOf tables inputs → ((read : List ℕ) → Names (Run name over fuel) read → HasRisen (reads read) (reads' read) → ⊥) → (HasRisen writes writes' → ⊥) → (status ≡ Done) ⊎ (status ≡ NoMemory)
+  runs-ends way ends name source tables over fuel program inputs asked_is told_is fits_it accepts tables_told few are no_read no_write =
+      by (unhurt (Run name over fuel) asked_is no_read no_write ends)
+    where
+      by : (Finished wanted told old new status) ⊎ (status ≡ NoMemory) → (status ≡ Done) ⊎ (status ≡ NoMemory)
+      by (inl f) =
+          let owes : RunOwes program tables fuel (status_of Done Trap OutOfFuel (meaning program inputs fuel)) (text_of (meaning program inputs fuel)) = ran inputs are refl refl in
+          inl ((finished-ran wanted told old new status way f name source tables _ over fuel program _ asked_is told_is fits_it accepts tables_told few owes).0 ∙ run_is_done program inputs fuel accepts.built)
+      by (inr is) = inr is
+
+  pub compiles-ends : Ends wanted told reads reads' old new writes writes' status → (name source : List ℕ) (program : Program) → wanted ≡ Some (Compile name) → told name ≡ Some source → length source ≤ MAX_SOURCE_BYTES → Accepts source program → (HasRisen (reads name) (reads' name) → ⊥) → (HasRisen writes writes' → ⊥) → (status ≡ Done) ⊎ (status ≡ NoMemory)
+  compiles-ends ends name source program asked_is told_is fits_it accepts no_read no_write =
+      by (unhurt (Compile name) asked_is only_name no_write ends)
+    where
+      only_name : (read : List ℕ) → Names (Compile name) read → HasRisen (reads read) (reads' read) → ⊥
+      only_name read (inl is) risen = no_read (subst (λ (n : List ℕ). HasRisen (reads n) (reads' n)) is risen)
+      only_name read (inr never) risen = some_none never
+
+      by : (Finished wanted told old new status) ⊎ (status ≡ NoMemory) → (status ≡ Done) ⊎ (status ≡ NoMemory)
+      by (inl f) = inl (finished-compiled wanted told old new status f name source program asked_is told_is fits_it accepts)
+      by (inr is) = inr is

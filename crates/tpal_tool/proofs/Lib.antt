@@ -20,5 +20,7 @@ pub mod Endings
 pub mod Trees
 -- programs that are built break no rule
 pub mod Breaks
--- what a source text owes is one thing alone
+-- a source text comes to one thing alone
 pub mod Soles
+-- numbers that digits spell
+pub mod Spelling

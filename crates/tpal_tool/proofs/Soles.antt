@@ -1,5 +1,5 @@
--- What a source text owes is one thing alone.
-use Rattle.std.proofs.Common.{◌≡◌, ◌≢◌, ℕ, List, [], ap, sym, ◌∙◌, subst}
+-- A source text comes to one thing alone.
+use Rattle.std.proofs.Common.{◌≡◌, ◌≢◌, ℕ, List, ap, sym, ◌∙◌, subst}
 use Rattle.std.specs.Prelude.{Some, None, Ok, Err, unwrap_or}
 use Rattle.tp_value.specs.declared.values.Place.{Place}
 use Rattle.loop_lex.specs.declared.token.Token.{Token}
@@ -9,18 +9,13 @@ use Rattle.loop_lex.specs.Lexical as lexical
 use Rattle.loop_syntax.specs.declared.program.Program.{Program}
 use Rattle.loop_syntax.specs.Tree.{ProgramTree, program_of}
 use Rattle.loop_parse.specs.Text.{Reads, TextFault, Byte, Range, Form, Deep, FirstTextFault, byte, range, form, deep, IsOnlyFault}
-use Rattle.loop_meaning.specs.Answers.{status_of, text_of}
-use Rattle.loop_meaning.specs.Meaning.{meaning}
 use Rattle.tpal_tool.specs.declared.lines.SourceFault.{SourceFault}
 use Rattle.tpal_tool.specs.declared.lines.SourceFault.TheVariants as faults
-use Rattle.tpal_tool.specs.declared.reading.Reading.TheVariants.{Tree, Fault}
-use Rattle.tpal_tool.specs.declared.running.TheConstants.{DEFAULT_FUEL}
-use Rattle.tpal_tool.specs.declared.status.Status.{Status}
-use Rattle.tpal_tool.specs.declared.status.Status.TheVariants.{Done, Trap, OutOfFuel, Refused}
-use Rattle.tpal_tool.specs.Built.{IsBuilt}
+use Rattle.tpal_tool.specs.declared.reading.Reading.TheVariants.{Fault}
+use Rattle.tpal_tool.specs.Built.{IsBuilt, IsBuiltProgram}
 use Rattle.tpal_tool.specs.Lines.{fault_line, fault_of, not_built_line, parallel_line, rule_line}
-use Rattle.tpal_tool.specs.Owed.{faulty, broken, broken_parallel, not_built, ran, IsSole}
-use Rattle.tpal_tool.specs.Reading.{lexing_of, IsOnlyReading}
+use Rattle.tpal_tool.specs.Reading.{lexing_of, IsOnlyReading, ReadsAs}
+use Rattle.tpal_tool.specs.Verdict.{Refuses, faulty, broken, broken_parallel, not_built, RefusesOnly, AcceptsOnly}
 use Rattle.loop_rules.specs.Resolving.{IsFirstBroken}
 use Rattle.loop_rules.specs.Unbroken.{IsResolved}
 use Rattle.loop_rules.proofs.Firsts.{first-tree, resolved-tree, firsts_agree, not_both}
@@ -28,7 +23,7 @@ use Rattle.loop_check.specs.Checking as parallel
 use Rattle.loop_check.specs.Unbroken.{NoneBroken}
 use Rattle.loop_check.proofs.Firsts as parallels
 use Rattle.tpal_tool.proofs.Breaks.{built_unbroken, resolved_of}
-use Rattle.tpal_tool.proofs.Trees.{meaning-tree}
+use Rattle.tpal_tool.proofs.Trees.{built_tree}
 
 -- ---- faults of the lexer
 
@@ -94,62 +89,89 @@ lexing-alone source (faults.Range p) fault is only =
 lexing-alone source (faults.Form p) fault is only = absurd (none_fault fault is)
 lexing-alone source (faults.Deep p) fault is only = absurd (none_fault fault is)
 
--- ---- what is owed
+-- ---- verdicts
 
--- the text and the status of a program's meaning
-pub ran-sole : (source : List ℕ) (p : Program) (status : Status) (text : List ℕ) → IsOnlyReading source (Tree p) → IsBuilt (program_of p) → status ≡ status_of Done Trap OutOfFuel (meaning p [] DEFAULT_FUEL) → text ≡ text_of (meaning p [] DEFAULT_FUEL) → IsSole source status text
-ran-sole source p status text only built is text_is other line (faulty fault first s t) = absurd (only.1 fault first)
-ran-sole source p status text only built is text_is other line (broken program rule place reads first s t) =
-    absurd (not_both p rule place (resolved_of p (built_unbroken p built)) (first-tree program p rule place (only.0 (program_of program) reads) first))
-ran-sole source p status text only built is text_is other line (broken_parallel program rule place reads resolved first s t) =
-    absurd (parallels.not_both p rule place (built_unbroken p built) (parallels.first-tree program p (only.0 (program_of program) reads) rule place first))
-ran-sole source p status text only built is text_is other line (not_built program reads none unbuilt s t) =
-    absurd (unbuilt (subst (λ (q : ProgramTree). IsBuilt q) (sym (only.0 (program_of program) reads)) built))
-ran-sole source p status text only built is text_is other line (ran program reads built_too s t) =
-    let same : meaning program [] DEFAULT_FUEL ≡ meaning p [] DEFAULT_FUEL = meaning-tree program p [] DEFAULT_FUEL (only.0 (program_of program) reads) built_too in
-    (s ∙ ap (status_of Done Trap OutOfFuel) same ∙ sym is, t ∙ ap text_of same ∙ sym text_is)
+-- a program that is built
+pub accepted-only : (source : List ℕ) (p : Program) → ReadsAs source p → IsBuiltProgram p → AcceptsOnly source p
+accepted-only source p reads_as is_built =
+    let built : IsBuilt (program_of p) = built_tree p is_built in
+    record {
+      accepts = record { reads = reads_as.0; built = built };
+      one_program = λ other a. reads_as.1.0 (program_of other) a.reads;
+      not_refused = unrefused built;
+    }
+  where
+    unrefused : IsBuilt (program_of p) → (line : List ℕ) → Refuses source line → ⊥
+    unrefused built line (faulty fault first t) = reads_as.1.1 fault first
+    unrefused built line (broken program rule place reads first t) =
+        not_both p rule place (resolved_of p (built_unbroken p built)) (first-tree program p rule place (reads_as.1.0 (program_of program) reads) first)
+    unrefused built line (broken_parallel program rule place reads resolved first t) =
+        parallels.not_both p rule place (built_unbroken p built) (parallels.first-tree program p (reads_as.1.0 (program_of program) reads) rule place first)
+    unrefused built line (not_built program reads none unbuilt t) =
+        unbuilt (subst (λ (q : ProgramTree). IsBuilt q) (sym (reads_as.1.0 (program_of program) reads)) built)
 
--- the refusal of a program that isn't built
-pub not_built-sole : (source : List ℕ) (p : Program) (text : List ℕ) → IsOnlyReading source (Tree p) → NoneBroken p → (IsBuilt (program_of p) → ⊥) → text ≡ not_built_line → IsSole source Refused text
-not_built-sole source p text only none unbuilt text_is other line (faulty fault first s t) = absurd (only.1 fault first)
-not_built-sole source p text only none unbuilt text_is other line (broken program rule place reads first s t) =
-    absurd (not_both p rule place (resolved_of p none) (first-tree program p rule place (only.0 (program_of program) reads) first))
-not_built-sole source p text only none unbuilt text_is other line (broken_parallel program rule place reads resolved first s t) =
-    absurd (parallels.not_both p rule place none (parallels.first-tree program p (only.0 (program_of program) reads) rule place first))
-not_built-sole source p text only none unbuilt text_is other line (not_built program reads none_too unbuilt_too s t) = (s, t ∙ sym text_is)
-not_built-sole source p text only none unbuilt text_is other line (ran program reads built s t) =
-    absurd (unbuilt (subst (λ (q : ProgramTree). IsBuilt q) (only.0 (program_of program) reads) built))
+-- a program that isn't built
+pub not_built-only : (source : List ℕ) (p : Program) (line : List ℕ) → ReadsAs source p → NoneBroken p → (IsBuilt (program_of p) → ⊥) → line ≡ not_built_line → RefusesOnly source line
+not_built-only source p line reads_as none unbuilt is = record {
+  refuses = not_built p reads_as.0 none unbuilt is;
+  one_line = one;
+  not_accepted = λ program a. unbuilt (subst (λ (q : ProgramTree). IsBuilt q) (reads_as.1.0 (program_of program) a.reads) a.built);
+}
+  where
+    one : (other : List ℕ) → Refuses source other → other ≡ line
+    one other (faulty fault first t) = absurd (reads_as.1.1 fault first)
+    one other (broken program rule place reads first t) =
+        absurd (not_both p rule place (resolved_of p none) (first-tree program p rule place (reads_as.1.0 (program_of program) reads) first))
+    one other (broken_parallel program rule place reads resolved first t) =
+        absurd (parallels.not_both p rule place none (parallels.first-tree program p (reads_as.1.0 (program_of program) reads) rule place first))
+    one other (not_built program reads none_too unbuilt_too t) = t ∙ sym is
 
--- the refusal of a program that breaks a rule on names, limits, output or variables of loops
-pub broken-sole : (source : List ℕ) (p : Program) (rule : ℕ) (place : Place) (text : List ℕ) → IsOnlyReading source (Tree p) → IsFirstBroken p rule place → text ≡ rule_line rule place → IsSole source Refused text
-broken-sole source p rule place text only first text_is other line (faulty fault found s t) = absurd (only.1 fault found)
-broken-sole source p rule place text only first text_is other line (broken program rule' place' reads first' s t) =
-    let same : (rule' ≡ rule) × (place' ≡ place) = firsts_agree p rule' rule place' place (first-tree program p rule' place' (only.0 (program_of program) reads) first') first in
-    (s, t ∙ ap (λ n. rule_line n place') same.0 ∙ ap (rule_line rule) same.1 ∙ sym text_is)
-broken-sole source p rule place text only first text_is other line (broken_parallel program rule' place' reads resolved first' s t) =
-    absurd (not_both p rule place (resolved-tree program p (only.0 (program_of program) reads) resolved) first)
-broken-sole source p rule place text only first text_is other line (not_built program reads none unbuilt s t) =
-    absurd (not_both p rule place (resolved-tree program p (only.0 (program_of program) reads) (resolved_of program none)) first)
-broken-sole source p rule place text only first text_is other line (ran program reads built s t) =
-    absurd (not_both p rule place (resolved-tree program p (only.0 (program_of program) reads) (resolved_of program (built_unbroken program built))) first)
+-- a program that breaks a rule on names, limits, output or variables of loops
+pub broken-only : (source : List ℕ) (p : Program) (rule : ℕ) (place : Place) (line : List ℕ) → ReadsAs source p → IsFirstBroken p rule place → line ≡ rule_line rule place → RefusesOnly source line
+broken-only source p rule place line reads_as first is = record {
+  refuses = broken p rule place reads_as.0 first is;
+  one_line = one;
+  not_accepted = λ program a. not_both p rule place (resolved-tree program p (reads_as.1.0 (program_of program) a.reads) (resolved_of program (built_unbroken program a.built))) first;
+}
+  where
+    one : (other : List ℕ) → Refuses source other → other ≡ line
+    one other (faulty fault found t) = absurd (reads_as.1.1 fault found)
+    one other (broken program rule' place' reads first' t) =
+        let same : (rule' ≡ rule) × (place' ≡ place) = firsts_agree p rule' rule place' place (first-tree program p rule' place' (reads_as.1.0 (program_of program) reads) first') first in
+        t ∙ ap (λ n. rule_line n place') same.0 ∙ ap (rule_line rule) same.1 ∙ sym is
+    one other (broken_parallel program rule' place' reads resolved first' t) =
+        absurd (not_both p rule place (resolved-tree program p (reads_as.1.0 (program_of program) reads) resolved) first)
+    one other (not_built program reads none unbuilt t) =
+        absurd (not_both p rule place (resolved-tree program p (reads_as.1.0 (program_of program) reads) (resolved_of program none)) first)
 
--- the refusal of a program that breaks a rule on parallel loops, and none of those
-pub parallel-sole : (source : List ℕ) (p : Program) (rule : ℕ) (place : Place) (text : List ℕ) → IsOnlyReading source (Tree p) → IsResolved p → parallel.IsFirstBroken p rule place → text ≡ parallel_line rule place → IsSole source Refused text
-parallel-sole source p rule place text only resolved first text_is other line (faulty fault found s t) = absurd (only.1 fault found)
-parallel-sole source p rule place text only resolved first text_is other line (broken program rule' place' reads first' s t) =
-    absurd (not_both p rule' place' resolved (first-tree program p rule' place' (only.0 (program_of program) reads) first'))
-parallel-sole source p rule place text only resolved first text_is other line (broken_parallel program rule' place' reads resolved' first' s t) =
-    let same : (rule' ≡ rule) × (place' ≡ place) = parallels.firsts_agree p rule' rule place' place (parallels.first-tree program p (only.0 (program_of program) reads) rule' place' first') first in
-    (s, t ∙ ap (λ n. parallel_line n place') same.0 ∙ ap (parallel_line rule) same.1 ∙ sym text_is)
-parallel-sole source p rule place text only resolved first text_is other line (not_built program reads none unbuilt s t) =
-    absurd (parallels.not_both p rule place (parallels.none-tree program p (only.0 (program_of program) reads) none) first)
-parallel-sole source p rule place text only resolved first text_is other line (ran program reads built s t) =
-    absurd (parallels.not_both p rule place (parallels.none-tree program p (only.0 (program_of program) reads) (built_unbroken program built)) first)
+-- a program that breaks a rule on parallel loops, and none of those
+pub parallel-only : (source : List ℕ) (p : Program) (rule : ℕ) (place : Place) (line : List ℕ) → ReadsAs source p → IsResolved p → parallel.IsFirstBroken p rule place → line ≡ parallel_line rule place → RefusesOnly source line
+parallel-only source p rule place line reads_as resolved first is = record {
+  refuses = broken_parallel p rule place reads_as.0 resolved first is;
+  one_line = one;
+  not_accepted = λ program a. parallels.not_both p rule place (parallels.none-tree program p (reads_as.1.0 (program_of program) a.reads) (built_unbroken program a.built)) first;
+}
+  where
+    one : (other : List ℕ) → Refuses source other → other ≡ line
+    one other (faulty fault found t) = absurd (reads_as.1.1 fault found)
+    one other (broken program rule' place' reads first' t) =
+        absurd (not_both p rule' place' resolved (first-tree program p rule' place' (reads_as.1.0 (program_of program) reads) first'))
+    one other (broken_parallel program rule' place' reads resolved' first' t) =
+        let same : (rule' ≡ rule) × (place' ≡ place) = parallels.firsts_agree p rule' rule place' place (parallels.first-tree program p (reads_as.1.0 (program_of program) reads) rule' place' first') first in
+        t ∙ ap (λ n. parallel_line n place') same.0 ∙ ap (parallel_line rule) same.1 ∙ sym is
+    one other (not_built program reads none unbuilt t) =
+        absurd (parallels.not_both p rule place (parallels.none-tree program p (reads_as.1.0 (program_of program) reads) none) first)
 
--- the refusal of a text with a fault
-pub faulty-sole : (source : List ℕ) (fault : SourceFault) (text : List ℕ) → IsOnlyReading source (Fault fault) → text ≡ fault_line (fault_of fault) → IsSole source Refused text
-faulty-sole source fault text only text_is other line (faulty found first s t) = (s, t ∙ ap fault_line (only.0 found first) ∙ sym text_is)
-faulty-sole source fault text only text_is other line (broken program rule place reads first s t) = absurd (only.1 (program_of program) reads)
-faulty-sole source fault text only text_is other line (broken_parallel program rule place reads resolved first s t) = absurd (only.1 (program_of program) reads)
-faulty-sole source fault text only text_is other line (not_built program reads none unbuilt s t) = absurd (only.1 (program_of program) reads)
-faulty-sole source fault text only text_is other line (ran program reads built s t) = absurd (only.1 (program_of program) reads)
+-- a text with a fault
+pub faulty-only : (source : List ℕ) (fault : SourceFault) (line : List ℕ) → FirstTextFault source (fault_of fault) → IsOnlyReading source (Fault fault) → line ≡ fault_line (fault_of fault) → RefusesOnly source line
+faulty-only source fault line first only is = record {
+  refuses = faulty (fault_of fault) first is;
+  one_line = one;
+  not_accepted = λ program a. only.1 (program_of program) a.reads;
+}
+  where
+    one : (other : List ℕ) → Refuses source other → other ≡ line
+    one other (faulty found first' t) = t ∙ ap fault_line (only.0 found first') ∙ sym is
+    one other (broken program rule place reads first' t) = absurd (only.1 (program_of program) reads)
+    one other (broken_parallel program rule place reads resolved first' t) = absurd (only.1 (program_of program) reads)
+    one other (not_built program reads none unbuilt t) = absurd (only.1 (program_of program) reads)

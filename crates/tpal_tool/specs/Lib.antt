@@ -9,10 +9,14 @@ pub mod Built
 pub mod Lowered
 -- the number of steps after which a task ends
 pub mod Steps
--- the words of a call
+-- the words of a call: what they ask for
 pub mod Words
+-- what contracts see of the words that were read
+pub mod Asking
 -- the lines of refusals
 pub mod Lines
+-- what a source text comes to: a program, or a refusal
+pub mod Verdict
 -- what a call owes, and how it ends
 pub mod Owed
 -- what the reader answers

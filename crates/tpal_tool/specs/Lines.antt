@@ -3,7 +3,10 @@ use Rattle.std.specs.Prelude.{ℕ, List, [], ◌∷◌, ◌++◌, codes}
 use Rattle.std.specs.Fmt.{decimal}
 use Rattle.tp_value.specs.declared.values.Place.{Place}
 use Rattle.loop_meaning.specs.Answers.{place_text}
-use Rattle.loop_parse.specs.Text.{TextFault, Byte, Range, Form, Deep}
+use Rattle.table_text.specs.declared.fault.TableFault.{TableFault}
+use Rattle.table_text.specs.declared.fault.TableFault.TheVariants.{Form, Cells, Repeated, NoMemory}
+use Rattle.loop_parse.specs.Text as text
+use Rattle.loop_parse.specs.Text.{TextFault}
 use Rattle.tpal_tool.specs.declared.lines.SourceFault.{SourceFault}
 use Rattle.tpal_tool.specs.declared.lines.SourceFault.TheVariants as faults
 
@@ -13,17 +16,17 @@ line_at code place = codes "refused " ++ code ++ codes " at " ++ place_text plac
 
 -- the fault that a value stands for
 abbrev pub fault_of : SourceFault → TextFault
-fault_of (faults.Byte place) = Byte place
-fault_of (faults.Range place) = Range place
-fault_of (faults.Form place) = Form place
-fault_of (faults.Deep place) = Deep place
+fault_of (faults.Byte place) = text.Byte place
+fault_of (faults.Range place) = text.Range place
+fault_of (faults.Form place) = text.Form place
+fault_of (faults.Deep place) = text.Deep place
 
 -- the first fault of a text
 abbrev pub fault_line : TextFault → List ℕ
-fault_line (Byte place) = line_at (codes "E1") place
-fault_line (Range place) = line_at (codes "E2") place
-fault_line (Form place) = line_at (codes "E3") place
-fault_line (Deep place) = line_at (codes "E14") place
+fault_line (text.Byte place) = line_at (codes "E1") place
+fault_line (text.Range place) = line_at (codes "E2") place
+fault_line (text.Form place) = line_at (codes "E3") place
+fault_line (text.Deep place) = line_at (codes "E14") place
 
 -- the first broken rule on names, limits, output and variables of loops
 abbrev pub rule_line : ℕ → Place → List ℕ
@@ -32,6 +35,17 @@ rule_line rule place = line_at (codes "E7 C" ++ decimal rule) place
 -- the first broken rule on parallel loops, in a program that breaks none of those
 abbrev pub parallel_line : ℕ → Place → List ℕ
 parallel_line rule place = line_at (codes "E8 C" ++ decimal rule) place
+
+-- a refusal with its code, at a byte
+abbrev pub line_at_byte : List ℕ → ℕ → List ℕ
+line_at_byte code at = codes "refused " ++ code ++ codes " at byte " ++ decimal at ++ 10 ∷ []
+
+-- the first fault of a tables text; want of memory has no line
+abbrev pub tables_line : TableFault → List ℕ
+tables_line (Form at) = line_at_byte (codes "E4") at
+tables_line (Cells at) = line_at_byte (codes "E5") at
+tables_line (Repeated at) = line_at_byte (codes "E6") at
+tables_line NoMemory = []
 
 -- a file above its limit
 abbrev pub too_long_line : List ℕ → List ℕ

@@ -1,77 +1,108 @@
 -- What a call owes.
 use Rattle.std.specs.Prelude.{◌≡◌, ◌≢◌, ◌⊎◌, ℕ, ◌<◌, ◌≤◌, List, [], Option, Some, None, IfSome, length}
-use Rattle.tp_value.specs.declared.limits.TheConstants.{MAX_SOURCE_BYTES}
-use Rattle.tp_value.specs.declared.values.Place.{Place}
+use Rattle.tp_value.specs.declared.limits.TheConstants.{MAX_SOURCE_BYTES, MAX_TABLES_BYTES}
+use Rattle.tp_value.specs.declared.values.Table.{Table}
 use Rattle.loop_syntax.specs.declared.program.Program.{Program}
 use Rattle.loop_meaning.specs.Answers.{status_of, text_of}
 use Rattle.loop_meaning.specs.Meaning.{meaning}
-use Rattle.tpal_tool.specs.declared.running.TheConstants.{DEFAULT_FUEL}
+use Rattle.table_text.specs.declared.fault.TableFault.{TableFault}
+use Rattle.table_text.specs.TablesText.{TablesOf, FirstTableFault}
+use Rattle.tpal_syntax.specs.Listing.{Listing}
+use Rattle.tpal_syntax.specs.Text.{CodeText}
+use Rattle.tpal_machine.specs.declared.ends.Ending.TheVariants as ending
+use Rattle.tpal_machine.specs.Serial.{OwesSerially}
+use Rattle.tpal_machine.specs.State.{first_state}
 use Rattle.tpal_tool.specs.declared.status.Status.{Status}
 use Rattle.tpal_tool.specs.declared.status.Status.TheVariants.{Done, Trap, OutOfFuel, Refused, NoMemory, ReadFault, WriteFault, BadWords}
-use Rattle.tpal_tool.specs.Built.{IsBuilt}
-use Rattle.tpal_tool.specs.Lines.{bad_words_line, fault_line, not_built_line, parallel_line, rule_line, too_long_line}
+use Rattle.tpal_tool.specs.Lines.{bad_words_line, tables_line, too_long_line}
 use Rattle.tpal_tool.specs.Shelf.{HasRisen}
 use Rattle.tpal_tool.specs.Sink.{Appended, PrefixAppended}
-use Rattle.loop_parse.specs.Text.{Reads, TextFault, FirstTextFault}
-use Rattle.loop_rules.specs.Resolving.{IsFirstBroken}
-use Rattle.loop_rules.specs.Unbroken.{IsResolved}
-use Rattle.loop_check.specs.Checking as parallel
-use Rattle.loop_check.specs.Unbroken.{NoneBroken}
-use Rattle.loop_syntax.specs.Tree.{program_of}
-use Rattle.tpal_tool.specs.Words.{asked}
+use Rattle.tpal_tool.specs.Verdict.{RefusesOnly, AcceptsOnly}
+use Rattle.tpal_tool.specs.Words.{Command, Run, Compile, program_name, tables_name}
 
--- what a source text of at most the greatest length owes: this status, and this text
-pub data SourceOwes (source : List ℕ) (status : Status) (text : List ℕ) : Type 0 where
-  faulty : (fault : TextFault) → FirstTextFault source fault → status ≡ Refused → text ≡ fault_line fault → SourceOwes source status text
-  broken : (program : Program) (rule : ℕ) (place : Place) → Reads source (program_of program) → IsFirstBroken program rule place →
-      status ≡ Refused → text ≡ rule_line rule place → SourceOwes source status text
-  broken_parallel : (program : Program) (rule : ℕ) (place : Place) → Reads source (program_of program) → IsResolved program →
-      parallel.IsFirstBroken program rule place → status ≡ Refused → text ≡ parallel_line rule place → SourceOwes source status text
-  not_built : (program : Program) → Reads source (program_of program) → NoneBroken program → (IsBuilt (program_of program) → ⊥) →
-      status ≡ Refused → text ≡ not_built_line → SourceOwes source status text
-  ran : (program : Program) → Reads source (program_of program) → IsBuilt (program_of program) →
-      status ≡ status_of Done Trap OutOfFuel (meaning program [] DEFAULT_FUEL) →
-      text ≡ text_of (meaning program [] DEFAULT_FUEL) → SourceOwes source status text
+-- ---- what a program owes
 
--- and it owes nothing else
-abbrev pub IsSole : List ℕ → Status → List ℕ → Type 0
-IsSole source status text = (other : Status) (line : List ℕ) → SourceOwes source other line → (other ≡ status) × (line ≡ text)
+-- what a run of a program over a tables text owes, with so much fuel: this status, and this text
+pub data RunOwes (program : Program) (tables : List ℕ) (fuel : ℕ) (status : Status) (text : List ℕ) : Type 0 where
+  faulty_tables : (fault : TableFault) → FirstTableFault tables fault → status ≡ Refused → text ≡ tables_line fault →
+      RunOwes program tables fuel status text
+  ran : (inputs : List Table) → TablesOf tables inputs → status ≡ status_of Done Trap OutOfFuel (meaning program inputs fuel) →
+      text ≡ text_of (meaning program inputs fuel) → RunOwes program tables fuel status text
 
--- what a call with these words owes, where the source text that they name is this one
-pub data Owes (words : List (List ℕ)) (source : List ℕ) (status : Status) (text : List ℕ) : Type 0 where
-  bad_words : asked words ≡ None → status ≡ BadWords → text ≡ bad_words_line → Owes words source status text
-  too_long : {name : List ℕ} → asked words ≡ Some name → MAX_SOURCE_BYTES < length source →
-      status ≡ Refused → text ≡ too_long_line name → Owes words source status text
-  fits : {name : List ℕ} → asked words ≡ Some name → length source ≤ MAX_SOURCE_BYTES →
-      SourceOwes source status text → IsSole source status text → Owes words source status text
+-- the text is that of a code whose first task owes the program's meaning, where nothing is diverted
+pub record CompilesTo (program : Program) (text : List ℕ) : Type 0 where
+  pub code : Listing
+  pub code_text : CodeText text code.tables code.blocks
+  pub owes : (inputs : List Table) (fuel heartbeat : ℕ) →
+      OwesSerially code heartbeat 0 (first_state [] fuel) (ending.Root (meaning program inputs fuel))
 
--- the text of the name in the words is this one, where it is told
-abbrev pub IsSource : List (List ℕ) → (List ℕ → Option (List ℕ)) → List ℕ → Type 0
-IsSource words told source = (name : List ℕ) → asked words ≡ Some name → IfSome (told name) (λ text. text ≡ source)
+-- ---- what a call owes
+
+-- what a call owes whose words ask for this, or are not of the form, where the texts that they name are these
+pub data Owes (wanted : Option Command) (source tables : List ℕ) (status : Status) (text : List ℕ) : Type 0 where
+  bad_words : wanted ≡ None → status ≡ BadWords → text ≡ bad_words_line → Owes wanted source tables status text
+  too_long : {command : Command} → wanted ≡ Some command → MAX_SOURCE_BYTES < length source →
+      status ≡ Refused → text ≡ too_long_line (program_name command) → Owes wanted source tables status text
+  refused : {command : Command} → wanted ≡ Some command → length source ≤ MAX_SOURCE_BYTES → RefusesOnly source text →
+      status ≡ Refused → Owes wanted source tables status text
+  compiled : {name : List ℕ} {program : Program} → wanted ≡ Some (Compile name) → length source ≤ MAX_SOURCE_BYTES →
+      AcceptsOnly source program → status ≡ Done → CompilesTo program text → Owes wanted source tables status text
+  tables_too_long : {name over : List ℕ} {fuel : ℕ} {program : Program} → wanted ≡ Some (Run name (Some over) fuel) →
+      length source ≤ MAX_SOURCE_BYTES → AcceptsOnly source program → MAX_TABLES_BYTES < length tables →
+      status ≡ Refused → text ≡ too_long_line over → Owes wanted source tables status text
+  ran : {name : List ℕ} {over : Option (List ℕ)} {fuel : ℕ} {program : Program} → wanted ≡ Some (Run name over fuel) →
+      length source ≤ MAX_SOURCE_BYTES → AcceptsOnly source program → length tables ≤ MAX_TABLES_BYTES →
+      RunOwes program tables fuel status text → Owes wanted source tables status text
+
+-- the tables text is that of the name, where it is told; without a name it is empty
+abbrev pub IsTables : (List ℕ → Option (List ℕ)) → Option (List ℕ) → List ℕ → Type 0
+IsTables told None tables = tables ≡ []
+IsTables told (Some name) tables = IfSome (told name) (λ text. text ≡ tables)
+
+-- and it is told
+abbrev pub IsToldTables : (List ℕ → Option (List ℕ)) → Option (List ℕ) → List ℕ → Type 0
+IsToldTables told None tables = tables ≡ []
+IsToldTables told (Some name) tables = told name ≡ Some tables
+
+-- the texts of the names that are asked for are these, where they are told
+pub record AreTexts (wanted : Option Command) (told : List ℕ → Option (List ℕ)) (source tables : List ℕ) : Type 0 where
+  pub is_source : (command : Command) → wanted ≡ Some command → IfSome (told (program_name command)) (λ text. text ≡ source)
+  pub is_tables : (command : Command) → wanted ≡ Some command → IsTables told (tables_name command) tables
+
+-- ---- how a call ends
 
 -- a call that came to its end: it wrote the whole text that it owed, and answered the status that it owed
-pub record Finished (words : List (List ℕ)) (told : List ℕ → Option (List ℕ)) (old new : Option (List ℕ)) (status : Status) : Type 0 where
+pub record Finished (wanted : Option Command) (told : List ℕ → Option (List ℕ)) (old new : Option (List ℕ)) (status : Status) : Type 0 where
   pub source : List ℕ
-  pub is_source : IsSource words told source
+  pub tables : List ℕ
+  pub are_texts : AreTexts wanted told source tables
   pub text : List ℕ
-  pub owed : Owes words source status text
+  pub owed : Owes wanted source tables status text
   pub written : Appended old new text
 
 -- a call that was cut short while it wrote: a prefix of the text that it owed was written
-pub record CutShort (words : List (List ℕ)) (told : List ℕ → Option (List ℕ)) (old new : Option (List ℕ)) : Type 0 where
+pub record CutShort (wanted : Option Command) (told : List ℕ → Option (List ℕ)) (old new : Option (List ℕ)) : Type 0 where
   pub source : List ℕ
-  pub is_source : IsSource words told source
+  pub tables : List ℕ
+  pub are_texts : AreTexts wanted told source tables
   pub status : Status
   pub text : List ℕ
-  pub owed : Owes words source status text
+  pub owed : Owes wanted source tables status text
   pub some : text ≢ []
   pub written : PrefixAppended old new text
 
--- the name that the words ask for, a count of whose faults rose
-pub record ReadFailed (words : List (List ℕ)) (old new : List ℕ → ℕ) : Type 0 where
-  pub name : List ℕ
-  pub is_asked : asked words ≡ Some name
-  pub risen : HasRisen (old name) (new name)
+-- a name that is asked for: that of the program's text, or that of the tables' text
+abbrev pub Names : Command → List ℕ → Type 0
+Names command name = (name ≡ program_name command) ⊎ (tables_name command ≡ Some name)
+
+-- the count of the faults of a name rose: that of the program's text, or, where that text was accepted,
+-- that of the tables' text
+pub data ReadFailed (wanted : Option Command) (told : List ℕ → Option (List ℕ)) (old new : List ℕ → ℕ) : Type 0 where
+  program_failed : {command : Command} → wanted ≡ Some command → HasRisen (old (program_name command)) (new (program_name command)) →
+      ReadFailed wanted told old new
+  tables_failed : {name over : List ℕ} {fuel : ℕ} {program : Program} → wanted ≡ Some (Run name (Some over) fuel) →
+      (source : List ℕ) → IfSome (told name) (λ text. text ≡ source) → length source ≤ MAX_SOURCE_BYTES → AcceptsOnly source program →
+      HasRisen (old over) (new over) → ReadFailed wanted told old new
 
 -- a status with which the whole text was written
 abbrev pub IsFinal : Status → Type 0
@@ -85,14 +116,27 @@ IsFinal ReadFault = ⊥
 IsFinal WriteFault = ⊥
 
 -- how a call ends
-pub data Ends (words : List (List ℕ)) (told : List ℕ → Option (List ℕ)) (reads reads' : List ℕ → ℕ) (old new : Option (List ℕ)) (writes writes' : ℕ) (status : Status) : Type 0 where
-  finished : IsFinal status → Finished words told old new status → Ends words told reads reads' old new writes writes' status
-  read_failed : status ≡ ReadFault → ReadFailed words reads reads' → Appended old new [] → Ends words told reads reads' old new writes writes' status
-  write_failed : status ≡ WriteFault → HasRisen writes writes' → CutShort words told old new → Ends words told reads reads' old new writes writes' status
-  no_memory : status ≡ NoMemory → Appended old new [] ⊎ CutShort words told old new → Ends words told reads reads' old new writes writes' status
+pub data Ends (wanted : Option Command) (told : List ℕ → Option (List ℕ)) (reads reads' : List ℕ → ℕ) (old new : Option (List ℕ)) (writes writes' : ℕ) (status : Status) : Type 0 where
+  finished : IsFinal status → Finished wanted told old new status → Ends wanted told reads reads' old new writes writes' status
+  read_failed : status ≡ ReadFault → ReadFailed wanted told reads reads' → Appended old new [] → Ends wanted told reads reads' old new writes writes' status
+  write_failed : status ≡ WriteFault → HasRisen writes writes' → CutShort wanted told old new → Ends wanted told reads reads' old new writes writes' status
+  no_memory : status ≡ NoMemory → Appended old new [] ⊎ CutShort wanted told old new → Ends wanted told reads reads' old new writes writes' status
 
 -- what came of writing a text with a status
 pub data IsWritten (old new : Option (List ℕ)) (writes writes' : ℕ) (owed : Status) (text : List ℕ) (status : Status) : Type 0 where
   whole : status ≡ owed → Appended old new text → IsWritten old new writes writes' owed text status
   failed : status ≡ WriteFault → HasRisen writes writes' → text ≢ [] → PrefixAppended old new text → IsWritten old new writes writes' owed text status
   no_room : status ≡ NoMemory → text ≢ [] → PrefixAppended old new text → IsWritten old new writes writes' owed text status
+
+-- ---- the parts of a call
+
+-- what a call owes, over some texts that are the named ones where those are told
+abbrev pub Owed : (wanted : Option Command) (told : List ℕ → Option (List ℕ)) (status : Status) (text : List ℕ) → Type 0
+Owed wanted told status text = (source : List ℕ) × (tables : List ℕ) × AreTexts wanted told source tables × Owes wanted source tables status text
+
+-- what a run of a program owes over the tables text of a name, or over the empty one
+pub data NamedRunOwes (program : Program) (told : List ℕ → Option (List ℕ)) (over : Option (List ℕ)) (fuel : ℕ) (status : Status) (text : List ℕ) : Type 0 where
+  long : {name : List ℕ} → over ≡ Some name → IfSome (told name) (λ tables. MAX_TABLES_BYTES < length tables) →
+      status ≡ Refused → text ≡ too_long_line name → NamedRunOwes program told over fuel status text
+  fits : (tables : List ℕ) → IsTables told over tables → length tables ≤ MAX_TABLES_BYTES →
+      RunOwes program tables fuel status text → NamedRunOwes program told over fuel status text

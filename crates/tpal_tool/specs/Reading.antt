@@ -1,5 +1,6 @@
 -- What the reader answers.
 use Rattle.std.specs.Prelude.{ℕ, List, Option, Some, None}
+use Rattle.loop_syntax.specs.declared.program.Program.{Program}
 use Rattle.loop_syntax.specs.Tree.{program_of}
 use Rattle.loop_parse.specs.Text as text
 use Rattle.loop_parse.specs.Text.{Reads, FirstTextFault, IsOnlyTree, IsOnlyFault}
@@ -27,3 +28,7 @@ IsReading source (Fault fault) = FirstTextFault source (fault_of fault)
 abbrev pub IsOnlyReading : List ℕ → Reading → Type 0
 IsOnlyReading source (Tree program) = IsOnlyTree source (program_of program) × ((fault : text.TextFault) → FirstTextFault source fault → ⊥)
 IsOnlyReading source (Fault fault) = IsOnlyFault source (fault_of fault)
+
+-- the text reads as this program's tree, and as nothing else
+abbrev pub ReadsAs : List ℕ → Program → Type 0
+ReadsAs source program = Reads source (program_of program) × IsOnlyReading source (Tree program)

@@ -8,10 +8,12 @@
 
 mod built;
 mod files;
+mod judging;
 mod lines;
 mod lowering;
 mod outcome_text;
 mod reading;
+mod request;
 mod running;
 mod shelf;
 mod shelves;

@@ -1,10 +1,11 @@
 // The lines of refusals.
 
-ghost use Rattle.std.specs.Prelude.{◌≡◌, IfOk};
-ghost use Rattle.tpal_tool.specs.Lines.{line_at, fault_line, fault_of, parallel_line, rule_line, too_long_line, not_built_line, bad_words_line};
+ghost use Rattle.std.specs.Prelude.{◌≡◌, ◌≢◌, IfOk};
+ghost use Rattle.tpal_tool.specs.Lines.{bad_words_line, fault_line, fault_of, line_at, line_at_byte, not_built_line, parallel_line, rule_line, tables_line, too_long_line};
 
 use std::alloc::{AllocError, Global};
-use tp_value::Place;
+use table_text::TableFault;
+use tp_value::{NoMemory, Place};
 
 /// The first fault of a source text, with its place.
 #[derive(Clone, Copy, PartialEq, Eq, Debug)]
@@ -55,6 +56,26 @@ pub fn parallel_line(alloc: Global, rule: u8, place: Place) -> Result<Vec<u8>, A
 {
     let code = format!(in alloc; "E8 C{rule}")?;
     line_at(alloc, &code, place)
+}
+
+fn line_at_byte(alloc: Global, code: &str, at: u64) -> Result<Vec<u8>, AllocError>
+    ensures { IfOk result (λ line. line.items ≡ line_at_byte code.now at) }
+{
+    let text = format!(in alloc; "refused {code} at byte {at}\n")?;
+    Ok(text.into_bytes())
+}
+
+/// The line of a refused tables text.
+pub fn tables_line(alloc: Global, fault: TableFault) -> Result<Vec<u8>, NoMemory>
+    ensures line { IfOk result (λ line. line.items ≡ tables_line fault) }
+    ensures fault { IfOk result (λ line. fault ≢ TableFault.NoMemory) }
+{
+    match fault {
+        TableFault::Form(at) => Ok(line_at_byte(alloc, "E4", at)?),
+        TableFault::Cells(at) => Ok(line_at_byte(alloc, "E5", at)?),
+        TableFault::Repeated(at) => Ok(line_at_byte(alloc, "E6", at)?),
+        TableFault::NoMemory => Err(NoMemory),
+    }
 }
 
 /// The line of a file above its limit.

@@ -1,125 +1,40 @@
 // The top call.
 
-ghost use Rattle.std.specs.Prelude.{◌≡◌, ◌⊎◌, ◌↔◌, ℕ, ◌<◌, ◌≤◌, List, [], IfOk, Some, None, Err, length, map, string_bytes};
-ghost use Rattle.loop_check.specs.Unbroken.{NoneBroken};
-ghost use Rattle.loop_parse.specs.Text.{Reads};
-ghost use Rattle.loop_rules.specs.Unbroken.{IsResolved};
-ghost use Rattle.loop_syntax.specs.Tree.{program_of};
+ghost use Rattle.std.specs.Prelude.{◌≡◌, ◌≢◌, ◌⊎◌, ◌↔◌, ℕ, ◌<◌, ◌≤◌, Option, List, [], IfOk, IfSome, Some, None, Err, IsSomeAnd, length, map, option_map, string_bytes};
+ghost use Rattle.tp_value.specs.declared.limits.TheConstants.{MAX_FUEL, MAX_SOURCE_BYTES, MAX_TABLES_BYTES};
+ghost use Rattle.tp_value.specs.declared.values.Table.{Table};
 ghost use Rattle.loop_syntax.specs.declared.program.Program.{Program};
-ghost use Rattle.tpal_tool.specs.Built.{IsBuilt, IsBuiltProgram};
+ghost use Rattle.table_text.specs.TablesText.{TablesOf};
+ghost use Rattle.tpal_tool.specs.Asking.{command_of};
+ghost use Rattle.tpal_tool.specs.Built.{IsBuiltProgram};
 ghost use Rattle.tpal_tool.specs.Lines.{bad_words_line, too_long_line};
-ghost use Rattle.tpal_tool.specs.Owed.{SourceOwes, IsSole, Ends, Finished, CutShort, ReadFailed, IsFinal, IsSource, IsWritten, Owes};
-ghost use Rattle.tpal_tool.specs.Reading.{IsOnlyReading};
+ghost use Rattle.tpal_tool.specs.Owed.{CompilesTo, CutShort, Ends, Finished, IsFinal, IsToldTables, IsWritten, NamedRunOwes, Names, Owed, ReadFailed, RunOwes};
 ghost use Rattle.tpal_tool.specs.Shelf.{HasRisen};
 ghost use Rattle.tpal_tool.specs.Sink.{Appended};
-ghost use Rattle.tpal_tool.specs.Words.{asked};
+ghost use Rattle.tpal_tool.specs.Verdict.{Accepts, Refuses};
+ghost use Rattle.tpal_tool.specs.Words.{Command, Run, Compile, asked, program_name, tables_name};
 
-use crate::built::is_built;
-use crate::lines::{
-    bad_words_line, fault_line, not_built_line, parallel_line, rule_line, too_long_line,
-};
+use crate::judging::{Verdict, judge};
+use crate::lines::{bad_words_line, tables_line, too_long_line};
 use crate::outcome_text::text_of;
-use crate::reading::{Reading, read_source};
-use crate::running::run_program;
+use crate::request::{Request, RunRequest};
+use crate::running::{compile_program, run_program};
 use crate::shelf::{Shelf, ShelfFault};
 use crate::sink::{Sink, SinkFault};
 use crate::status::{Status, status_of};
 use crate::words::asked;
 use crate::writing::write_text;
-use loop_check::check;
-use loop_rules::{Resolved, RuleFault, resolve};
 use loop_syntax::Program;
 use std::alloc::Global;
-use tp_value::{MAX_SOURCE_BYTES, NoMemory};
+use table_text::laws::text_is_read_one_way;
+use table_text::read_tables;
+use tp_value::{MAX_FUEL, MAX_SOURCE_BYTES, MAX_TABLES_BYTES, NoMemory};
 
 /// A status, and the text that is written with it.
 #[derive(Drop)]
 struct Answer {
     status: Status,
     text: Vec<u8>,
-}
-
-fn run_answer(alloc: Global, program: &Program) -> Result<Answer, NoMemory>
-    requires { IsBuiltProgram program.now }
-    ensures owes { (source : List ℕ) → Reads source (program_of program.now)
-        → IfOk result (λ answer. SourceOwes source answer.status answer.text.items) }
-    ensures sole { (source : List ℕ) → IsOnlyReading source (Reading.Tree program.now)
-        → IfOk result (λ answer. IsSole source answer.status answer.text.items) }
-{
-    let outcome = run_program(alloc, program)?;
-    let status = status_of(outcome.stop);
-    let text = text_of(alloc, outcome)?;
-    Ok(Answer { status, text })
-}
-
-/// The answer to a program that breaks no rule.
-fn checked_answer(alloc: Global, program: &Program) -> Result<Answer, NoMemory>
-    requires { NoneBroken program.now }
-    ensures owes { (source : List ℕ) → Reads source (program_of program.now)
-        → IfOk result (λ answer. SourceOwes source answer.status answer.text.items) }
-    ensures sole { (source : List ℕ) → IsOnlyReading source (Reading.Tree program.now)
-        → IfOk result (λ answer. IsSole source answer.status answer.text.items) }
-{
-    if is_built(program) {
-        run_answer(alloc, program)
-    } else {
-        let text = not_built_line(alloc)?;
-        let status = Status::Refused;
-        Ok(Answer { status, text })
-    }
-}
-
-/// The answer to a program that breaks no rule on names, limits, output and variables of loops.
-fn resolved_answer(alloc: Global, program: Resolved) -> Result<Answer, NoMemory>
-    requires { IsResolved program }
-    ensures owes { (source : List ℕ) → Reads source (program_of program)
-        → IfOk result (λ answer. SourceOwes source answer.status answer.text.items) }
-    ensures sole { (source : List ℕ) → IsOnlyReading source (Reading.Tree program)
-        → IfOk result (λ answer. IsSole source answer.status answer.text.items) }
-{
-    match check(alloc, program) {
-        Ok(checked) => checked_answer(alloc, checked.program()),
-        Err(RuleFault::Broken { rule, place }) => {
-            let text = parallel_line(alloc, rule, place)?;
-            let status = Status::Refused;
-            Ok(Answer { status, text })
-        }
-        Err(RuleFault::NoMemory) => Err(NoMemory),
-    }
-}
-
-/// The answer to a program.
-fn program_answer(alloc: Global, program: Program) -> Result<Answer, NoMemory>
-    ensures owes { (source : List ℕ) → Reads source (program_of program)
-        → IfOk result (λ answer. SourceOwes source answer.status answer.text.items) }
-    ensures sole { (source : List ℕ) → IsOnlyReading source (Reading.Tree program)
-        → IfOk result (λ answer. IsSole source answer.status answer.text.items) }
-{
-    match resolve(alloc, program) {
-        Ok(resolved) => resolved_answer(alloc, resolved),
-        Err(RuleFault::Broken { rule, place }) => {
-            let text = rule_line(alloc, rule, place)?;
-            let status = Status::Refused;
-            Ok(Answer { status, text })
-        }
-        Err(RuleFault::NoMemory) => Err(NoMemory),
-    }
-}
-
-/// The answer to a source text of at most the greatest length.
-fn source_answer(alloc: Global, source: &[u8]) -> Result<Answer, NoMemory>
-    requires { length source.now ≤ MAX_SOURCE_BYTES }
-    ensures owes { IfOk result (λ answer. SourceOwes source.now answer.status answer.text.items) }
-    ensures sole { IfOk result (λ answer. IsSole source.now answer.status answer.text.items) }
-{
-    match read_source(alloc, source)? {
-        Reading::Tree(program) => program_answer(alloc, program),
-        Reading::Fault(fault) => {
-            let text = fault_line(alloc, fault)?;
-            let status = Status::Refused;
-            Ok(Answer { status, text })
-        }
-    }
 }
 
 fn bad_words_answer(alloc: Global) -> Result<Answer, NoMemory>
@@ -136,6 +51,52 @@ fn too_long_answer(alloc: Global, name: &str) -> Result<Answer, NoMemory>
     let text = too_long_line(alloc, name)?;
     let status = Status::Refused;
     Ok(Answer { status, text })
+}
+
+/// The answer that is the code of a program.
+fn compiled_answer(alloc: Global, program: &Program) -> Result<Answer, NoMemory>
+    requires { IsBuiltProgram program.now }
+    ensures status { IfOk result (λ answer. answer.status ≡ Status.Done) }
+    ensures text { IfOk result (λ answer. CompilesTo program.now answer.text.items) }
+{
+    let text = compile_program(alloc, program)?;
+    let status = Status::Done;
+    Ok(Answer { status, text })
+}
+
+/// The answer that is what a program comes to.
+fn outcome_answer(alloc: Global, program: &Program, fuel: u64) -> Result<Answer, NoMemory>
+    requires built { IsBuiltProgram program.now }
+    requires fuel { fuel ≤ MAX_FUEL }
+    ensures { (tables : List ℕ) (inputs : List Table) → TablesOf tables inputs
+        → IfOk result (λ answer. RunOwes program.now tables fuel answer.status answer.text.items) }
+{
+    let outcome = run_program(alloc, program, fuel)?;
+    let status = status_of(outcome.stop);
+    let text = text_of(alloc, outcome)?;
+    Ok(Answer { status, text })
+}
+
+/// The answer to a run of a program over a tables text.
+fn run_answer(
+    alloc: Global,
+    program: &Program,
+    tables: &[u8],
+    fuel: u64,
+) -> Result<Answer, NoMemory>
+    requires built { IsBuiltProgram program.now }
+    requires tables { length tables.now ≤ MAX_TABLES_BYTES }
+    requires fuel { fuel ≤ MAX_FUEL }
+    ensures { IfOk result (λ answer. RunOwes program.now tables.now fuel answer.status answer.text.items) }
+{
+    match read_tables(alloc, tables) {
+        Ok(_inputs) => outcome_answer(alloc, program, fuel),
+        Err(fault) => {
+            let text = tables_line(alloc, fault)?;
+            let status = Status::Refused;
+            Ok(Answer { status, text })
+        }
+    }
 }
 
 /// Why there is nothing to write.
@@ -156,22 +117,99 @@ impl From<NoMemory> for Silence {
     }
 }
 
-/// The answer to the words, with the text that they name fetched from the shelf.
-fn words_answer<S: Shelf>(alloc: Global, words: &[String], shelf: &mut S) -> Result<Answer, Silence>
-    ensures answer { IfOk result (λ answer. (source : List ℕ)
-        × IsSource (map string_bytes words.now) (S.text shelf.old) source
-        × Owes (map string_bytes words.now) source answer.status answer.text.items) }
-    ensures read_failed { result ≡ Err Silence.ReadFailed
-        → ReadFailed (map string_bytes words.now) (S.faults shelf.old) (S.faults shelf.new) }
+/// The answer to a run of a program, with the tables text of that name fetched from the shelf.
+fn fetched_run_answer<S: Shelf>(
+    alloc: Global,
+    program: &Program,
+    name: &str,
+    fuel: u64,
+    shelf: &mut S,
+) -> Result<Answer, Silence>
+    requires built { IsBuiltProgram program.now }
+    requires fuel { fuel ≤ MAX_FUEL }
+    ensures answer { IfOk result (λ answer. NamedRunOwes program.now (S.text shelf.old) (Some name.now) fuel answer.status answer.text.items) }
+    ensures read_failed { result ≡ Err Silence.ReadFailed → HasRisen (S.faults shelf.old name.now) (S.faults shelf.new name.now) }
 {
-    let Some(name) = asked(words) else {
-        return Ok(bad_words_answer(alloc)?);
-    };
-    match shelf.fetch(alloc, name, MAX_SOURCE_BYTES) {
-        Ok(source) => Ok(source_answer(alloc, &source)?),
+    match shelf.fetch(alloc, name, MAX_TABLES_BYTES) {
+        Ok(tables) => Ok(run_answer(alloc, program, &tables, fuel)?),
         Err(ShelfFault::Failed) => Err(Silence::ReadFailed),
         Err(ShelfFault::Long) => Ok(too_long_answer(alloc, name)?),
         Err(ShelfFault::NoMemory) => Err(Silence::NoMemory),
+    }
+}
+
+/// The answer to a run of a program, over the tables text of a name, or over the empty one.
+fn named_run_answer<S: Shelf>(
+    alloc: Global,
+    program: &Program,
+    run: RunRequest,
+    shelf: &mut S,
+) -> Result<Answer, Silence>
+    requires { IsBuiltProgram program.now }
+    ensures answer { IfOk result (λ answer. NamedRunOwes program.now (S.text shelf.old)
+        (option_map (λ t. t.now) run.entry.tables) run.entry.fuel answer.status answer.text.items) }
+    ensures read_failed { result ≡ Err Silence.ReadFailed
+        → IsSomeAnd (option_map (λ t. t.now) run.entry.tables) (λ name. HasRisen (S.faults shelf.old name) (S.faults shelf.new name)) }
+{
+    match run.tables {
+        None => Ok(run_answer(alloc, program, &[], run.fuel)?),
+        Some(name) => fetched_run_answer(alloc, program, name, run.fuel, shelf),
+    }
+}
+
+/// The answer to a request, with the source text that it names.
+fn source_answer<S: Shelf>(
+    alloc: Global,
+    request: Request,
+    source: &[u8],
+    shelf: &mut S,
+) -> Result<Answer, Silence>
+    requires within { length source.now ≤ MAX_SOURCE_BYTES }
+    requires told { IfSome (S.text shelf.old (program_name (command_of request))) (λ text. source.now ≡ text) }
+    ensures answer { IfOk result (λ answer. Owed (Some (command_of request.entry)) (S.text shelf.old) answer.status answer.text.items) }
+    ensures read_failed { result ≡ Err Silence.ReadFailed
+        → ReadFailed (Some (command_of request.entry)) (S.text shelf.old) (S.faults shelf.old) (S.faults shelf.new) }
+{
+    match judge(alloc, source)? {
+        Verdict::Refused(text) => {
+            let status = Status::Refused;
+            Ok(Answer { status, text })
+        }
+        Verdict::Accepted(checked) => match request {
+            Request::Run(run) => named_run_answer(alloc, checked.program(), run, shelf),
+            Request::Compile(_) => Ok(compiled_answer(alloc, checked.program())?),
+        },
+    }
+}
+
+/// The answer to a request, with the texts that it names fetched from the shelf.
+fn request_answer<S: Shelf>(
+    alloc: Global,
+    request: Request,
+    shelf: &mut S,
+) -> Result<Answer, Silence>
+    ensures answer { IfOk result (λ answer. Owed (Some (command_of request.entry)) (S.text shelf.old) answer.status answer.text.items) }
+    ensures read_failed { result ≡ Err Silence.ReadFailed
+        → ReadFailed (Some (command_of request.entry)) (S.text shelf.old) (S.faults shelf.old) (S.faults shelf.new) }
+{
+    let name = request.program();
+    match shelf.fetch(alloc, name, MAX_SOURCE_BYTES) {
+        Ok(source) => source_answer(alloc, request, &source, shelf),
+        Err(ShelfFault::Failed) => Err(Silence::ReadFailed),
+        Err(ShelfFault::Long) => Ok(too_long_answer(alloc, name)?),
+        Err(ShelfFault::NoMemory) => Err(Silence::NoMemory),
+    }
+}
+
+/// The answer to the words, with the texts that they name fetched from the shelf.
+fn words_answer<S: Shelf>(alloc: Global, words: &[String], shelf: &mut S) -> Result<Answer, Silence>
+    ensures answer { IfOk result (λ answer. Owed (asked (map string_bytes words.now)) (S.text shelf.old) answer.status answer.text.items) }
+    ensures read_failed { result ≡ Err Silence.ReadFailed
+        → ReadFailed (asked (map string_bytes words.now)) (S.text shelf.old) (S.faults shelf.old) (S.faults shelf.new) }
+{
+    match asked(words) {
+        None => Ok(bad_words_answer(alloc)?),
+        Some(request) => request_answer(alloc, request, shelf),
     }
 }
 
@@ -187,7 +225,7 @@ fn written<K: Sink>(sink: &mut K, answer: &Answer) -> Status
 }
 
 fn call<S: Shelf, K: Sink>(alloc: Global, words: &[String], shelf: &mut S, sink: &mut K) -> Status
-    ensures { Ends (map string_bytes words.now) (S.text shelf.old) (S.faults shelf.old) (S.faults shelf.new) (K.written sink.old) (K.written sink.new) (K.faults sink.old) (K.faults sink.new) result }
+    ensures { Ends (asked (map string_bytes words.now)) (S.text shelf.old) (S.faults shelf.old) (S.faults shelf.new) (K.written sink.old) (K.written sink.new) (K.faults sink.old) (K.faults sink.new) result }
 {
     match words_answer(alloc, words, shelf) {
         Ok(answer) => written(sink, &answer),
@@ -196,14 +234,18 @@ fn call<S: Shelf, K: Sink>(alloc: Global, words: &[String], shelf: &mut S, sink:
     }
 }
 
-/// Runs the program that the words name, and writes what it prints, or why it was refused.
+/// Does what the words ask for, and writes what comes of it.
 ///
-/// The words are `run` and a name that doesn't begin with a dash; all others are bad words. The
-/// named text is fetched from the shelf, and run with a fuel of 1,000,000,000 ticks.
+/// The words are `run`, a name, and optionally a second name, with `--fuel` and a number of ticks, at
+/// most 1,000,000,000,000, in one word with `=` or in two; or `compile` and a name. `--` ends the
+/// options. All others are bad words. `run` runs the program whose text has the first name, over the
+/// tables text of the second, or over the empty one, with a fuel of 1,000,000,000 ticks where none is
+/// given. `compile` writes the program's code. The texts are fetched from the shelf.
 ///
-/// `ReadFault` comes only where the count of that name's faults rose, and nothing is written then;
-/// `WriteFault` only where the sink's count rose, and a prefix of a text that isn't empty was
-/// written. `NoMemory` is free. Every other status comes with the whole text.
+/// `ReadFault` comes only where the count of the first name's faults rose, or, where the program was
+/// accepted, that of the second name's, and nothing is written then; `WriteFault` only where the
+/// sink's count rose, and a prefix of a text that isn't empty was written. `NoMemory` is free. Every
+/// other status comes with the whole text.
 pub fn tpal<S: Shelf, K: Sink>(
     alloc: Global,
     words: &[String],
@@ -212,38 +254,64 @@ pub fn tpal<S: Shelf, K: Sink>(
 ) -> Status
     // The headline: a call that ends without a fault and with memory wrote what it owes.
     ensures answered { IsFinal result
-        → Finished (map string_bytes words.now) (S.text shelf.old) (K.written sink.old) (K.written sink.new) result }
+        → Finished (asked (map string_bytes words.now)) (S.text shelf.old) (K.written sink.old) (K.written sink.new) result }
 
     // Each way to end without that has its cause.
     ensures read_fault { result ≡ Status.ReadFault
-        → ReadFailed (map string_bytes words.now) (S.faults shelf.old) (S.faults shelf.new) }
+        → ReadFailed (asked (map string_bytes words.now)) (S.text shelf.old) (S.faults shelf.old) (S.faults shelf.new) }
     ensures read_fault_writes_nothing { result ≡ Status.ReadFault → Appended (K.written sink.old) (K.written sink.new) [] }
     ensures write_fault { result ≡ Status.WriteFault → HasRisen (K.faults sink.old) (K.faults sink.new) }
     ensures write_fault_prefix { result ≡ Status.WriteFault
-        → CutShort (map string_bytes words.now) (S.text shelf.old) (K.written sink.old) (K.written sink.new) }
+        → CutShort (asked (map string_bytes words.now)) (S.text shelf.old) (K.written sink.old) (K.written sink.new) }
     ensures no_memory { result ≡ Status.NoMemory
         → Appended (K.written sink.old) (K.written sink.new) []
-        ⊎ CutShort (map string_bytes words.now) (S.text shelf.old) (K.written sink.old) (K.written sink.new) }
+        ⊎ CutShort (asked (map string_bytes words.now)) (S.text shelf.old) (K.written sink.old) (K.written sink.new) }
 
     // Each refusal comes exactly where its cause stands.
     ensures bad_words { IsFinal result → (result ≡ Status.BadWords) ↔ (asked (map string_bytes words.now) ≡ None) }
     ensures bad_words_line { result ≡ Status.BadWords → Appended (K.written sink.old) (K.written sink.new) bad_words_line }
-    ensures too_long { (name source : List ℕ) → IsFinal result
-        → asked (map string_bytes words.now) ≡ Some name → S.text shelf.old name ≡ Some source
+    ensures too_long { (command : Command) (source : List ℕ) → IsFinal result
+        → asked (map string_bytes words.now) ≡ Some command → S.text shelf.old (program_name command) ≡ Some source
         → MAX_SOURCE_BYTES < length source
-        → (result ≡ Status.Refused) × Appended (K.written sink.old) (K.written sink.new) (too_long_line name) }
-    ensures owed { (name source text : List ℕ) (status : Status) → IsFinal result
-        → asked (map string_bytes words.now) ≡ Some name → S.text shelf.old name ≡ Some source
-        → length source ≤ MAX_SOURCE_BYTES → SourceOwes source status text
-        → (result ≡ status) × Appended (K.written sink.old) (K.written sink.new) text }
+        → (result ≡ Status.Refused) × Appended (K.written sink.old) (K.written sink.new) (too_long_line (program_name command)) }
+    ensures refused { (command : Command) (source line : List ℕ) → IsFinal result
+        → asked (map string_bytes words.now) ≡ Some command → S.text shelf.old (program_name command) ≡ Some source
+        → length source ≤ MAX_SOURCE_BYTES → Refuses source line
+        → (result ≡ Status.Refused) × Appended (K.written sink.old) (K.written sink.new) line }
+    ensures tables_too_long { (name over source tables : List ℕ) (fuel : ℕ) (program : Program) → IsFinal result
+        → asked (map string_bytes words.now) ≡ Some (Run name (Some over) fuel) → S.text shelf.old name ≡ Some source
+        → length source ≤ MAX_SOURCE_BYTES → Accepts source program → S.text shelf.old over ≡ Some tables
+        → MAX_TABLES_BYTES < length tables
+        → (result ≡ Status.Refused) × Appended (K.written sink.old) (K.written sink.new) (too_long_line over) }
 
-    // Words of the form, a program that is built, and no counted fault: done, or no memory.
-    ensures complete { (name source : List ℕ) (program : Program)
-        → asked (map string_bytes words.now) ≡ Some name → S.text shelf.old name ≡ Some source
-        → length source ≤ MAX_SOURCE_BYTES → Reads source (program_of program) → IsBuilt (program_of program)
+    // A program that is accepted runs over its tables text, or is compiled.
+    ensures ran { (name source tables text : List ℕ) (over : Option (List ℕ)) (fuel : ℕ) (program : Program) (status : Status)
+        → IsFinal result
+        → asked (map string_bytes words.now) ≡ Some (Run name over fuel) → S.text shelf.old name ≡ Some source
+        → length source ≤ MAX_SOURCE_BYTES → Accepts source program → IsToldTables (S.text shelf.old) over tables
+        → length tables ≤ MAX_TABLES_BYTES → RunOwes program tables fuel status text
+        → (result ≡ status) × Appended (K.written sink.old) (K.written sink.new) text }
+    ensures compiled { (name source : List ℕ) (program : Program) → IsFinal result
+        → asked (map string_bytes words.now) ≡ Some (Compile name) → S.text shelf.old name ≡ Some source
+        → length source ≤ MAX_SOURCE_BYTES → Accepts source program
+        → result ≡ Status.Done }
+
+    // Words of the form, a program that is built, tables that are of the form, and no counted fault:
+    // done, or no memory.
+    ensures runs { (name source tables : List ℕ) (over : Option (List ℕ)) (fuel : ℕ) (program : Program) (inputs : List Table)
+        → asked (map string_bytes words.now) ≡ Some (Run name over fuel) → S.text shelf.old name ≡ Some source
+        → length source ≤ MAX_SOURCE_BYTES → Accepts source program → IsToldTables (S.text shelf.old) over tables
+        → length tables ≤ MAX_TABLES_BYTES → TablesOf tables inputs
+        → ((read : List ℕ) → Names (Run name over fuel) read → HasRisen (S.faults shelf.old read) (S.faults shelf.new read) → ⊥)
+        → (HasRisen (K.faults sink.old) (K.faults sink.new) → ⊥)
+        → (result ≡ Status.Done) ⊎ (result ≡ Status.NoMemory) }
+    ensures compiles { (name source : List ℕ) (program : Program)
+        → asked (map string_bytes words.now) ≡ Some (Compile name) → S.text shelf.old name ≡ Some source
+        → length source ≤ MAX_SOURCE_BYTES → Accepts source program
         → (HasRisen (S.faults shelf.old name) (S.faults shelf.new name) → ⊥)
         → (HasRisen (K.faults sink.old) (K.faults sink.new) → ⊥)
         → (result ≡ Status.Done) ⊎ (result ≡ Status.NoMemory) }
 {
+    text_is_read_one_way();
     call(alloc, words, shelf, sink)
 }

@@ -6,7 +6,7 @@ use Rattle.loop_meaning.specs.Meaning.{meaning}
 use Rattle.slices.specs.Holding.{Holding}
 use Rattle.tpal_machine.specs.declared.ends.Ending.TheVariants.{Root}
 use Rattle.tpal_machine.specs.State.{first_state}
-use Rattle.tpal_tool.specs.declared.running.TheConstants.{DEFAULT_FUEL, DEFAULT_HEARTBEAT}
+use Rattle.tpal_tool.specs.declared.running.TheConstants.{DEFAULT_HEARTBEAT}
 use Rattle.tpal_tool.proofs.CountedSteps.{outcome_in}
 use Rattle.tpal_tool.proofs.Meanings.{code-owes}
 use Rattle.tpal_tool.proofs.running.run_program.Goals as goal
@@ -18,12 +18,12 @@ owed_outcome (Err e) m is = tt
 pub run_alone-requires-clause-owes : goal.run_alone-requires-clause-owes
 run_alone-requires-clause-owes c = (
   0,
-  meaning c.args.program.now [] DEFAULT_FUEL,
-  code-owes c.args.program.now [] DEFAULT_FUEL DEFAULT_HEARTBEAT c.in_ok-code.code c.in_ok-task.task c.requires c.in_ok-code.ensures.lowered c.in_ok-code.ensures.right
-      (c.in_ok-task.ensures.first ∙ ap (λ (list : List Holding). first_state list DEFAULT_FUEL) c.new.ensures.items),
+  meaning c.args.program.now [] c.args.fuel,
+  code-owes c.args.program.now [] c.args.fuel DEFAULT_HEARTBEAT c.in_ok-code.code c.in_ok-task.task c.requires.built c.in_ok-code.ensures.lowered c.in_ok-code.ensures.right
+      (c.in_ok-task.ensures.first ∙ ap (λ (list : List Holding). first_state list c.args.fuel) c.new.ensures.items),
 )
 
 pub returns : goal.returns
-returns c = owed_outcome c.run_alone.result (meaning c.args.program.now [] DEFAULT_FUEL) (c.run_alone.ensures.owed 0 _
-    (code-owes c.args.program.now [] DEFAULT_FUEL DEFAULT_HEARTBEAT c.in_ok-code.code c.in_ok-task.task c.requires c.in_ok-code.ensures.lowered c.in_ok-code.ensures.right
-    (c.in_ok-task.ensures.first ∙ ap (λ (list : List Holding). first_state list DEFAULT_FUEL) c.new.ensures.items)))
+returns c inputs = owed_outcome c.run_alone.result (meaning c.args.program.now inputs c.args.fuel) (c.run_alone.ensures.owed 0 _
+    (code-owes c.args.program.now inputs c.args.fuel DEFAULT_HEARTBEAT c.in_ok-code.code c.in_ok-task.task c.requires.built c.in_ok-code.ensures.lowered c.in_ok-code.ensures.right
+    (c.in_ok-task.ensures.first ∙ ap (λ (list : List Holding). first_state list c.args.fuel) c.new.ensures.items)))

@@ -1,8 +1,27 @@
-use Rattle.tpal_tool.proofs.Endings.{final-writes, complete-ends}
+use Rattle.tpal_tool.proofs.Endings.{ReadOneWay, read_fault-failed, final-finished, finished-refused, finished-tables_too_long, finished-ran, finished-compiled, runs-ends, compiles-ends}
 use Rattle.tpal_tool.proofs.tool.tpal.Goals as goal
 
-pub returns-clause-owed : goal.returns-clause-owed
-returns-clause-owed g c name source text status final = final-writes _ _ _ _ _ _ _ _ _ c.call.ensures final name source text status
+pub returns-clause-read_fault : goal.returns-clause-read_fault
+returns-clause-read_fault g c = read_fault-failed _ _ _ _ _ _ _ _ _ c.call.ensures
 
-pub returns-clause-complete : goal.returns-clause-complete
-returns-clause-complete g c name source program = complete-ends _ _ _ _ _ _ _ _ _ c.call.ensures name source program
+pub returns-clause-refused : goal.returns-clause-refused
+returns-clause-refused g c command source line is_final = finished-refused _ _ _ _ _ (final-finished _ _ _ _ _ _ _ _ _ c.call.ensures is_final) command source line
+
+pub returns-clause-tables_too_long : goal.returns-clause-tables_too_long
+returns-clause-tables_too_long g c name over source tables fuel program is_final = finished-tables_too_long _ _ _ _ _ (final-finished _ _ _ _ _ _ _ _ _ c.call.ensures is_final) name over source tables fuel program
+
+pub returns-clause-ran : goal.returns-clause-ran
+returns-clause-ran g c name source tables text over fuel program status is_final =
+    let way : ReadOneWay = record { one_list = c.text_is_read_one_way.ensures.one_list; one_fault = c.text_is_read_one_way.ensures.one_fault; not_both = c.text_is_read_one_way.ensures.not_both } in
+    finished-ran _ _ _ _ _ way (final-finished _ _ _ _ _ _ _ _ _ c.call.ensures is_final) name source tables text over fuel program status
+
+pub returns-clause-compiled : goal.returns-clause-compiled
+returns-clause-compiled g c name source program is_final = finished-compiled _ _ _ _ _ (final-finished _ _ _ _ _ _ _ _ _ c.call.ensures is_final) name source program
+
+pub returns-clause-runs : goal.returns-clause-runs
+returns-clause-runs g c name source tables over fuel program inputs =
+    let way : ReadOneWay = record { one_list = c.text_is_read_one_way.ensures.one_list; one_fault = c.text_is_read_one_way.ensures.one_fault; not_both = c.text_is_read_one_way.ensures.not_both } in
+    runs-ends _ _ _ _ _ _ _ _ _ way c.call.ensures name source tables over fuel program inputs
+
+pub returns-clause-compiles : goal.returns-clause-compiles
+returns-clause-compiles g c name source program = compiles-ends _ _ _ _ _ _ _ _ _ c.call.ensures name source program

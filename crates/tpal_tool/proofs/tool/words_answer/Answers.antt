@@ -1,14 +1,16 @@
-use Rattle.std.proofs.Common.{ap, subst, ℕ, List}
-use Rattle.std.specs.Prelude.{Err}
-use Rattle.tpal_tool.specs.Owed.{SourceOwes, IsSole}
-use Rattle.tpal_tool.proofs.Endings.{fits-owed, too_long-owed}
+use Rattle.std.proofs.Common.{ap, sym, subst, ◌∙◌}
+use Rattle.std.specs.Prelude.{Option, IfOk, option_map}
+use Rattle.tpal_tool.specs.Asking.{command_of}
+use Rattle.tpal_tool.specs.Owed.{Owed, ReadFailed}
+use Rattle.tpal_tool.specs.Words.{Command}
 use Rattle.tpal_tool.proofs.tool.words_answer.Goals as goal
 
-pub returns-in_ok-source_answer-in-Ok-clause-answer : goal.returns-in_ok-source_answer-in-Ok-clause-answer
-returns-in_ok-source_answer-in-Ok-clause-answer g c =
-    fits-owed _ _ _ c.in-Ok.source.items _ _ c.in-Some.ensures c.in-Ok.ensures.told c.in-Ok.ensures.within
-    (subst (λ (source : List ℕ). SourceOwes source c.in_ok-source_answer-in-Ok.field-0.status c.in_ok-source_answer-in-Ok.field-0.text.items) c.deref.ensures.value c.in_ok-source_answer-in-Ok.ensures.owes)
-    (subst (λ (source : List ℕ). IsSole source c.in_ok-source_answer-in-Ok.field-0.status c.in_ok-source_answer-in-Ok.field-0.text.items) c.deref.ensures.value c.in_ok-source_answer-in-Ok.ensures.sole)
+pub returns-in-Some-clause-answer : goal.returns-in-Some-clause-answer
+returns-in-Some-clause-answer g c =
+    subst (λ (o : Option Command). IfOk c.request_answer.result (λ answer. Owed o (g.S.Shelf.text c.args.shelf.now) answer.status answer.text.items))
+    (ap (option_map command_of) (sym c.in-Some.is) ∙ c.asked.ensures) c.request_answer.ensures.answer
 
-pub returns-in_ok-too_long_answer-in-Err-Long-clause-answer : goal.returns-in_ok-too_long_answer-in-Err-Long-clause-answer
-returns-in_ok-too_long_answer-in-Err-Long-clause-answer g c = too_long-owed _ _ _ _ _ c.in-Some.ensures (c.in-Err-Long.ensures.long (ap Err c.in-Err-Long.field-0-is)) c.in_ok-too_long_answer-in-Err-Long.ensures
+pub returns-in-Some-clause-read_failed : goal.returns-in-Some-clause-read_failed
+returns-in-Some-clause-read_failed g c failed =
+    subst (λ (o : Option Command). ReadFailed o (g.S.Shelf.text c.args.shelf.now) (g.S.Shelf.faults c.args.shelf.now) (g.S.Shelf.faults c.request_answer.new.shelf))
+    (ap (option_map command_of) (sym c.in-Some.is) ∙ c.asked.ensures) (c.request_answer.ensures.read_failed failed)

@@ -1,0 +1,46 @@
+-- What a source text comes to.
+use Rattle.std.specs.Prelude.{◌≡◌, ℕ, List}
+use Rattle.tp_value.specs.declared.values.Place.{Place}
+use Rattle.loop_syntax.specs.declared.program.Program.{Program}
+use Rattle.loop_syntax.specs.Tree.{program_of}
+use Rattle.loop_parse.specs.Text.{Reads, TextFault, FirstTextFault}
+use Rattle.loop_rules.specs.Resolving.{IsFirstBroken}
+use Rattle.loop_rules.specs.Unbroken.{IsResolved}
+use Rattle.loop_check.specs.Checking as parallel
+use Rattle.loop_check.specs.Unbroken.{NoneBroken}
+use Rattle.tpal_tool.specs.declared.judging.Verdict.{Verdict}
+use Rattle.tpal_tool.specs.declared.judging.Verdict.TheVariants.{Accepted, Refused}
+use Rattle.tpal_tool.specs.Built.{IsBuilt}
+use Rattle.tpal_tool.specs.Lines.{fault_line, not_built_line, parallel_line, rule_line}
+
+-- a source text of at most the greatest length is refused with this line
+pub data Refuses (source : List ℕ) (line : List ℕ) : Type 0 where
+  faulty : (fault : TextFault) → FirstTextFault source fault → line ≡ fault_line fault → Refuses source line
+  broken : (program : Program) (rule : ℕ) (place : Place) → Reads source (program_of program) → IsFirstBroken program rule place →
+      line ≡ rule_line rule place → Refuses source line
+  broken_parallel : (program : Program) (rule : ℕ) (place : Place) → Reads source (program_of program) → IsResolved program →
+      parallel.IsFirstBroken program rule place → line ≡ parallel_line rule place → Refuses source line
+  not_built : (program : Program) → Reads source (program_of program) → NoneBroken program → (IsBuilt (program_of program) → ⊥) →
+      line ≡ not_built_line → Refuses source line
+
+-- a source text is that of this program, which is built
+pub record Accepts (source : List ℕ) (program : Program) : Type 0 where
+  pub reads : Reads source (program_of program)
+  pub built : IsBuilt (program_of program)
+
+-- it is refused with this line, and in no other way
+pub record RefusesOnly (source : List ℕ) (line : List ℕ) : Type 0 where
+  pub refuses : Refuses source line
+  pub one_line : (other : List ℕ) → Refuses source other → other ≡ line
+  pub not_accepted : (program : Program) → Accepts source program → ⊥
+
+-- it is that of this program, and of no other
+pub record AcceptsOnly (source : List ℕ) (program : Program) : Type 0 where
+  pub accepts : Accepts source program
+  pub one_program : (other : Program) → Accepts source other → program_of other ≡ program_of program
+  pub not_refused : (line : List ℕ) → Refuses source line → ⊥
+
+-- what a source text comes to
+abbrev pub IsVerdict : List ℕ → Verdict → Type 0
+IsVerdict source (Accepted program) = AcceptsOnly source program
+IsVerdict source (Refused line) = RefusesOnly source line.items
