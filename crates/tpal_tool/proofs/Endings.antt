@@ -219,21 +219,6 @@ module _ (wanted : Option Command) (told : List ℕ → Option (List ℕ)) (old 
   accepted_here : (source mine : List ℕ) (program : Program) → source ≡ mine → Accepts source program → Accepts mine program
   accepted_here source mine program same a = subst (λ (s : List ℕ). Accepts s program) same a
 
-  -- a source that is too long
-  pub finished-too_long : (f : Finished wanted told old new status) (command : Command) (source : List ℕ) → wanted ≡ Some command → told (program_name command) ≡ Some source → MAX_SOURCE_BYTES < length source → (status ≡ Refused) × Appended old new (too_long_line (program_name command))
-  finished-too_long f command source asked_is told_is is_long = by f.owed f.written
-    where
-      over_it : MAX_SOURCE_BYTES < length f.source
-      over_it = subst (λ (s : List ℕ). MAX_SOURCE_BYTES < length s) (source_same f command source asked_is told_is) is_long
-
-      by : {text : List ℕ} → Owes wanted f.source f.tables status text → Appended old new text → (status ≡ Refused) × Appended old new (too_long_line (program_name command))
-      by (bad_words none is text_is) appended = absurd (some_none (sym none ∙ asked_is))
-      by (too_long also _ is text_is) appended = (is, wrote (text_is ∙ ap (λ c. too_long_line (program_name c)) (some_same (sym also ∙ asked_is))) appended)
-      by (refused also low only is) appended = absurd (omega (arith, low, over_it))
-      by (compiled also low only is compiles) appended = absurd (omega (arith, low, over_it))
-      by (tables_too_long also low only _ is text_is) appended = absurd (omega (arith, low, over_it))
-      by (owed.ran also low only few owes) appended = absurd (omega (arith, low, over_it))
-
   -- a source that is refused
   pub finished-refused : (f : Finished wanted told old new status) (command : Command) (source line : List ℕ) → wanted ≡ Some command → told (program_name command) ≡ Some source → length source ≤ MAX_SOURCE_BYTES → Refuses source line → (status ≡ Refused) × Appended old new line
   finished-refused f command source line asked_is told_is fits_it refuses = by f.owed f.written
