@@ -57,10 +57,6 @@ texts_of wanted told command source tables asked_is is_source is_tables = record
   is_tables = λ other is. subst (λ (c : Command). IsTables told (tables_name c) tables) (some_same (sym asked_is ∙ is)) is_tables;
 }
 
--- with words that are not of the form, no text is named
-pub bad_words-owed : (told : List ℕ → Option (List ℕ)) (status : Status) (text : List ℕ) → Owes None [] [] status text → Owed None told status text
-bad_words-owed told status text owes = ([], [], record { is_source = λ command is. absurd (some_none is); is_tables = λ command is. absurd (some_none is) }, owes)
-
 longer : (n : ℕ) → (xs : List ℕ) × (n < length xs)
 longer n = (replicate (suc n) 0, omega (arith, length-replicate {A = ℕ} (suc n) 0))
 
