@@ -71,7 +71,12 @@ bound_stays z level (Some j) s w low h = word_other s (z + value_cell level) (z 
 module _ (code : Listing) (heartbeat z : ℕ) where
   abbrev pub inside : (S : Scene code heartbeat z) (level : ℕ) → S.lowest ≤ level → ℤ → Option ℤ → Scene code heartbeat z
   inside S level lowest m held = record {
-    World = S.World; owing = S.owing; marks = S.marks; goal = S.goal; before = S.before; since = S.since;
+    World = S.World;
+    owing = S.owing;
+    marks = S.marks;
+    goal = S.goal;
+    before = S.before;
+    since = S.since;
     kept = λ w s. S.kept w s × (word_at s (pos (z + value_cell level)) ≡ Some (word.Int m)) × BoundHeld z level held s;
     lowest = suc level;
     may = λ x. (level ≢ x) × S.may x;
@@ -86,14 +91,42 @@ module _ (code : Listing) (heartbeat z : ℕ) where
   module _ (most fuel : ℕ) (S : Scene code heartbeat z) (level : ℕ) (lowest : S.lowest ≤ level) (m : ℤ) (held : Option ℤ) (i : S.World) (names : List (List ℕ)) (st : meaning.State) (state : machine.State) where
     shows_in : ShowsIn code heartbeat z most fuel S i names st state → word_at state.stack (pos (z + value_cell level)) ≡ Some (word.Int m) → BoundHeld z level held state.stack → ShowsIn code heartbeat z most fuel (inside S level lowest m held) i names st state
     shows_in h cell bound = record {
-      size = h.size; base = h.base; limit = h.limit; ticks = h.ticks; within = h.within; begun = h.begun; printed = h.printed;
-      ends = h.ends; free = h.free; marked = h.marked; named = h.named; no_tables = h.no_tables; low = h.low; room = h.room; vars = h.vars; keeps = (h.keeps, cell, bound);
+      size = h.size;
+      base = h.base;
+      limit = h.limit;
+      ticks = h.ticks;
+      within = h.within;
+      begun = h.begun;
+      printed = h.printed;
+      ends = h.ends;
+      free = h.free;
+      marked = h.marked;
+      named = h.named;
+      no_tables = h.no_tables;
+      low = h.low;
+      room = h.room;
+      vars = h.vars;
+      keeps = (h.keeps, cell, bound);
     }
 
     shows_out : ShowsIn code heartbeat z most fuel (inside S level lowest m held) i names st state → ShowsIn code heartbeat z most fuel S i names st state
     shows_out h = record {
-      size = h.size; base = h.base; limit = h.limit; ticks = h.ticks; within = h.within; begun = h.begun; printed = h.printed;
-      ends = h.ends; free = h.free; marked = h.marked; named = h.named; no_tables = h.no_tables; low = h.low; room = h.room; vars = h.vars; keeps = h.keeps.0;
+      size = h.size;
+      base = h.base;
+      limit = h.limit;
+      ticks = h.ticks;
+      within = h.within;
+      begun = h.begun;
+      printed = h.printed;
+      ends = h.ends;
+      free = h.free;
+      marked = h.marked;
+      named = h.named;
+      no_tables = h.no_tables;
+      low = h.low;
+      room = h.room;
+      vars = h.vars;
+      keeps = h.keeps.0;
     }
 
 -- ---- the test and the next number
@@ -112,12 +145,16 @@ module _ (code : Listing) (heartbeat z most fuel : ℕ) (S : Scene code heartbea
     where
       words_by : Bool → List Word
       words_by b = slice_set state.registers 0 (word.Int (truth b))
+
       shows_by : (b : Bool) → Shows code heartbeat z most fuel S i names st (words_by b) state.stack state.fuel state.output state.goal state.pending
       shows_by b = shows_words code heartbeat z most fuel S i shows (words_by b) (length-set state.registers 0 (word.Int (truth b))) (register_other state.registers 0 31 (word.Int (truth b)) (λ (q : 31 ≡ 0). absurd (omega (arith, q))))
+
       is_by : (b : Bool) → register (words_by b) 0 ≡ word.Int (truth b)
       is_by b = register_set state.registers 0 (word.Int (truth b)) (omega (arith, shows.size))
+
       tested : Remains code state.block (state.at + 1) (instr.IfJump 0 again ∷ []) (to exit)
       tested = behind code state.block state.at _ (instr.IfJump 0 again ∷ []) (to exit) stands
+
       by_test : (b : Bool) → int_lt m j ≡ b → (S.owing i r).Holds (with_register (advanced state) 0 (word.Int (truth b)))
       by_test true is =
           on_if code heartbeat (S.owing i r) (with_register (advanced state) 0 (word.Int (pos 1))) 0 again (pos 1) (next code (with_register (advanced state) 0 (word.Int (pos 1))) (instr.IfJump 0 again) [] (to exit) tested) (is_by true) refl (calm code again instrs last begins)
@@ -146,26 +183,36 @@ module _ (code : Listing) (heartbeat z most fuel : ℕ) (S : Scene code heartbea
     where
       loaded : machine.State
       loaded = with_register (advanced state) counter (word.Int m)
+
       added : machine.State
       added = with_register (advanced loaded) counter (word.Int (m +ℤ pos 1))
+
       two : List Word
       two = slice_set (slice_set state.registers counter (word.Int m)) counter (word.Int (m +ℤ pos 1))
+
       second : Remains code state.block (state.at + 1) (instr.Calc counter counter alu.Add (value.Int (pos 1)) ∷ store (value_cell (length names)) (value.Reg counter) ∷ more) end
       second = behind code state.block state.at _ _ end stands
+
       third : Remains code state.block (state.at + 1 + 1) (store (value_cell (length names)) (value.Reg counter) ∷ more) end
       third = behind code state.block (state.at + 1) _ _ end second
+
       size_one : length (slice_set state.registers counter (word.Int m)) ≡ length state.registers
       size_one = length-set state.registers counter (word.Int m)
+
       size_two : length two ≡ length state.registers
       size_two = length-set (slice_set state.registers counter (word.Int m)) counter (word.Int (m +ℤ pos 1)) ∙ size_one
+
       is_one : register (slice_set state.registers counter (word.Int m)) counter ≡ word.Int m
       is_one = register_set state.registers counter (word.Int m) (omega (arith, shows.size))
+
       is_two : register two counter ≡ word.Int (m +ℤ pos 1)
       is_two = register_set (slice_set state.registers counter (word.Int m)) counter (word.Int (m +ℤ pos 1)) (omega (arith, shows.size, size_one))
+
       base_two : register two 31 ≡ word.Int (pos z)
       base_two =
           register_other (slice_set state.registers counter (word.Int m)) counter 31 (word.Int (m +ℤ pos 1)) (λ (q : 31 ≡ counter). absurd (omega (arith, q)))
           ∙ (register_other state.registers counter 31 (word.Int m) (λ (q : 31 ≡ counter). absurd (omega (arith, q))) ∙ shows.base)
+
       sum_is : calculated alu.Add (register loaded.registers counter) (word.Int (pos 1)) ≡ Ok (word.Int (m +ℤ pos 1))
       sum_is = rw is_one (ap (λ n. Ok (word.Int n)) (int_wrap_fits w64 (m +ℤ pos 1) fits))
 
@@ -176,10 +223,10 @@ module _ (code : Listing) (heartbeat z most : ℕ) (set : Setting) (S : Scene co
     (begins : Opens code again (instr.Tick ∷ instrs) last) (ends : Opens code exit more end)
     (post : Owed code heartbeat z most set.fuel S names more end k)
     (body_law : (m : ℤ) (f : meaning.State → Result) → Owed code heartbeat z most set.fuel (inside code heartbeat z S (length names) lowest m held) inner (step_up counter (length names) reload) (to exit) f
-        → Owed code heartbeat z most set.fuel (inside code heartbeat z S (length names) lowest m held) (names ++ x ∷ []) instrs last (λ st. then (result (run_list set body st)) f))
+    → Owed code heartbeat z most set.fuel (inside code heartbeat z S (length names) lowest m held) (names ++ x ∷ []) instrs last (λ st. then (result (run_list set body st)) f))
     (reloads : (K : Back code heartbeat) (i : S.World) (st : meaning.State) (state : machine.State) (m : ℤ) → ShowsIn code heartbeat z most set.fuel S i names st state → BoundHeld z (length names) held state.stack → register state.registers counter ≡ word.Int m → Remains code state.block state.at reload (to exit)
-        → ((words : List Word) (beat : BeatState) (at : ℕ) → ShowsIn code heartbeat z most set.fuel S i names st (moved state words beat at) → register words counter ≡ word.Int m → operand words bound ≡ word.Int j → Remains code state.block at (below_test counter bound again) (to exit) → K.Holds (moved state words beat at))
-        → K.Holds state) where
+    → ((words : List Word) (beat : BeatState) (at : ℕ) → ShowsIn code heartbeat z most set.fuel S i names st (moved state words beat at) → register words counter ≡ word.Int m → operand words bound ≡ word.Int j → Remains code state.block at (below_test counter bound again) (to exit) → K.Holds (moved state words beat at))
+    → K.Holds state) where
   abbrev iterating : ℕ → ℤ → meaning.State → Ran
   iterating n m = iterate set.fuel x (run_list set body) [] [] n m
 
@@ -205,8 +252,10 @@ module _ (code : Listing) (heartbeat z most : ℕ) (set : Setting) (S : Scene co
     where
       follows : meaning.State → Result
       follows s = then (result (iterating n (m +ℤ pos 1) s)) k
+
       G : meaning.State → Ran
       G t = noted [] (run_list set body (record t { vars = declare t.vars x m }))
+
       a_turn : AtTest n → (task : machine.State) → ShowsIn code heartbeat z most set.fuel S i names st task → task.block ≡ again → task.at ≡ 0 → word_at task.stack (pos (z + value_cell (length names))) ≡ Some (word.Int m) → BoundHeld z (length names) held task.stack
           → (S.owing i (then (result (after (iteration set.fuel x (run_list set body) [] m st) (iterating n (m +ℤ pos 1)))) k)).Holds task
       a_turn goes task shows_task at_label at_begin cell_is bound_held =
@@ -223,7 +272,7 @@ module _ (code : Listing) (heartbeat z most : ℕ) (set : Setting) (S : Scene co
           body_law m (λ s. follows (left (length names) s))
           (λ w s done_task shows_done stands_done.
           let shows_s : ShowsIn code heartbeat z most set.fuel S w names (left (length names) s) done_task =
-              shows_left code heartbeat z most set.fuel S w (shows_out code heartbeat z most set.fuel S (length names) lowest m held w inner s done_task shows_done) (length names) names first in
+          shows_left code heartbeat z most set.fuel S w (shows_out code heartbeat z most set.fuel S (length names) lowest m held w inner s done_task shows_done) (length names) names first in
           steps_up code heartbeat z most set.fuel S w names (left (length names) s) done_task shows_s (S.owing w (follows (left (length names) s))) counter reload (to exit) m small lowest room shows_done.keeps.1 (next_in n m j gap in_m in_j) stands_done
           (λ words beat at shows_up is_up left_up.
           let stack : StackValue = with_word done_task.stack (pos (z + value_cell (length names))) (word.Int (m +ℤ pos 1)) in
@@ -246,7 +295,7 @@ module _ (code : Listing) (heartbeat z most : ℕ) (set : Setting) (expr_law : E
       → Computes code [] most names a 0 here (store (value_cell (length names)) (value.Reg 0) ∷ below_test 0 (value.Int n) again)
       → Opens code again (instr.Tick ∷ instrs) last → Opens code exit more end → Owed code heartbeat z most set.fuel S names more end k
       → ((m : ℤ) (f : meaning.State → Result) → Owed code heartbeat z most set.fuel (inside code heartbeat z S (length names) lowest m None) inner (step_up 0 (length names) (below_test 0 (value.Int n) again)) (to exit) f
-        → Owed code heartbeat z most set.fuel (inside code heartbeat z S (length names) lowest m None) (names ++ x.text.items ∷ []) instrs last (λ st. then (result (run_list set body.items st)) f))
+      → Owed code heartbeat z most set.fuel (inside code heartbeat z S (length names) lowest m None) (names ++ x.text.items ∷ []) instrs last (λ st. then (result (run_list set body.items st)) f))
       → Owed code heartbeat z most set.fuel S names here (to exit) (λ st. then (result (run set (Loop x a b body) st)) k)
   loop_to_law x a b body n again exit here instrs more last end is_literal in_n c begins ends post body_law i st state shows stands =
       subst (λ (r : Ran). (S.owing i (then (result r) k)).Holds state) (sym (run_loop_is set (Loop x a b body) x a b body st refl))
@@ -274,7 +323,7 @@ module _ (code : Listing) (heartbeat z most : ℕ) (set : Setting) (expr_law : E
       → Computes code [] most names b 0 second (store (bound_cell (length names)) (value.Reg 0) ∷ load 1 (value_cell (length names)) ∷ below_test 1 (value.Reg 0) again)
       → Opens code again (instr.Tick ∷ instrs) last → Opens code exit more end → Owed code heartbeat z most set.fuel S names more end k
       → ((j m : ℤ) (f : meaning.State → Result) → Owed code heartbeat z most set.fuel (inside code heartbeat z S (length names) lowest m (Some j)) inner (step_up 1 (length names) (load 0 (bound_cell (length names)) ∷ below_test 1 (value.Reg 0) again)) (to exit) f
-        → Owed code heartbeat z most set.fuel (inside code heartbeat z S (length names) lowest m (Some j)) (names ++ x.text.items ∷ []) instrs last (λ st. then (result (run_list set body.items st)) f))
+      → Owed code heartbeat z most set.fuel (inside code heartbeat z S (length names) lowest m (Some j)) (names ++ x.text.items ∷ []) instrs last (λ st. then (result (run_list set body.items st)) f))
       → Owed code heartbeat z most set.fuel S names here (to exit) (λ st. then (result (run set (Loop x a b body) st)) k)
   loop_law x a b body again exit here second instrs more last end c d begins ends post body_law i st state shows stands =
       subst (λ (r : Ran). (S.owing i (then (result r) k)).Holds state) (sym (run_loop_is set (Loop x a b body) x a b body st refl))

@@ -97,24 +97,46 @@ module _ (code : Listing) (heartbeat : ℕ) where
     where
       K : Back code heartbeat
       K = owing_serially code heartbeat 0 (ending.Root (outcome_by (then (result (run_list set body whole.first_state)) Fin)))
+
       zeroth : machine.State
       zeroth = first_state [] set.fuel
+
       stack : StackValue
       stack = pushed zeroth.stack (value_cell most)
+
       first : machine.State
       first = effect.with_stack (advanced zeroth) stack
+
       with_levels : machine.State
       with_levels = effect.with_stack (advanced first) (with_word stack (pos (0 + levels_cell)) (word.Int (pos MAX_CALL_DEPTH)))
+
       here : Remains code 0 0 (instr.Salloc (value_cell most) ∷ store levels_cell (value.Int (pos MAX_CALL_DEPTH)) ∷ main.instrs) main.end
       here = opened code 0 _ main.end main.begins
+
       second : Remains code 0 1 (store levels_cell (value.Int (pos MAX_CALL_DEPTH)) ∷ main.instrs) main.end
       second = behind code 0 0 _ _ main.end here
+
       room : 0 + value_cell most ≤ stack.base + length stack.cells
       room = omega (arith, length-replicate (value_cell most) word.Nil)
+
       shows : ShowsIn code heartbeat 0 most set.fuel root tt [] whole.first_state with_levels
       shows = record {
-        size = refl; base = refl; limit = refl; ticks = refl; within = omega arith; begun = omega arith; printed = refl;
-        ends = refl; free = refl; marked = refl; named = refl; no_tables = refl; low = omega arith; room = omega (arith, room, words_as_many stack (0 + levels_cell) (word.Int (pos MAX_CALL_DEPTH))); vars = tt; keeps = tt;
+        size = refl;
+        base = refl;
+        limit = refl;
+        ticks = refl;
+        within = omega arith;
+        begun = omega arith;
+        printed = refl;
+        ends = refl;
+        free = refl;
+        marked = refl;
+        named = refl;
+        no_tables = refl;
+        low = omega arith;
+        room = omega (arith, room, words_as_many stack (0 + levels_cell) (word.Int (pos MAX_CALL_DEPTH)));
+        vars = tt;
+        keeps = tt;
       }
 
 -- the meaning of a program without tables is the run of main

@@ -37,8 +37,22 @@ module _ (code : Listing) (heartbeat z most fuel : ℕ) (S : Scene code heartbea
   pub shows_words : {names : List (List ℕ)} {st : meaning.State} {words : List Word} {stack : StackValue} {spent : FuelState} {output : List ℕ} {goal : Goal} {pending : Option Tie} → Shown names st words stack spent output goal pending
       → (other : List Word) → length other ≡ length words → register other 31 ≡ register words 31 → Shown names st other stack spent output goal pending
   shows_words h other size same = record {
-    size = size ∙ h.size; base = same ∙ h.base; limit = h.limit; ticks = h.ticks; within = h.within; begun = h.begun; printed = h.printed;
-    ends = h.ends; free = h.free; marked = h.marked; named = h.named; no_tables = h.no_tables; low = h.low; room = h.room; vars = h.vars; keeps = h.keeps;
+    size = size ∙ h.size;
+    base = same ∙ h.base;
+    limit = h.limit;
+    ticks = h.ticks;
+    within = h.within;
+    begun = h.begun;
+    printed = h.printed;
+    ends = h.ends;
+    free = h.free;
+    marked = h.marked;
+    named = h.named;
+    no_tables = h.no_tables;
+    low = h.low;
+    room = h.room;
+    vars = h.vars;
+    keeps = h.keeps;
   }
 
   -- a word in a cell above those of the variables
@@ -48,12 +62,25 @@ module _ (code : Listing) (heartbeat z most fuel : ℕ) (S : Scene code heartbea
       let from : stack.base ≤ z + cell = omega (arith, h.low) in
       let many : length st.vars ≡ length names = as_many st.vars names h.named in
       record {
-        size = h.size; base = h.base; limit = h.limit; ticks = h.ticks; within = h.within; begun = h.begun; printed = h.printed;
-        ends = h.ends; free = h.free; marked = h.marked; named = h.named; no_tables = h.no_tables; low = h.low;
+        size = h.size;
+        base = h.base;
+        limit = h.limit;
+        ticks = h.ticks;
+        within = h.within;
+        begun = h.begun;
+        printed = h.printed;
+        ends = h.ends;
+        free = h.free;
+        marked = h.marked;
+        named = h.named;
+        no_tables = h.no_tables;
+        low = h.low;
         room = omega (arith, h.room, words_as_many stack (z + cell) w);
         vars = held_same stack (with_word stack (pos (z + cell)) w) z 0 st.vars (λ x low high. word_other stack (z + cell) (z + value_cell x) w from (λ (q : z + value_cell x ≡ z + cell). absurd (omega (arith, q, high, many, above)))) h.vars;
         keeps = S.stable i (length names) stack (with_word stack (pos (z + cell)) w) lowest (record {
-          base = refl; size = words_as_many stack (z + cell) w; marks = refl;
+          base = refl;
+          size = words_as_many stack (z + cell) w;
+          marks = refl;
           at = λ a lt others. word_other stack (z + cell) a w from (λ (q : a ≡ z + cell). absurd (omega (arith, q, lt, above)));
         }) h.keeps;
       }
@@ -64,8 +91,20 @@ module _ (code : Listing) (heartbeat z most fuel : ℕ) (S : Scene code heartbea
   shows_declared {names} {st} {stack = stack} h x n is fits =
       let many : 0 + length st.vars ≡ length names = omega (arith, as_many st.vars names h.named) in
       record {
-        size = h.size; base = h.base; limit = h.limit; ticks = h.ticks; within = h.within; begun = h.begun; printed = h.printed;
-        ends = h.ends; free = h.free; marked = h.marked; named = names_declare st.vars x n ∙ ap (λ ns. ns ++ x ∷ []) h.named; no_tables = h.no_tables; low = h.low; room = h.room;
+        size = h.size;
+        base = h.base;
+        limit = h.limit;
+        ticks = h.ticks;
+        within = h.within;
+        begun = h.begun;
+        printed = h.printed;
+        ends = h.ends;
+        free = h.free;
+        marked = h.marked;
+        named = names_declare st.vars x n ∙ ap (λ ns. ns ++ x ∷ []) h.named;
+        no_tables = h.no_tables;
+        low = h.low;
+        room = h.room;
         vars = held_declare stack z 0 st.vars x n h.vars (ap (λ k. word_at stack (pos (z + value_cell k))) many ∙ is) fits;
         keeps = h.keeps;
       }
@@ -78,13 +117,26 @@ module _ (code : Listing) (heartbeat z most fuel : ℕ) (S : Scene code heartbea
       let inside : z + cell < stack.base + length stack.cells = omega (arith, h.room, c.at_level, c.below) in
       let same : word_at (with_word stack (pos (z + cell)) (Int n)) (pos (z + cell)) ≡ Some (Int n) = word_same stack (z + cell) (Int n) from inside in
       record {
-        size = h.size; base = h.base; limit = h.limit; ticks = h.ticks; within = h.within; begun = h.begun; printed = h.printed;
-        ends = h.ends; free = h.free; marked = h.marked; named = names_assign st.vars x n ∙ h.named; no_tables = h.no_tables; low = h.low;
+        size = h.size;
+        base = h.base;
+        limit = h.limit;
+        ticks = h.ticks;
+        within = h.within;
+        begun = h.begun;
+        printed = h.printed;
+        ends = h.ends;
+        free = h.free;
+        marked = h.marked;
+        named = names_assign st.vars x n ∙ h.named;
+        no_tables = h.no_tables;
+        low = h.low;
         room = omega (arith, h.room, words_as_many stack (z + cell) (Int n));
         vars = held_assign stack (with_word stack (pos (z + cell)) (Int n)) z c.scope.cells.items 0 st.vars x n c.sees.laid (c.sees.named ∙ sym h.named) c.inside fits (ap (λ k. word_at (with_word stack (pos (z + cell)) (Int n)) (pos (z + k))) (sym c.is) ∙ same)
             (λ a ne. word_other stack (z + cell) a (Int n) from (λ (q : a ≡ z + cell). ne (q ∙ ap (λ k. z + k) c.is))) h.vars;
         keeps = S.stable i (length names) stack (with_word stack (pos (z + cell)) (Int n)) lowest (record {
-          base = refl; size = words_as_many stack (z + cell) (Int n); marks = refl;
+          base = refl;
+          size = words_as_many stack (z + cell) (Int n);
+          marks = refl;
           at = λ a lt others. word_other stack (z + cell) a (Int n) from (λ (q : a ≡ z + cell). others c.level may (q ∙ ap (λ k. z + k) c.at_level));
         }) h.keeps;
       }
@@ -96,24 +148,64 @@ module _ (code : Listing) (heartbeat z most fuel : ℕ) (S : Scene code heartbea
       let test : is_tick_allowed fuel st.ticks ≡ true = grind (arith, nat_tests) in
       let next : ticked fuel st.ticks ≡ st.ticks + 1 = rw test refl in
       record {
-        size = h.size; base = h.base; limit = h.limit; ticks = rw (h.limit, h.ticks) refl; within = omega (arith, next); begun = omega (arith, next, h.begun); printed = h.printed;
-        ends = h.ends; free = h.free; marked = h.marked; named = h.named; no_tables = h.no_tables; low = h.low; room = h.room; vars = h.vars; keeps = h.keeps;
+        size = h.size;
+        base = h.base;
+        limit = h.limit;
+        ticks = rw (h.limit, h.ticks) refl;
+        within = omega (arith, next);
+        begun = omega (arith, next, h.begun);
+        printed = h.printed;
+        ends = h.ends;
+        free = h.free;
+        marked = h.marked;
+        named = h.named;
+        no_tables = h.no_tables;
+        low = h.low;
+        room = h.room;
+        vars = h.vars;
+        keeps = h.keeps;
       }
 
   -- a number printed
   pub shows_printed : {names : List (List ℕ)} {st : meaning.State} {words : List Word} {stack : StackValue} {spent : FuelState} {output : List ℕ} {goal : Goal} {pending : Option Tie} → Shown names st words stack spent output goal pending
       → (n : ℤ) → Shown names (print_line n st) words stack spent (output ++ (signed_decimal n ++ 10 ∷ [])) goal pending
   shows_printed {output = output} h n = record {
-    size = h.size; base = h.base; limit = h.limit; ticks = h.ticks; within = h.within; begun = h.begun;
+    size = h.size;
+    base = h.base;
+    limit = h.limit;
+    ticks = h.ticks;
+    within = h.within;
+    begun = h.begun;
     printed = ap (λ bs. bs ++ (signed_decimal n ++ 10 ∷ [])) h.printed ∙ append_assoc (S.before i) output (signed_decimal n ++ 10 ∷ []);
-    ends = h.ends; free = h.free; marked = h.marked; named = h.named; no_tables = h.no_tables; low = h.low; room = h.room; vars = h.vars; keeps = h.keeps;
+    ends = h.ends;
+    free = h.free;
+    marked = h.marked;
+    named = h.named;
+    no_tables = h.no_tables;
+    low = h.low;
+    room = h.room;
+    vars = h.vars;
+    keeps = h.keeps;
   }
 
   -- the first variables alone
   pub shows_left : {names : List (List ℕ)} {st : meaning.State} {words : List Word} {stack : StackValue} {spent : FuelState} {output : List ℕ} {goal : Goal} {pending : Option Tie} → Shown names st words stack spent output goal pending
       → (n : ℕ) (fewer : List (List ℕ)) → take n names ≡ fewer → Shown fewer (left n st) words stack spent output goal pending
   shows_left {names} {st} {stack = stack} h n fewer is = record {
-    size = h.size; base = h.base; limit = h.limit; ticks = h.ticks; within = h.within; begun = h.begun; printed = h.printed;
-    ends = h.ends; free = h.free; marked = h.marked; named = names_take n st.vars ∙ ap (λ ns. take n ns) h.named ∙ is; no_tables = h.no_tables; low = h.low; room = h.room;
-    vars = held_take stack z 0 n st.vars h.vars; keeps = h.keeps;
+    size = h.size;
+    base = h.base;
+    limit = h.limit;
+    ticks = h.ticks;
+    within = h.within;
+    begun = h.begun;
+    printed = h.printed;
+    ends = h.ends;
+    free = h.free;
+    marked = h.marked;
+    named = names_take n st.vars ∙ ap (λ ns. take n ns) h.named ∙ is;
+    no_tables = h.no_tables;
+    low = h.low;
+    room = h.room;
+    vars = held_take stack z 0 n st.vars h.vars;
+    keeps = h.keeps;
   }

@@ -39,8 +39,10 @@ module _ (code : Listing) (heartbeat z most fuel : ℕ) (S : Scene code heartbea
     where
       later : meaning.State
       later = record st { ticks = ticked fuel st.ticks }
+
       ran : Bool → Ran
       ran b = cond b (done later) (out_of_fuel later)
+
       by_test : (b : Bool) → is_tick_allowed fuel st.ticks ≡ b → (S.owing i (then (result (after (ran b) g)) k)).Holds state
       by_test true is =
           let below : st.ticks < fuel = grind (arith, nat_tests) in
@@ -57,20 +59,57 @@ module _ (code : Listing) (heartbeat z : ℕ) where
   -- a scene with at least so many ticks
   abbrev pub later_in : Scene code heartbeat z → ℕ → Scene code heartbeat z
   later_in S n = record {
-    World = S.World; owing = S.owing; marks = S.marks; goal = S.goal; before = S.before; since = λ i. max (S.since i) n;
-    kept = S.kept; lowest = S.lowest; may = S.may; stable = S.stable; stops = S.stops;
+    World = S.World;
+    owing = S.owing;
+    marks = S.marks;
+    goal = S.goal;
+    before = S.before;
+    since = λ i. max (S.since i) n;
+    kept = S.kept;
+    lowest = S.lowest;
+    may = S.may;
+    stable = S.stable;
+    stops = S.stops;
   }
 
   pub shows_later : (most fuel : ℕ) (S : Scene code heartbeat z) (i : S.World) (names : List (List ℕ)) (st : meaning.State) (state : machine.State) (n : ℕ) → n ≤ st.ticks → ShowsIn code heartbeat z most fuel S i names st state → ShowsIn code heartbeat z most fuel (later_in S n) i names st state
   shows_later most fuel S i names st state n by h = record {
-    size = h.size; base = h.base; limit = h.limit; ticks = h.ticks; within = h.within; begun = omega (arith, h.begun); printed = h.printed;
-    ends = h.ends; free = h.free; marked = h.marked; named = h.named; no_tables = h.no_tables; low = h.low; room = h.room; vars = h.vars; keeps = h.keeps;
+    size = h.size;
+    base = h.base;
+    limit = h.limit;
+    ticks = h.ticks;
+    within = h.within;
+    begun = omega (arith, h.begun);
+    printed = h.printed;
+    ends = h.ends;
+    free = h.free;
+    marked = h.marked;
+    named = h.named;
+    no_tables = h.no_tables;
+    low = h.low;
+    room = h.room;
+    vars = h.vars;
+    keeps = h.keeps;
   }
 
   pub shows_whole : (most fuel : ℕ) (S : Scene code heartbeat z) (i : S.World) (names : List (List ℕ)) (st : meaning.State) (state : machine.State) (n : ℕ) → ShowsIn code heartbeat z most fuel (later_in S n) i names st state → ShowsIn code heartbeat z most fuel S i names st state
   shows_whole most fuel S i names st state n h = record {
-    size = h.size; base = h.base; limit = h.limit; ticks = h.ticks; within = h.within; begun = omega (arith, h.begun); printed = h.printed;
-    ends = h.ends; free = h.free; marked = h.marked; named = h.named; no_tables = h.no_tables; low = h.low; room = h.room; vars = h.vars; keeps = h.keeps;
+    size = h.size;
+    base = h.base;
+    limit = h.limit;
+    ticks = h.ticks;
+    within = h.within;
+    begun = omega (arith, h.begun);
+    printed = h.printed;
+    ends = h.ends;
+    free = h.free;
+    marked = h.marked;
+    named = h.named;
+    no_tables = h.no_tables;
+    low = h.low;
+    room = h.room;
+    vars = h.vars;
+    keeps = h.keeps;
   }
 
 module _ (code : Listing) (heartbeat z most : ℕ) (set : Setting) (expr_law : ExprLaw code heartbeat) (S : Scene code heartbeat z) (names inner : List (List ℕ)) (first : take (length names) inner ≡ names) (k : meaning.State → Result)
@@ -98,6 +137,7 @@ module _ (code : Listing) (heartbeat z most : ℕ) (set : Setting) (expr_law : E
     where
       follows : meaning.State → Result
       follows s = then (result (turning n s)) k
+
       -- one turn, and what follows it
       a_turn : ((j : S.World) (u : meaning.State) (task : machine.State) → ShowsIn code heartbeat z most set.fuel S j names u task → Remains code task.block task.at test (to exit) → set.fuel + 1 ≤ n + u.ticks → (S.owing j (follows u)).Holds task)
           → (task : machine.State) → ShowsIn code heartbeat z most set.fuel S i names st task → task.block ≡ again → task.at ≡ 0 → (S.owing i (then (result (after (after (tick set.fuel st) (block (run_list set body))) (turning n))) k)).Holds task

@@ -129,12 +129,16 @@ module _ (code : Listing) (heartbeat z most fuel : ℕ) (expr_law : ExprLaw code
     where
       notes : List Note
       notes = (eval st.vars st.tables e).notes
+
       none : notes ≡ []
       none = quiet c.scope st.vars st.tables (λ t has. no_table c.scope.tables.items t c.sees.listed has) e c.inside
+
       held : Holds c.scope st.vars st.tables notes state
       held = subst (λ (ns : List Note). Holds c.scope st.vars st.tables ns state) (sym none) (holds c.scope c.sees)
+
       stands_so : Remains code state.block state.at (body_of c.scope c.first e r ++ more) end
       stands_so = regrouped code state.block state.at instrs (body_of c.scope c.first e r ++ more) end c.body stands
+
       by_answer : (a : Answer) → (eval st.vars st.tables e).answer ≡ a → (S.owing i (then (result (given_answer a notes st f)) k)).Holds state
       by_answer (Number n) is =
           let K : Back code heartbeat = S.owing i (then (result (f n)) k) in

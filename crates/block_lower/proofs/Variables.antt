@@ -71,6 +71,7 @@ held_lookup s z (c ∷ cs) level (u ∷ us) x laid names has h =
   where
     same : c.0.items ≡ u.name
     same = cc
+
     go : (has_cell_in cs x ≡ true → word_at s (pos (z + cell_in cs x)) ≡ Some (Int (lookup us x))) → (b : Bool) → bytes_eq c.0.items x ≡ b → word_at s (pos (z + cell_in (c ∷ cs) x)) ≡ Some (Int (lookup (u ∷ us) x))
     go behind true e =
         let f : bytes_eq u.name x ≡ true = rw same at e in
@@ -91,6 +92,7 @@ held_assign s t z (c ∷ cs) level (u ∷ us) x n laid names has fits is same h 
   where
     alike : c.0.items ≡ u.name
     alike = cc
+
     go : (has_cell_in cs x ≡ true → word_at t (pos (z + cell_in cs x)) ≡ Some (Int n) → ((a : ℕ) → a ≢ z + cell_in cs x → word_at t (pos a) ≡ word_at s (pos a)) → AreHeld t z (suc level) (assign us x n))
         → (b : Bool) → bytes_eq c.0.items x ≡ b → AreHeld t z level (assign (u ∷ us) x n)
     go behind true e =
@@ -103,8 +105,9 @@ held_assign s t z (c ∷ cs) level (u ∷ us) x n laid names has fits is same h 
         let cell : cell_in (c ∷ cs) x ≡ cell_in cs x = rw e refl in
         let above : value_cell (suc level) ≤ cell_in cs x = cell_from cs (suc level) x laid.1 rest in
         rw f (
-            same (z + value_cell level) (λ (q : z + value_cell level ≡ z + cell_in (c ∷ cs) x). absurd (omega (arith, q, cell, above))) ∙ h.0, h.1,
-            behind rest (rw cell at is) (λ a ne. same a (λ (q : a ≡ z + cell_in (c ∷ cs) x). ne (omega (arith, q, cell)))),
+          same (z + value_cell level) (λ (q : z + value_cell level ≡ z + cell_in (c ∷ cs) x). absurd (omega (arith, q, cell, above))) ∙ h.0,
+          h.1,
+          behind rest (rw cell at is) (λ a ne. same a (λ (q : a ≡ z + cell_in (c ∷ cs) x). ne (omega (arith, q, cell)))),
         )
 
 pub names_declare : (vs : List Variable) (x : List ℕ) (n : ℤ) → var_names (declare vs x n) ≡ var_names vs ++ x ∷ []

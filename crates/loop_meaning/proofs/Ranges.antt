@@ -405,8 +405,10 @@ holds_large false p f q = q refl
 
 -- a run on one table more
 holds_added : (t : Table) (f : State → Ran) → TableInRange t → Holds f → Holds (λ s. f (add_table t s))
-holds_added t f h p = record { leaves = λ s k. p.leaves (add_table t s)
-    (record { vars = k.vars; tables = All-append TableInRange s.tables (t ∷ []) k.tables (All-cons TableInRange t [] h (All-nil TableInRange)) }) }
+holds_added t f h p = record {
+  leaves = λ s k. p.leaves (add_table t s)
+      (record { vars = k.vars; tables = All-append TableInRange s.tables (t ∷ []) k.tables (All-cons TableInRange t [] h (All-nil TableInRange)) });
+}
 
 holds_tables : (ts : List Table) → All TableInRange ts → (c : ℕ) (ds : List TableDecl) → All DeclInRange ds → Holds (make_tables ts c ds)
 holds_tables ts h c [] l = holds_done
