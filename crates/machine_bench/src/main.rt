@@ -18,8 +18,6 @@ use tpal_syntax::{Alu, Block, Code, CodeTable, Instr, Note, Term, Value};
 
 const SIDE: u32 = 1000;
 
-const CELLS: usize = 1_000_000;
-
 const FIB: i64 = 24;
 
 const PACE: Pace = Pace {
@@ -188,15 +186,33 @@ fn ended(task: Task, code: &Code) -> Option<(u64, Outcome)>
     }
 }
 
-/// The sum of the squares of a table of so many sevens.
+/// The owned table of so many rows and columns, of sevens.
+fn sevens(alloc: Global, rows: u32, cols: u32) -> Result<Held, NoMemory> {
+    let cells = Vec::from_elem(alloc, 7, rows as usize * cols as usize)?;
+    Ok(Held::whole(rows, cols, cells))
+}
+
+/// What a code prints that ends in one turn, and its steps.
+fn run_code(
+    alloc: Global,
+    code: &Code,
+    tables: Vec<Held>,
+) -> Result<Option<(u64, Outcome)>, NoMemory> {
+    if tables.len() != code.tables().len() {
+        return Ok(None);
+    }
+    let task = Task::first(alloc, code, tables, 0)?;
+    Ok(ended(task, code))
+}
+
+/// The sum of the squares of a table of sevens.
 fn sum(alloc: Global) -> Result<Option<(u64, Outcome)>, NoMemory> {
     match sum_code(alloc)? {
         None => Ok(None),
         Some(code) => {
             let mut tables = Vec::new(alloc);
-            tables.push(Held::whole(SIDE, SIDE, Vec::from_elem(alloc, 7, CELLS)?))?;
-            let task = Task::first(alloc, &code, tables, 0)?;
-            Ok(ended(task, &code))
+            tables.push(sevens(alloc, SIDE, SIDE)?)?;
+            run_code(alloc, &code, tables)
         }
     }
 }
@@ -204,10 +220,7 @@ fn sum(alloc: Global) -> Result<Option<(u64, Outcome)>, NoMemory> {
 fn fib(alloc: Global) -> Result<Option<(u64, Outcome)>, NoMemory> {
     match fib_code(alloc)? {
         None => Ok(None),
-        Some(code) => {
-            let task = Task::first(alloc, &code, Vec::new(alloc), 0)?;
-            Ok(ended(task, &code))
-        }
+        Some(code) => run_code(alloc, &code, Vec::new(alloc)),
     }
 }
 
