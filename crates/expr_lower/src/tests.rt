@@ -484,7 +484,7 @@ fn tests_and_traps_of_ones_own(rt: HostRuntime) -> Result<(), Fail> {
     let mut traps = Vec::new(g);
     push_trap(g, &mut traps, 80, TrapKind::Deep, at(6, 1))?;
     assert_eq!(rt; traps.len(), 1);
-    assert_eq!(rt; traps[0].body.len(), 1);
+    assert_eq!(rt; traps[0].body.items().len(), 1);
     assert_eq!(rt; name_of(g, 65535)?.as_slice(), b"b65535".as_slice());
     Ok(())
 }
