@@ -4,11 +4,10 @@ use Rattle.std.specs.Prelude.{ℤ, pos, ◌&&◌, int_lt, int_le, slice_set, nat
 use Rattle.std.specs.Int.{int_min}
 use Rattle.beat_count.specs.BeatState.{BeatState}
 use Rattle.beat_count.specs.Heartbeat.{counted}
-use Rattle.slices.specs.Holding.{Holding, cell_at}
+use Rattle.slices.specs.Holding.{cell_at}
 use Rattle.tp_value.specs.Number.{truth}
 use Rattle.tp_value.specs.declared.Place.{Place}
 use Rattle.tp_value.specs.declared.Table.{Table}
-use Rattle.tp_value.specs.declared.TrapKind.{TrapKind}
 use Rattle.tp_value.specs.declared.TrapKind.TheVariants.{Index}
 use Rattle.loop_syntax.specs.declared.Name.{Name}
 use Rattle.loop_meaning.specs.declared.value.Answer.{Answer}
@@ -36,7 +35,7 @@ use Rattle.tpal_machine.proofs.Kit.{Back, IsNext}
 use Rattle.tpal_machine.proofs.Steps.{step_of_instr}
 use Rattle.expr_lower.specs.declared.scope.Scope.{Scope}
 use Rattle.expr_lower.specs.Bodies.{trap_block, below_test, row_test, col_test, range_tests, cell_read}
-use Rattle.expr_lower.specs.Holding.{Holds, IsHeld}
+use Rattle.expr_lower.specs.Holding.{Holds}
 use Rattle.expr_lower.specs.Leaving.{Keeps, moved, moved_to}
 use Rattle.expr_lower.specs.Scopes.{HasTable, table_number}
 use Rattle.expr_lower.specs.Standing.{Remains}

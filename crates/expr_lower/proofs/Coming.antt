@@ -1,5 +1,5 @@
 -- What a task comes to at the blocks of an expression.
-use Rattle.std.proofs.Common.{◌≡◌, ℕ, suc, ◌+◌, ◌≤◌, Bool, false, List, [], ◌∷◌, ◌++◌, Some, None, length, drop, refl, ap, sym, subst, ◌∙◌, arith, append-nil}
+use Rattle.std.proofs.Common.{◌≡◌, ℕ, suc, ◌+◌, ◌≤◌, Bool, false, List, [], ◌++◌, None, length, drop, refl, ap, sym, subst, ◌∙◌, arith, append-nil}
 use Rattle.std.specs.Prelude.{ℤ}
 use Rattle.beat_count.specs.BeatState.{BeatState}
 use Rattle.tp_value.specs.declared.Place.{Place}
@@ -13,9 +13,7 @@ use Rattle.loop_meaning.specs.declared.value.Answer.TheVariants.{Number, Traps}
 use Rattle.loop_meaning.specs.declared.value.Variable.{Variable}
 use Rattle.loop_meaning.specs.Expressions.{eval}
 use Rattle.tpal_syntax.specs.declared.blocks.Block.{Block}
-use Rattle.tpal_syntax.specs.declared.instructions.Instr.{Instr}
 use Rattle.tpal_syntax.specs.declared.instructions.Instr.TheVariants as instr
-use Rattle.tpal_syntax.specs.declared.instructions.Term.{Term}
 use Rattle.tpal_syntax.specs.declared.instructions.Term.TheVariants as term
 use Rattle.tpal_syntax.specs.declared.instructions.Value.TheVariants as value
 use Rattle.tpal_syntax.specs.declared.notes.Note.TheVariants as note
@@ -34,7 +32,7 @@ use Rattle.tpal_machine.proofs.Steps.{step_of_instr, step_of_term}
 use Rattle.expr_lower.specs.declared.scope.Scope.{Scope}
 use Rattle.expr_lower.specs.Bodies.{name_of, trap_count, traps_of, body_of, blocks_of}
 use Rattle.expr_lower.specs.Holding.{Holds}
-use Rattle.expr_lower.specs.Leaving.{Keeps, moved, moved_to, Leaves, ComesToTrap, ComesTo}
+use Rattle.expr_lower.specs.Leaving.{Keeps, moved, moved_to, ComesTo}
 use Rattle.expr_lower.specs.Scopes.{IsIn}
 use Rattle.expr_lower.specs.Standing.{Remains, AreAt}
 use Rattle.expr_lower.proofs.Evaluating.{After}

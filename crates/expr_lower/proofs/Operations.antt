@@ -34,11 +34,11 @@ use Rattle.tpal_machine.specs.Reading.{register, operand, block_at}
 use Rattle.tpal_machine.specs.State.{State}
 use Rattle.tpal_machine.proofs.Kit.{Back, on_move}
 use Rattle.expr_lower.specs.declared.scope.Scope.{Scope}
-use Rattle.expr_lower.specs.Bodies.{trap_block, can_trap, may_be_zero, calculation, turned, tested_division, division, operation}
+use Rattle.expr_lower.specs.Bodies.{trap_block, can_trap, may_be_zero, calculation, turned, division, operation}
 use Rattle.expr_lower.specs.Holding.{Holds}
 use Rattle.expr_lower.specs.Leaving.{Keeps, moved}
 use Rattle.expr_lower.specs.Standing.{Remains, AreAt}
-use Rattle.expr_lower.proofs.Evaluating.{After, after_moved, calculates, tests, Evaluates, EvaluatesOn, EvaluatesOnBoth, with_second, holds_moved, holds_front, holds_back}
+use Rattle.expr_lower.proofs.Evaluating.{After, after_moved, calculates, tests, Evaluates, EvaluatesOn, with_second, holds_moved, holds_front, holds_back}
 use Rattle.expr_lower.proofs.Registers.{register_set, kept_set, kept_counted, kept_twice, kept_wider}
 use Rattle.expr_lower.proofs.Standing.{next, behind, split}
 

@@ -5,7 +5,6 @@ use Rattle.tpal_syntax.specs.declared.blocks.Block.{Block}
 use Rattle.tpal_syntax.specs.declared.instructions.Instr.{Instr}
 use Rattle.tpal_syntax.specs.declared.instructions.Term.{Term}
 use Rattle.tpal_syntax.specs.Listing.{Listing}
-use Rattle.tpal_machine.specs.Reading.{block_at}
 use Rattle.tpal_machine.specs.State.{State}
 use Rattle.tpal_machine.proofs.Kit.{IsNext, IsAtEnd}
 use Rattle.expr_lower.specs.Standing.{Remains, AreAt}

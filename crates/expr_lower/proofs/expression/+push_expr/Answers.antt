@@ -1,4 +1,4 @@
-use Rattle.std.proofs.Common.{◌≡◌, ℕ, suc, ◌≤◌, ◌+◌, ◌++◌, ◌∷◌, [], List, length, max, cond, arith, refl, ap, sym, ◌∙◌, append_assoc}
+use Rattle.std.proofs.Common.{◌≡◌, ℕ, suc, ◌+◌, ◌++◌, ◌∷◌, [], List, length, max, cond, arith, ap, sym, ◌∙◌, append_assoc}
 use Rattle.std.proofs.Math.Nat.{le-max_left}
 use Rattle.tp_value.specs.declared.TrapKind.TheVariants.{Divide}
 use Rattle.loop_syntax.specs.declared.Expr.{Expr}

@@ -1,4 +1,4 @@
-use Rattle.std.proofs.Common.{◌≡◌, ◌+◌, ◌<◌, arith}
+use Rattle.std.proofs.Common.{arith}
 use Rattle.expr_lower.proofs.Counting.{few_traps}
 use Rattle.expr_lower.proofs.expression.blocks_of.Goals as goal
 

@@ -5,7 +5,6 @@ use Rattle.loop_meaning.specs.Expressions.{eval}
 use Rattle.tpal_syntax.specs.declared.blocks.Block.{Block}
 use Rattle.tpal_syntax.specs.Listing.{Listing}
 use Rattle.tpal_machine.specs.State.{State}
-use Rattle.expr_lower.specs.Bodies.{blocks_of}
 use Rattle.expr_lower.specs.Holding.{Holds}
 use Rattle.expr_lower.specs.Leaving.{ComesTo}
 use Rattle.expr_lower.specs.Scopes.{IsIn}

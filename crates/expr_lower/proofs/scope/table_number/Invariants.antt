@@ -1,4 +1,4 @@
-use Rattle.std.proofs.Common.{◌≡◌, ◌+◌, ◌≤◌, drop}
+use Rattle.std.proofs.Common.{◌≡◌, ◌+◌, drop}
 use Rattle.expr_lower.specs.Scopes.{number_in}
 use Rattle.expr_lower.proofs.scope.table_number.Given as goal
 
