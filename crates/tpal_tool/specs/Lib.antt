@@ -21,3 +21,5 @@ pub mod Verdict
 pub mod Owed
 -- what the reader answers
 pub mod Reading
+-- the numbers of statuses
+pub mod Statuses

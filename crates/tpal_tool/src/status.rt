@@ -2,6 +2,7 @@
 
 ghost use Rattle.std.specs.Prelude.{◌≡◌};
 ghost use Rattle.loop_meaning.specs.Answers.{by_stop};
+ghost use Rattle.tpal_tool.specs.Statuses.{number_of};
 
 use tp_value::Stop;
 
@@ -28,8 +29,19 @@ pub enum Status {
 
 impl Status {
     /// The number of the status, from 0 to 7.
-    pub fn number(self) -> u8 {
-        self as u8
+    pub fn number(self) -> u8
+        ensures { result ≡ number_of self }
+    {
+        match self {
+            Status::Done => 0,
+            Status::Trap => 1,
+            Status::OutOfFuel => 2,
+            Status::Refused => 3,
+            Status::NoMemory => 4,
+            Status::ReadFault => 5,
+            Status::WriteFault => 6,
+            Status::BadWords => 7,
+        }
     }
 }
 
