@@ -2,7 +2,7 @@
 use Rattle.std.specs.Prelude.{◌≡◌, ℕ, suc, ⊤, List, [], ◌∷◌, ◌++◌, map, Vec}
 use Rattle.std.specs.declared.alloc.Global.{Global}
 use Rattle.loop_syntax.specs.declared.Stmt.{Stmt}
-use Rattle.loop_syntax.specs.declared.Stmt.TheVariants.{Let}
+use Rattle.loop_syntax.specs.declared.Stmt.TheVariants.{Let, Set, Put, If', While', Loop', Par', Fold, Call, Both, Print, Emit}
 use Rattle.expr_lower.specs.declared.scope.Scope.{Scope}
 use Rattle.block_lower.specs.Layout.{value_cell}
 
@@ -20,7 +20,17 @@ pub record Sees (scope : Scope) (names tables : List (List ℕ)) : Type 0 where
 -- the variables that are visible after a statement
 abbrev pub names_after : List (List ℕ) → Stmt → List (List ℕ)
 names_after names (Let x e) = names ++ x.text.items ∷ []
-names_after names _ = names
+names_after names (Set x e) = names
+names_after names (Put t a b e) = names
+names_after names (If' e p body q other) = names
+names_after names (While' e p body) = names
+names_after names (Loop' x a b p body) = names
+names_after names (Par' place x a b carry_place carries reduces p body) = names
+names_after names (Fold x e) = names
+names_after names (Call x f) = names
+names_after names (Both x f y g) = names
+names_after names (Print place e) = names
+names_after names (Emit place t) = names
 
 abbrev pub names_after_list : List (List ℕ) → List Stmt → List (List ℕ)
 names_after_list names [] = names
