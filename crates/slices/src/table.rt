@@ -229,10 +229,11 @@ impl Held {
 fn position(rows: u32, cols: u32, row: i64, col: i64) -> Option<usize>
     ensures { MatchOption result ((value : ℕ → Option ℤ) → at_place rows cols value row col ≡ None) (StandsAt rows cols row col) }
 {
-    if row < 0 || row >= i64::from(rows) || col < 0 || col >= i64::from(cols) {
+    // A number below 0 wraps to one above each size.
+    if row.cast_unsigned() >= u64::from(rows) || col.cast_unsigned() >= u64::from(cols) {
         return None;
     }
-    Some(row as usize * cols as usize + col as usize)
+    Some(row.cast_unsigned() as usize * cols as usize + col.cast_unsigned() as usize)
 }
 
 /// The number, or the nearest from 0 to `limit`.
