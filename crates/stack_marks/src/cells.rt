@@ -56,6 +56,26 @@ impl Stack {
         ensures cause { IfErr result (λ fault. PushCause fault self.old cells) }
         ensures err { OnErr result (self.new ≡ self.old) }
     {
+        let height = self.cells.len() + cells as usize;
+        if self.base + height as u64 > MAX_STACK_POSITION
+            || self.marks.capacity() < height
+            || self.cells.capacity() < height
+        {
+            return self.push_growing(cells);
+        }
+        self.cells.resize(height, Word::Nil)?;
+        Ok(())
+    }
+
+    /// The same where there may be no room yet. It stands apart, so that the call that finds room is
+    /// short.
+    #[inline(never)]
+    fn push_growing(&mut self, cells: u32) -> Result<(), StackFault>
+        ensures pushed { OnOk result (self.new ≡ pushed self.old cells) }
+        ensures room { OnOk result (HasRoom self.old cells) }
+        ensures cause { IfErr result (λ fault. PushCause fault self.old cells) }
+        ensures err { OnErr result (self.new ≡ self.old) }
+    {
         let len = self.cells.len() + cells as usize;
         if self.base + len as u64 > MAX_STACK_POSITION {
             return Err(StackFault::TooLong);
@@ -116,14 +136,12 @@ impl Stack {
 
 /// How many cells lie below a position, where it is one of `len` from `base` on.
 pub(crate) fn index_of(base: u64, len: usize, at: i64) -> Option<usize>
-    requires { base ≤ 2 ^ 62 }
+    requires base { base ≤ 2 ^ 62 }
+    requires len { len ≤ 2 ^ 62 }
     ensures { IsIndex base len at result }
 {
-    let base = base as i64;
-    if at < base {
-        return None;
-    }
-    let index = (at - base) as usize;
+    // A position below the base wraps to an index above each length.
+    let index = at.cast_unsigned().wrapping_sub(base) as usize;
     if index < len { Some(index) } else { None }
 }
 
