@@ -271,7 +271,7 @@ pub(crate) fn finish(frame: &mut Frame, code: &Code, pace: Pace, term: Term) -> 
 }
 
 /// The instruction at a position of a block, where there is one.
-fn instr_at(block: &Block, at: usize) -> Option<&Instr>
+pub(crate) fn instr_at(block: &Block, at: usize) -> Option<&Instr>
     ensures found { MatchOption result (slice_get block.now.body at ≡ None) (λ instr. slice_get block.now.body at ≡ Some instr.now) }
     ensures inside { IfSome result (λ _. at < 2 ^ 63) }
 {

@@ -15,6 +15,7 @@ mod faults;
 mod flow;
 mod fork;
 mod joining;
+mod jumps;
 pub mod laws;
 mod making;
 mod moves;

@@ -1,11 +1,13 @@
 // Instructions on the stack and its marks.
 
-ghost use Rattle.std.specs.Prelude.{◌≡◌, ◌<◌, ◌≤ℤ◌, ◌^◌, OnErr, pos, ℤ};
+ghost use Rattle.std.specs.Prelude.{◌≡◌, ◌<◌, ◌+ℤ◌, ◌≤ℤ◌, ◌^◌, IsSome, OnErr, pos, ℤ};
+ghost use Rattle.std.specs.Bool.{OnTrue, OnFalse};
 ghost use Rattle.stack_marks.specs.Causes.{UnmarkCause};
+ghost use Rattle.stack_marks.specs.Stacks.{word_at};
 ghost use Rattle.tpal_machine.specs.Answer.{Gives, GivesOr};
 ghost use Rattle.tpal_machine.specs.Effect as effect;
 ghost use Rattle.tpal_machine.specs.Fit.{IsOperand, stack_fault};
-ghost use Rattle.tpal_machine.specs.Passing.{Does, DoesOr, Stays};
+ghost use Rattle.tpal_machine.specs.Passing.{Did, Does, DoesOr, Stays};
 ghost use Rattle.tpal_machine.specs.Seen.{state_of, Keeps, AreLow};
 ghost use Rattle.tpal_machine.specs.State.{State};
 
@@ -13,8 +15,18 @@ use crate::faults::Fault;
 use crate::flow::Trouble;
 use crate::task::Frame;
 use crate::words::{number_of, value_of};
-use stack_marks::{Mark, StackFault, in_order};
+use stack_marks::{Mark, Stack, StackFault, in_order};
 use tpal_syntax::{Value, Word};
+
+/// The position so many cells above another, in a stack. A sum above all numbers wraps to one below
+/// 0, where no stack has a cell either.
+fn above(stack: &Stack, from: i64, off: u16) -> i64
+    ensures cell { word_at stack.now result ≡ word_at stack.now (from +ℤ pos off) }
+    ensures place { IsSome (word_at stack.now result) → result ≡ from +ℤ pos off }
+{
+    in_order(stack);
+    from.wrapping_add(i64::from(off))
+}
 
 /// `rA := mem[rB+n]`.
 #[tactic(auto, using(crate::proofs::Numbers::on_number_none, crate::proofs::Stacks::beyond_the_top))]
@@ -28,16 +40,12 @@ pub(crate) fn load(frame: &mut Frame, to: u8, base: u8, off: u16) -> Result<(), 
     ensures kept { Keeps frame.old frame.new }
 {
     let from = number_of(frame.registers[base as usize])?;
-    in_order(&frame.stack);
-    match from.checked_add(i64::from(off)) {
-        None => Err(Fault::OutOfRange),
-        Some(at) => match frame.stack.get(at) {
-            Ok(word) => {
-                frame.registers[to as usize] = word;
-                Ok(())
-            }
-            Err(_) => Err(Fault::OutOfRange),
-        },
+    match frame.stack.get(above(&frame.stack, from, off)) {
+        Ok(word) => {
+            frame.registers[to as usize] = word;
+            Ok(())
+        }
+        Err(_) => Err(Fault::OutOfRange),
     }
 }
 
@@ -54,13 +62,10 @@ pub(crate) fn store(frame: &mut Frame, base: u8, off: u16, value: Value) -> Resu
 {
     let from = number_of(frame.registers[base as usize])?;
     let word = value_of(&frame.registers, value);
-    in_order(&frame.stack);
-    match from.checked_add(i64::from(off)) {
-        None => Err(Fault::OutOfRange),
-        Some(at) => match frame.stack.set(at, word) {
-            Ok(()) => Ok(()),
-            Err(_) => Err(Fault::OutOfRange),
-        },
+    let at = above(&frame.stack, from, off);
+    match frame.stack.set(at, word) {
+        Ok(()) => Ok(()),
+        Err(_) => Err(Fault::OutOfRange),
     }
 }
 
@@ -83,6 +88,16 @@ pub(crate) fn salloc(frame: &mut Frame, cells: u16) -> Result<(), Trouble>
             | StackFault::NoMemory,
         ) => Err(Trouble::NoMemory),
     }
+}
+
+/// `salloc n`. Where it answers false nothing has changed.
+pub(crate) fn grow(frame: &mut Frame, cells: u16) -> bool
+    ensures done { OnTrue result (Did (effect.salloc cells) frame.old frame.new) }
+    ensures same { OnFalse result (frame.new ≡ frame.old) }
+    ensures stays { Stays frame.old frame.new }
+    ensures kept { Keeps frame.old frame.new }
+{
+    frame.stack.push(u32::from(cells)).is_ok()
 }
 
 /// Why a call of the stack that takes no memory is refused.

@@ -36,18 +36,6 @@ pub(crate) fn number_in(registers: &[Word; 32], r: u8) -> Option<i64>
     }
 }
 
-/// The number that an operand is, where it is one.
-pub(crate) fn number_at(registers: &[Word; 32], value: &Value) -> Option<i64>
-    requires { IsOperand value.now }
-    ensures { IfSome result (λ n. operand registers.now value.now ≡ words.Int n) }
-{
-    match value {
-        Value::Reg(r) => number_in(registers, *r),
-        Value::Int(number) => Some(*number),
-        Value::Label(_) | Value::Nil => None,
-    }
-}
-
 /// The number that a calculation on two numbers gives; none where it divides by 0.
 pub(crate) fn result_of(alu: Alu, left: i64, right: i64) -> Option<i64>
     ensures { MatchOption result (calculated alu (words.Int left) (words.Int right) ≡ Err Fault.DivZero) (λ n. calculated alu (words.Int left) (words.Int right) ≡ Ok (words.Int n)) }
