@@ -8,11 +8,14 @@ mod cells;
 mod expression;
 mod operators;
 mod scope;
+mod sizes;
 mod traps;
 
 pub use cells::push_range_tests;
 pub use expression::{Site, lower_expr, push_expr};
-pub use scope::Scope;
+pub use operators::literal;
+pub use scope::{Scope, offset_of, table_number};
+pub use sizes::trap_count;
 pub use traps::{name_of, push_trap};
 
 #[cfg(test)]

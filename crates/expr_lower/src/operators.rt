@@ -1,6 +1,7 @@
 // The instructions of an operator, behind those of its left operand.
 
-ghost use Rattle.std.specs.Prelude.{◌≡◌, ◌≤◌, ◌+◌, ◌++◌, ◌∷◌, [], OnOk};
+ghost use Rattle.std.specs.Prelude.{◌≡◌, ◌≤◌, ◌+◌, ◌++◌, ◌∷◌, [], OnOk, IfSome};
+ghost use Rattle.loop_meaning.specs.InRange.{InRange};
 ghost use Rattle.expr_lower.specs.Bodies.{literal, may_be_zero, can_trap, calculation, turned, tested_division, division, operation};
 
 use loop_syntax::{BinOp, Expr};
@@ -9,7 +10,8 @@ use tpal_syntax::{Alu, Instr, Value};
 
 /// The number that an expression is, where it is a literal.
 pub fn literal(expr: &Expr) -> Option<i64>
-    ensures { result ≡ literal expr.now }
+    ensures number { result ≡ literal expr.now }
+    ensures in_range { IfSome result (λ number. InRange number) }
 {
     match expr {
         Expr::Int(number, _) => Some(*number),

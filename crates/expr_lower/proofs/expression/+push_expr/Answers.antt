@@ -38,7 +38,7 @@ returns-in_ok-push_operator-in-Bin-clause-body t c =
     c.in_ok-push_operator-in-Bin.ensures.body
     ∙ ap (λ (xs : List Instr). xs ++ operation c.in-Bin.op to c.deref-in-Bin-3.result.now c.literal.result (c.args.at.first + length c.push_expr-in-Bin-2.new.traps.items)) left
     ∙ ap (λ (xs : List Instr). (c.args.body.now.items ++ body_of scope start a to) ++ operation c.in-Bin.op to xs c.literal.result (c.args.at.first + length c.push_expr-in-Bin-2.new.traps.items)) (c.deref-in-Bin-3.ensures.value ∙ right)
-    ∙ ap (λ n. (c.args.body.now.items ++ body_of scope start a to) ++ operation c.in-Bin.op to (body_of scope (start + trap_count a) b (to + 1)) n (c.args.at.first + length c.push_expr-in-Bin-2.new.traps.items)) (c.literal.ensures ∙ ap literal c.deref-in-Bin-4.ensures)
+    ∙ ap (λ n. (c.args.body.now.items ++ body_of scope start a to) ++ operation c.in-Bin.op to (body_of scope (start + trap_count a) b (to + 1)) n (c.args.at.first + length c.push_expr-in-Bin-2.new.traps.items)) (c.literal.ensures.number ∙ ap literal c.deref-in-Bin-4.ensures)
     ∙ ap (λ (n : ℕ). (c.args.body.now.items ++ body_of scope start a to) ++ operation c.in-Bin.op to (body_of scope (start + trap_count a) b (to + 1)) (literal b) n) last
     ∙ append_assoc c.args.body.now.items (body_of scope start a to) own
     ∙ ap (λ (e : Expr). c.args.body.now.items ++ body_of scope start e to) (sym c.in-Bin.is)
@@ -63,7 +63,7 @@ returns-in_ok-push_operator-in-Bin-clause-traps t c =
     let own : ℕ → List Block = λ n. cond (can_trap c.in-Bin.op (literal b)) (trap_block n Divide c.in-Bin.place ∷ []) [] in
     c.in_ok-push_operator-in-Bin.ensures.traps
     ∙ ap (λ (xs : List Block). xs ++ cond (can_trap c.in-Bin.op c.literal.result) (trap_block (c.args.at.first + length c.push_expr-in-Bin-2.new.traps.items) Divide c.in-Bin.place ∷ []) []) right
-    ∙ ap (λ n. ((c.args.traps.now.items ++ traps_of start a) ++ traps_of (start + trap_count a) b) ++ cond (can_trap c.in-Bin.op n) (trap_block (c.args.at.first + length c.push_expr-in-Bin-2.new.traps.items) Divide c.in-Bin.place ∷ []) []) (c.literal.ensures ∙ ap literal c.deref-in-Bin-4.ensures)
+    ∙ ap (λ n. ((c.args.traps.now.items ++ traps_of start a) ++ traps_of (start + trap_count a) b) ++ cond (can_trap c.in-Bin.op n) (trap_block (c.args.at.first + length c.push_expr-in-Bin-2.new.traps.items) Divide c.in-Bin.place ∷ []) []) (c.literal.ensures.number ∙ ap literal c.deref-in-Bin-4.ensures)
     ∙ ap (λ (n : ℕ). ((c.args.traps.now.items ++ traps_of start a) ++ traps_of (start + trap_count a) b) ++ own n) last
     ∙ append_assoc (c.args.traps.now.items ++ traps_of start a) (traps_of (start + trap_count a) b) (own (start + trap_count a + trap_count b))
     ∙ append_assoc c.args.traps.now.items (traps_of start a) (traps_of (start + trap_count a) b ++ own (start + trap_count a + trap_count b))
