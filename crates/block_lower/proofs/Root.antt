@@ -1,7 +1,9 @@
--- The first task of a code that is the code of main owes the meaning where nothing is diverted.
-use Rattle.std.proofs.Common.{◌≡◌, ℕ, ◌+◌, ◌≤◌, false, List, [], ◌∷◌, length, refl, sym, ap, subst, ◌∙◌, arith}
+-- The first task of a code that is the code of a program owes the meaning where nothing is diverted.
+use Rattle.std.proofs.Common.{◌≡◌, ℕ, suc, ◌+◌, ◌<◌, false, List, [], ◌∷◌, length, map, refl, sym, ap, subst, ◌∙◌, arith}
 use Rattle.std.specs.Prelude.{pos, ⊤}
 use Rattle.std.proofs.lemmas.List.{length-replicate}
+use Rattle.std.proofs.lemmas.List.Elements.{All-nil}
+use Rattle.slices.specs.Holding.{Holding}
 use Rattle.stack_marks.specs.Stacks.{StackValue, with_word, pushed}
 use Rattle.tp_value.specs.declared.limits.TheConstants.{MAX_CALL_DEPTH}
 use Rattle.tp_value.specs.declared.Outcome.{Outcome}
@@ -9,14 +11,16 @@ use Rattle.tp_value.specs.declared.Stop.{Stop}
 use Rattle.tp_value.specs.declared.Stop.TheVariants.{Done, Trap, NoFuel}
 use Rattle.tp_value.specs.declared.Table.{Table}
 use Rattle.loop_syntax.specs.declared.Program.{Program}
-use Rattle.loop_syntax.specs.declared.Stmt.{Stmt}
 use Rattle.loop_syntax.specs.declared.TableDecl.{TableDecl}
+use Rattle.loop_syntax.specs.declared.TableDecl.TheVariants.{Input, Made}
+use Rattle.loop_meaning.specs.InRange.{TableInRange}
 use Rattle.loop_meaning.specs.Calls.{setting}
 use Rattle.loop_meaning.specs.Meaning as whole
-use Rattle.loop_meaning.specs.Meaning.{make_tables, whole_run, outcome_of, meaning}
+use Rattle.loop_meaning.specs.Meaning.{input_cells, make_tables, whole_run, outcome_of, meaning}
 use Rattle.loop_meaning.specs.State as source
-use Rattle.loop_meaning.specs.State.{Ran, after}
-use Rattle.loop_meaning.specs.Statements.{Setting, run_list}
+use Rattle.loop_meaning.specs.State.{Ran}
+use Rattle.loop_meaning.specs.Statements.{run_list}
+use Rattle.tpal_syntax.specs.declared.blocks.CodeTable.{CodeTable}
 use Rattle.tpal_syntax.specs.declared.instructions.Instr.TheVariants as instr
 use Rattle.tpal_syntax.specs.declared.instructions.Term.TheVariants as term
 use Rattle.tpal_syntax.specs.declared.instructions.Value.TheVariants as value
@@ -36,15 +40,19 @@ use Rattle.tpal_machine.proofs.Kit.{Back, owing_serially, on_salloc, halts}
 use Rattle.expr_lower.specs.Standing.{Remains}
 use Rattle.expr_lower.proofs.Standing.{next, behind, at_end}
 use Rattle.block_lower.specs.Code.{store}
-use Rattle.block_lower.specs.Layout.{levels_cell, value_cell}
-use Rattle.block_lower.specs.Main.{IsMain}
+use Rattle.block_lower.specs.Layout.{levels_cell, Activation}
+use Rattle.block_lower.specs.Main.{IsProgram, table_name}
+use Rattle.block_lower.specs.Owing.{AreDeclared, AreHeld}
 use Rattle.block_lower.specs.Names.{names_after_list}
+use Rattle.block_lower.proofs.Callees.{main_has_place}
+use Rattle.block_lower.proofs.Functions.{calls_owe}
 use Rattle.block_lower.proofs.Law.{codes_law}
+use Rattle.block_lower.proofs.Makes.{Making, AreGiven, count_held, makes_law, seeing}
 use Rattle.block_lower.proofs.Moves.{opened}
-use Rattle.block_lower.proofs.Scene.{Scene, ShowsIn, Owed, Result, Fin, Out, result, result_by, then}
-use Rattle.block_lower.proofs.Simple.{stores}
+use Rattle.block_lower.proofs.Scene.{Scene, Owed, Result, Fin, Out, after_then, result, result_by, then}
+use Rattle.block_lower.proofs.Simple.{stores_in}
 use Rattle.block_lower.proofs.Values.{ExprLaw}
-use Rattle.block_lower.proofs.Words.{words_as_many}
+use Rattle.block_lower.proofs.Words.{word_same, words_as_many}
 
 abbrev outcome_by : Result → Outcome
 outcome_by (Fin s) = record { stop = Done; output = s.output; ticks = s.ticks }
@@ -62,11 +70,22 @@ ended_is code stop st last root ticks output =
     ∙ (ap (λ (n : ℕ). ending.Root (record { stop = stop; output = last.output; ticks = n })) ticks
     ∙ ap (λ (bytes : List ℕ). ending.Root (record { stop = stop; output = bytes; ticks = st.ticks })) (sym output))
 
+-- each table that is declared has one that is held
+pub as_many_held : (ds : List TableDecl) (ts : List CodeTable) (given : List Table) (hs : List Holding) → AreDeclared ds ts → AreHeld ds given hs → length hs ≡ length ts
+as_many_held [] [] given [] declared held = refl
+as_many_held [] [] given (h ∷ hs) declared held = absurd held
+as_many_held [] (t ∷ ts) given hs declared held = absurd declared
+as_many_held (d ∷ ds) [] given hs declared held = absurd declared
+as_many_held (d ∷ ds) (t ∷ ts) given [] declared held = absurd held
+as_many_held (Input x ∷ ds) (t ∷ ts) given (h ∷ hs) declared held = ap suc (as_many_held ds ts given hs declared.1 held.1)
+as_many_held (Made x a b ∷ ds) (t ∷ ts) given (h ∷ hs) declared held = ap suc (as_many_held ds ts given hs declared.1 held.2)
+
 module _ (code : Listing) (heartbeat : ℕ) where
   -- nothing goes on round main
-  root : Scene code heartbeat 0
+  abbrev root : Scene code heartbeat 0
   root = record {
     World = ⊤;
+    levels = MAX_CALL_DEPTH;
     owing = λ i r. owing_serially code heartbeat 0 (ending.Root (outcome_by r));
     marks = λ i. [];
     goal = λ i. goal.Root;
@@ -80,46 +99,56 @@ module _ (code : Listing) (heartbeat : ℕ) where
   }
 
   -- behind main the run ends
-  at_halt : (most fuel : ℕ) (names : List (List ℕ)) → Owed code heartbeat 0 most fuel root names [] term.Halt Fin
-  unfolding root
-  at_halt most fuel names i st state shows stands =
+  at_halt : (act : Activation) (fuel : ℕ) (names : List (List ℕ)) → Owed code heartbeat 0 act fuel root names [] term.Halt Fin
+  at_halt act fuel names i st state shows stands =
       serial.ends state (ending.Root (record { stop = Done; output = st.output; ticks = st.ticks }))
       (halts code heartbeat state (at_end code state term.Halt stands) shows.ends shows.free false ∙ ap Ends (ended_is code Done st (advanced state) shows.ends shows.ticks shows.printed))
 
-  pub main_bound : (expr_law : ExprLaw code heartbeat) (set : Setting) (most : ℕ) (body : List Stmt) → IsMain code most body → BoundSerially code heartbeat 0 (first_state [] set.fuel) (ending.Root (outcome_of (run_list set body whole.first_state)))
-  unfolding root
-  main_bound expr_law set most body main =
-      subst (λ (o : Outcome). BoundSerially code heartbeat 0 (first_state [] set.fuel) (ending.Root o)) (same_by (run_list set body whole.first_state).stop (run_list set body whole.first_state) refl)
-      (on_salloc code heartbeat K zeroth (value_cell most) (next code zeroth _ _ main.end here) (omega (arith, main.few))
-      (stores code heartbeat 0 most set.fuel K first levels_cell (value.Int (pos MAX_CALL_DEPTH)) main.instrs main.end second refl (omega arith) room (omega arith)
-      (codes_law code heartbeat 0 most set expr_law main.statements root (omega arith) (λ x free. tt) Fin (at_halt most set.fuel (names_after_list [] body)) tt whole.first_state with_levels shows
-      (behind code 0 1 _ main.instrs main.end second))))
-    where
-      K : Back code heartbeat
-      K = owing_serially code heartbeat 0 (ending.Root (outcome_by (then (result (run_list set body whole.first_state)) Fin)))
+  module _ (expr_law : ExprLaw code heartbeat) (program : Program) (given : List Table) (holdings : List Holding) (fuel : ℕ) (is : IsProgram code program) (there : AreGiven program.tables.items given) (holds : AreHeld program.tables.items given holdings) where
+    abbrev act : Activation
+    act = is.act
 
-      zeroth : machine.State
-      zeroth = first_state [] set.fuel
+    abbrev ds : List TableDecl
+    ds = program.tables.items
 
-      stack : StackValue
-      stack = pushed zeroth.stack (value_cell most)
+    -- what main gives, where the tables are made
+    main_gives : source.State → Result
+    main_gives s = then (result (run_list (setting program fuel 0 []) program.main.items s)) Fin
 
-      first : machine.State
-      first = effect.with_stack (advanced zeroth) stack
+    K : Back code heartbeat
+    K = root.owing tt (then (result (make_tables given (input_cells ds given) ds whole.first_state)) main_gives)
 
-      with_levels : machine.State
-      with_levels = effect.with_stack (advanced first) (with_word stack (pos (0 + levels_cell)) (word.Int (pos MAX_CALL_DEPTH)))
+    zeroth : machine.State
+    zeroth = first_state holdings fuel
 
-      here : Remains code 0 0 (instr.Salloc (value_cell most) ∷ store levels_cell (value.Int (pos MAX_CALL_DEPTH)) ∷ main.instrs) main.end
-      here = opened code 0 _ main.end main.begins
+    stack : StackValue
+    unfolding zeroth
+    stack = pushed zeroth.stack act.size
 
-      second : Remains code 0 1 (store levels_cell (value.Int (pos MAX_CALL_DEPTH)) ∷ main.instrs) main.end
-      second = behind code 0 0 _ _ main.end here
+    first : machine.State
+    unfolding zeroth
+    first = effect.with_stack (advanced zeroth) stack
 
-      room : 0 + value_cell most ≤ stack.base + length stack.cells
-      room = omega (arith, length-replicate (value_cell most) word.Nil)
+    with_levels : machine.State
+    unfolding first
+    with_levels = effect.with_stack (advanced first) (with_word stack (pos (0 + levels_cell)) (word.Int (pos MAX_CALL_DEPTH)))
 
-      shows : ShowsIn code heartbeat 0 most set.fuel root tt [] whole.first_state with_levels
+    here : Remains code 0 0 (instr.Salloc act.size ∷ store levels_cell (value.Int (pos MAX_CALL_DEPTH)) ∷ is.makes) is.end
+    here = opened code 0 _ is.end is.begins
+
+    second : Remains code 0 1 (store levels_cell (value.Int (pos MAX_CALL_DEPTH)) ∷ is.makes) is.end
+    second = behind code 0 0 _ _ is.end here
+
+    size_is : stack.base + length stack.cells ≡ act.size
+    unfolding stack zeroth
+    size_is = omega (arith, length-replicate act.size word.Nil)
+
+    inside : 0 + levels_cell < stack.base + length stack.cells
+    inside = omega (arith, size_is, is.has_room.room)
+
+    making : Making code heartbeat 0 act fuel expr_law root (omega arith) (λ i. refl) given tt [] (input_cells ds given) ds whole.first_state with_levels
+    unfolding with_levels first stack zeroth
+    making = record {
       shows = record {
         size = refl;
         base = refl;
@@ -132,26 +161,60 @@ module _ (code : Listing) (heartbeat : ℕ) where
         free = refl;
         marked = refl;
         named = refl;
-        no_tables = refl;
+        few = omega arith;
+        tabled = refl;
+        held = tt;
+        ranged = All-nil TableInRange;
+        levels = word_same stack (0 + levels_cell) (word.Int (pos MAX_CALL_DEPTH)) (omega arith) inside;
+        unmarked = refl;
+        top = omega (arith, size_is, words_as_many stack (0 + levels_cell) (word.Int (pos MAX_CALL_DEPTH)));
         low = omega arith;
-        room = omega (arith, room, words_as_many stack (0 + levels_cell) (word.Int (pos MAX_CALL_DEPTH)));
+        room = omega (arith, size_is, is.has_room.room, words_as_many stack (0 + levels_cell) (word.Int (pos MAX_CALL_DEPTH)));
         vars = tt;
         keeps = tt;
-      }
+      };
+      before = [];
+      as_many = refl;
+      as_tables = refl;
+      held = tt;
+      rest = holdings;
+      left = holds;
+      tables = refl;
+      count = count_held ds given holdings holds;
+      made = tt;
+    }
 
--- the meaning of a program without tables is the run of main
-pub meaning_is : (program : Program) (given : List Table) (fuel : ℕ) → program.tables.items ≡ [] → outcome_of (run_list (setting program fuel 0 []) program.main.items whole.first_state) ≡ meaning program given fuel
-unfolding meaning whole_run
-meaning_is program given fuel none =
-    sym (ap (λ (ds : List TableDecl). outcome_of (after (make_tables given (whole.input_cells ds given) ds whole.first_state) (run_list (setting program fuel 0 []) program.main.items))) none)
+    -- main, where the tables are made
+    main_owed : Owed code heartbeat 0 (seeing act (map table_name ds)) fuel root [] is.instrs is.end main_gives
+    unfolding main_gives
+    main_owed =
+        subst (λ ts. Owed code heartbeat 0 (seeing act ts) fuel root [] is.instrs is.end main_gives) is.tables
+        (codes_law code heartbeat 0 act program.funcs.items fuel MAX_CALL_DEPTH expr_law (calls_owe code heartbeat fuel expr_law act.tables act.functions program.funcs.items is.functions MAX_CALL_DEPTH (omega arith)) (main_has_place act is.has_room) is.statements root refl (omega arith) (λ x free. tt) Fin (at_halt act fuel (names_after_list [] program.main.items)))
 
--- The first task of a code that is the code of main owes the meaning of the program.
-pub owes_meaning : (code : Listing) (heartbeat : ℕ) (expr_law : ExprLaw code heartbeat) (program : Program) (given : List Table) (fuel most : ℕ) → program.tables.items ≡ [] → IsMain code most program.main.items → BelongsTo code (first_state [] fuel)
-    → OwesSerially code heartbeat 0 (first_state [] fuel) (ending.Root (meaning program given fuel))
-owes_meaning code heartbeat expr_law program given fuel most none main belongs = record {
+    all_made : K.Holds zeroth
+    unfolding K with_levels first stack zeroth
+    all_made =
+        on_salloc code heartbeat K zeroth act.size (next code zeroth _ _ is.end here) (omega (arith, is.has_room.fits))
+        (stores_in code heartbeat 0 act fuel K first levels_cell (value.Int (pos MAX_CALL_DEPTH)) is.makes is.end second refl (omega arith) inside
+        (makes_law code heartbeat 0 act fuel expr_law root (omega arith) (λ i. refl) given is.made is.end [] code.tables refl refl is.declared there main_gives main_owed
+        (input_cells ds given) tt whole.first_state with_levels making (behind code 0 1 _ is.makes is.end second)))
+
+    -- the end is that of the whole run
+    end_is : outcome_by (then (result (make_tables given (input_cells ds given) ds whole.first_state)) main_gives) ≡ meaning program given fuel
+    unfolding meaning whole_run main_gives
+    end_is =
+        ap outcome_by (sym (after_then (make_tables given (input_cells ds given) ds whole.first_state) (run_list (setting program fuel 0 []) program.main.items) Fin))
+        ∙ same_by (whole_run program given fuel).stop (whole_run program given fuel) refl
+
+    pub program_bound : BoundSerially code heartbeat 0 (first_state holdings fuel) (ending.Root (meaning program given fuel))
+    unfolding K zeroth
+    program_bound = subst (λ (o : Outcome). BoundSerially code heartbeat 0 zeroth (ending.Root o)) end_is all_made
+
+-- The first task of a code that is the code of a program owes the meaning of the program.
+pub owes_meaning : (code : Listing) (heartbeat : ℕ) (expr_law : ExprLaw code heartbeat) (program : Program) (given : List Table) (holdings : List Holding) (fuel : ℕ) → IsProgram code program → AreGiven program.tables.items given → AreHeld program.tables.items given holdings → BelongsTo code (first_state holdings fuel)
+    → OwesSerially code heartbeat 0 (first_state holdings fuel) (ending.Root (meaning program given fuel))
+owes_meaning code heartbeat expr_law program given holdings fuel is there holds belongs = record {
   belongs = belongs;
   waits_not = refl;
-  bound =
-      subst (λ (o : Outcome). BoundSerially code heartbeat 0 (first_state [] fuel) (ending.Root o)) (meaning_is program given fuel none)
-      (main_bound code heartbeat expr_law (setting program fuel 0 []) most program.main.items main);
+  bound = program_bound code heartbeat expr_law program given holdings fuel is there holds;
 }

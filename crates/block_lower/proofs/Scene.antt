@@ -1,7 +1,8 @@
 -- What a task owes at a place of a code, inside whatever goes on round it.
-use Rattle.std.proofs.Common.{◌≡◌, ◌≢◌, ℕ, ◌+◌, ◌<◌, ◌≤◌, Bool, List, [], ◌++◌, length, take, Option, None, refl}
+use Rattle.std.proofs.Common.{◌≡◌, ◌≢◌, ℕ, ◌+◌, ◌<◌, ◌≤◌, Bool, false, List, ◌++◌, length, take, Option, None, Some, refl, All}
 use Rattle.std.specs.Prelude.{pos, ⊤}
 use Rattle.beat_count.specs.FuelState.{FuelState}
+use Rattle.slices.specs.Holding.{Holding}
 use Rattle.stack_marks.specs.declared.mark.Mark.{Mark}
 use Rattle.stack_marks.specs.Stacks.{StackValue, word_at}
 use Rattle.tp_value.specs.declared.Stop.{Stop}
@@ -13,15 +14,18 @@ use Rattle.tpal_syntax.specs.declared.words.Word.TheVariants.{Int}
 use Rattle.tpal_syntax.specs.Listing.{Listing}
 use Rattle.tpal_machine.specs.declared.ends.Goal.{Goal}
 use Rattle.tpal_machine.specs.declared.ends.Tie.{Tie}
+use Rattle.tpal_machine.specs.Effect.{is_marked_from}
 use Rattle.tpal_machine.specs.Ended.{ended}
 use Rattle.tpal_machine.specs.Reading.{register}
 use Rattle.tpal_machine.specs.State as machine
 use Rattle.tpal_machine.specs.Step.{Ends, step}
 use Rattle.tpal_machine.proofs.Kit.{Back}
+use Rattle.loop_meaning.specs.InRange.{TableInRange}
 use Rattle.loop_meaning.specs.State as meaning
 use Rattle.loop_meaning.specs.State.{Ran, after, leave_block}
 use Rattle.expr_lower.specs.Standing.{Remains}
-use Rattle.block_lower.specs.Layout.{value_cell}
+use Rattle.block_lower.specs.Layout.{levels_cell, value_cell, Activation}
+use Rattle.block_lower.proofs.Tables.{AreWhole, table_names}
 use Rattle.block_lower.proofs.Variables.{AreHeld, var_names}
 
 -- ---- how a run ends, as far as a task tells it: what its state is where it is done, else its stop with the
@@ -79,10 +83,11 @@ IsEarly (Trap kind place) = ⊤
 IsEarly NoFuel = ⊤
 
 -- What goes on round a statement, in an activation that begins at z: worlds with what a task owes in them for
--- every result, its marks and its goal, what was printed before it began, how many ticks there were at least,
+-- every result, how many levels of calls are left, its marks and its goal, what was printed before it began, how many ticks there were at least,
 -- what is kept below a level, and which variables may change.
 pub record Scene (code : Listing) (heartbeat z : ℕ) : Type 1 where
   pub World : Type 0
+  pub levels : ℕ
   pub owing : World → Result → Back code heartbeat
   pub marks : World → List Mark
   pub goal : World → Goal
@@ -95,9 +100,9 @@ pub record Scene (code : Listing) (heartbeat z : ℕ) : Type 1 where
   pub stops : (i : World) (stop : Stop) (st : meaning.State) (state last : machine.State) → IsEarly stop → last.fuel.ticks ≡ st.ticks → st.output ≡ before i ++ last.output → last.goal ≡ goal i
       → ((allowed : Bool) → step code heartbeat allowed state ≡ Ends (ended code stop last)) → (owing i (Out stop st.ticks st.output)).Holds state
 
-module _ (code : Listing) (heartbeat z most fuel : ℕ) where
+module _ (code : Listing) (heartbeat z : ℕ) (act : Activation) (fuel : ℕ) where
   -- a task shows a state in which these variables are visible
-  pub record Shows (S : Scene code heartbeat z) (i : S.World) (names : List (List ℕ)) (st : meaning.State) (words : List Word) (stack : StackValue) (spent : FuelState) (output : List ℕ) (goal : Goal) (pending : Option Tie) : Type 0 where
+  pub record Shows (S : Scene code heartbeat z) (i : S.World) (names : List (List ℕ)) (st : meaning.State) (words : List Word) (stack : StackValue) (holdings : List Holding) (spent : FuelState) (output : List ℕ) (goal : Goal) (pending : Option Tie) : Type 0 where
     pub size : length words ≡ 32
     pub base : register words 31 ≡ Int (pos z)
     pub limit : spent.limit ≡ fuel
@@ -109,14 +114,20 @@ module _ (code : Listing) (heartbeat z most fuel : ℕ) where
     pub free : pending ≡ None
     pub marked : stack.marks ≡ S.marks i
     pub named : var_names st.vars ≡ names
-    pub no_tables : st.tables ≡ []
+    pub few : length names ≤ act.most
+    pub tabled : table_names st.tables ≡ act.tables
+    pub held : AreWhole holdings st.tables
+    pub ranged : All TableInRange st.tables
+    pub levels : word_at stack (pos (z + levels_cell)) ≡ Some (Int (pos S.levels))
+    pub unmarked : is_marked_from stack.marks (z + act.size) ≡ false
+    pub top : stack.base + length stack.cells ≡ z + act.size
     pub low : stack.base ≤ z
-    pub room : z + value_cell most ≤ stack.base + length stack.cells
+    pub room : z + value_cell act.most ≤ stack.base + length stack.cells
     pub vars : AreHeld stack z 0 st.vars
     pub keeps : S.kept i stack
 
   abbrev pub ShowsIn : (S : Scene code heartbeat z) (i : S.World) → List (List ℕ) → meaning.State → machine.State → Type 0
-  ShowsIn S i names st state = Shows S i names st state.registers state.stack state.fuel state.output state.goal state.pending
+  ShowsIn S i names st state = Shows S i names st state.registers state.stack state.tables state.fuel state.output state.goal state.pending
 
   -- what a task owes that shows a state, where these instructions with this end remain
   abbrev pub Owed : Scene code heartbeat z → List (List ℕ) → List Instr → Term → (meaning.State → Result) → Type 0

@@ -1,10 +1,12 @@
 -- What a task shows, after its registers, its stack, its ticks or its output changed.
-use Rattle.std.proofs.Common.{◌≡◌, ℕ, suc, ◌+◌, ◌<◌, ◌≤◌, true, List, [], ◌∷◌, ◌++◌, length, take, Option, Some, refl, sym, ap, ◌∙◌, arith, append_assoc}
+use Rattle.std.proofs.Common.{◌≡◌, ℕ, suc, ◌+◌, ◌<◌, ◌≤◌, true, List, [], ◌∷◌, ◌++◌, length, take, Option, Some, refl, sym, ap, ◌∙◌, arith, append_assoc, All}
 use Rattle.std.specs.Prelude.{ℤ, pos}
-use Rattle.std.specs.Fmt.{signed_decimal}
 use Rattle.std.proofs.lemmas.Bool.Decides.{nat_tests}
+use Rattle.std.proofs.lemmas.List.{length-append, length-take}
 use Rattle.beat_count.specs.FuelState.{FuelState}
 use Rattle.beat_count.specs.Ticks.{is_tick_allowed, ticked}
+use Rattle.slices.specs.Holding.{Holding}
+use Rattle.tp_value.specs.declared.Table.{Table}
 use Rattle.stack_marks.specs.Stacks.{StackValue, word_at, with_word}
 use Rattle.tpal_syntax.specs.declared.words.Word.{Word}
 use Rattle.tpal_syntax.specs.declared.words.Word.TheVariants.{Int}
@@ -13,12 +15,13 @@ use Rattle.tpal_machine.specs.declared.ends.Goal.{Goal}
 use Rattle.tpal_machine.specs.declared.ends.Tie.{Tie}
 use Rattle.tpal_machine.specs.Reading.{register}
 use Rattle.loop_meaning.specs.declared.value.Variable.{Variable}
-use Rattle.loop_meaning.specs.InRange.{InRange}
+use Rattle.loop_meaning.specs.InRange.{InRange, TableInRange}
 use Rattle.loop_meaning.specs.State as meaning
-use Rattle.loop_meaning.specs.State.{assign, declare, print_line}
+use Rattle.loop_meaning.specs.State.{assign, declare}
 use Rattle.block_lower.specs.Code.{IsCell}
-use Rattle.block_lower.specs.Layout.{value_cell}
+use Rattle.block_lower.specs.Layout.{levels_cell, value_cell, Activation}
 use Rattle.block_lower.proofs.Scene.{Scene, Shows, left}
+use Rattle.block_lower.proofs.Tables.{AreWhole, table_names}
 use Rattle.block_lower.proofs.Variables.{var_names, held_same, held_declare, held_assign, held_take, names_declare, names_assign, names_take}
 use Rattle.block_lower.proofs.Words.{word_same, word_other, words_as_many}
 
@@ -29,13 +32,13 @@ as_many_names (u ∷ us) = ap suc (as_many_names us)
 pub as_many : (vs : List Variable) (names : List (List ℕ)) → var_names vs ≡ names → length vs ≡ length names
 as_many vs names named = as_many_names vs ∙ ap length named
 
-module _ (code : Listing) (heartbeat z most fuel : ℕ) (S : Scene code heartbeat z) (i : S.World) where
-  abbrev Shown : List (List ℕ) → meaning.State → List Word → StackValue → FuelState → List ℕ → Goal → Option Tie → Type 0
-  Shown names st words stack spent output goal pending = Shows code heartbeat z most fuel S i names st words stack spent output goal pending
+module _ (code : Listing) (heartbeat z : ℕ) (act : Activation) (fuel : ℕ) (S : Scene code heartbeat z) (i : S.World) where
+  abbrev Shown : List (List ℕ) → meaning.State → List Word → StackValue → List Holding → FuelState → List ℕ → Goal → Option Tie → Type 0
+  Shown names st words stack holdings spent output goal pending = Shows code heartbeat z act fuel S i names st words stack holdings spent output goal pending
 
   -- other registers
-  pub shows_words : {names : List (List ℕ)} {st : meaning.State} {words : List Word} {stack : StackValue} {spent : FuelState} {output : List ℕ} {goal : Goal} {pending : Option Tie} → Shown names st words stack spent output goal pending
-      → (other : List Word) → length other ≡ length words → register other 31 ≡ register words 31 → Shown names st other stack spent output goal pending
+  pub shows_words : {names : List (List ℕ)} {st : meaning.State} {words : List Word} {stack : StackValue} {holdings : List Holding} {spent : FuelState} {output : List ℕ} {goal : Goal} {pending : Option Tie} → Shown names st words stack holdings spent output goal pending
+      → (other : List Word) → length other ≡ length words → register other 31 ≡ register words 31 → Shown names st other stack holdings spent output goal pending
   shows_words h other size same = record {
     size = size ∙ h.size;
     base = same ∙ h.base;
@@ -48,7 +51,13 @@ module _ (code : Listing) (heartbeat z most fuel : ℕ) (S : Scene code heartbea
     free = h.free;
     marked = h.marked;
     named = h.named;
-    no_tables = h.no_tables;
+    few = h.few;
+    tabled = h.tabled;
+    held = h.held;
+    ranged = h.ranged;
+    levels = h.levels;
+    unmarked = h.unmarked;
+    top = h.top;
     low = h.low;
     room = h.room;
     vars = h.vars;
@@ -56,9 +65,9 @@ module _ (code : Listing) (heartbeat z most fuel : ℕ) (S : Scene code heartbea
   }
 
   -- a word in a cell above those of the variables
-  pub shows_new : {names : List (List ℕ)} {st : meaning.State} {words : List Word} {stack : StackValue} {spent : FuelState} {output : List ℕ} {goal : Goal} {pending : Option Tie} → Shown names st words stack spent output goal pending
-      → (cell : ℕ) (w : Word) → value_cell (length names) ≤ cell → cell < value_cell most → S.lowest ≤ length names → Shown names st words (with_word stack (pos (z + cell)) w) spent output goal pending
-  shows_new {names} {st} {stack = stack} h cell w above below lowest =
+  pub shows_new : {names : List (List ℕ)} {st : meaning.State} {words : List Word} {stack : StackValue} {holdings : List Holding} {spent : FuelState} {output : List ℕ} {goal : Goal} {pending : Option Tie} → Shown names st words stack holdings spent output goal pending
+      → (cell : ℕ) (w : Word) → value_cell (length names) ≤ cell → S.lowest ≤ length names → Shown names st words (with_word stack (pos (z + cell)) w) holdings spent output goal pending
+  shows_new {names} {st} {stack = stack} h cell w above lowest =
       let from : stack.base ≤ z + cell = omega (arith, h.low) in
       let many : length st.vars ≡ length names = as_many st.vars names h.named in
       record {
@@ -73,7 +82,13 @@ module _ (code : Listing) (heartbeat z most fuel : ℕ) (S : Scene code heartbea
         free = h.free;
         marked = h.marked;
         named = h.named;
-        no_tables = h.no_tables;
+        few = h.few;
+        tabled = h.tabled;
+        held = h.held;
+        ranged = h.ranged;
+        levels = word_other stack (z + cell) (z + levels_cell) w from (λ (q : z + levels_cell ≡ z + cell). absurd (omega (arith, q, above))) ∙ h.levels;
+        unmarked = h.unmarked;
+        top = omega (arith, h.top, words_as_many stack (z + cell) w);
         low = h.low;
         room = omega (arith, h.room, words_as_many stack (z + cell) w);
         vars = held_same stack (with_word stack (pos (z + cell)) w) z 0 st.vars (λ x low high. word_other stack (z + cell) (z + value_cell x) w from (λ (q : z + value_cell x ≡ z + cell). absurd (omega (arith, q, high, many, above)))) h.vars;
@@ -86,9 +101,9 @@ module _ (code : Listing) (heartbeat z most fuel : ℕ) (S : Scene code heartbea
       }
 
   -- one more variable, whose number is in its cell
-  pub shows_declared : {names : List (List ℕ)} {st : meaning.State} {words : List Word} {stack : StackValue} {spent : FuelState} {output : List ℕ} {goal : Goal} {pending : Option Tie} → Shown names st words stack spent output goal pending
-      → (x : List ℕ) (n : ℤ) → word_at stack (pos (z + value_cell (length names))) ≡ Some (Int n) → InRange n → Shown (names ++ x ∷ []) (record st { vars = declare st.vars x n }) words stack spent output goal pending
-  shows_declared {names} {st} {stack = stack} h x n is fits =
+  pub shows_declared : {names : List (List ℕ)} {st : meaning.State} {words : List Word} {stack : StackValue} {holdings : List Holding} {spent : FuelState} {output : List ℕ} {goal : Goal} {pending : Option Tie} → Shown names st words stack holdings spent output goal pending
+      → (x : List ℕ) (n : ℤ) → length names < act.most → word_at stack (pos (z + value_cell (length names))) ≡ Some (Int n) → InRange n → Shown (names ++ x ∷ []) (record st { vars = declare st.vars x n }) words stack holdings spent output goal pending
+  shows_declared {names} {st} {stack = stack} h x n below is fits =
       let many : 0 + length st.vars ≡ length names = omega (arith, as_many st.vars names h.named) in
       record {
         size = h.size;
@@ -102,7 +117,13 @@ module _ (code : Listing) (heartbeat z most fuel : ℕ) (S : Scene code heartbea
         free = h.free;
         marked = h.marked;
         named = names_declare st.vars x n ∙ ap (λ ns. ns ++ x ∷ []) h.named;
-        no_tables = h.no_tables;
+        few = omega (arith, length-append names (x ∷ []));
+        tabled = h.tabled;
+        held = h.held;
+        ranged = h.ranged;
+        levels = h.levels;
+        unmarked = h.unmarked;
+        top = h.top;
         low = h.low;
         room = h.room;
         vars = held_declare stack z 0 st.vars x n h.vars (ap (λ k. word_at stack (pos (z + value_cell k))) many ∙ is) fits;
@@ -110,8 +131,8 @@ module _ (code : Listing) (heartbeat z most fuel : ℕ) (S : Scene code heartbea
       }
 
   -- a variable assigned
-  pub shows_assigned : {names : List (List ℕ)} {st : meaning.State} {words : List Word} {stack : StackValue} {spent : FuelState} {output : List ℕ} {goal : Goal} {pending : Option Tie} → Shown names st words stack spent output goal pending
-      → (fixed : List ℕ) (x : List ℕ) (cell : ℕ) (n : ℤ) (c : IsCell code [] most names fixed x cell) → S.may c.level → S.lowest ≤ length names → InRange n → Shown names (record st { vars = assign st.vars x n }) words (with_word stack (pos (z + cell)) (Int n)) spent output goal pending
+  pub shows_assigned : {names : List (List ℕ)} {st : meaning.State} {words : List Word} {stack : StackValue} {holdings : List Holding} {spent : FuelState} {output : List ℕ} {goal : Goal} {pending : Option Tie} → Shown names st words stack holdings spent output goal pending
+      → (fixed : List ℕ) (x : List ℕ) (cell : ℕ) (n : ℤ) (c : IsCell code act names fixed x cell) → S.may c.level → S.lowest ≤ length names → InRange n → Shown names (record st { vars = assign st.vars x n }) words (with_word stack (pos (z + cell)) (Int n)) holdings spent output goal pending
   shows_assigned {names} {st} {stack = stack} h fixed x cell n c may lowest fits =
       let from : stack.base ≤ z + cell = omega (arith, h.low) in
       let inside : z + cell < stack.base + length stack.cells = omega (arith, h.room, c.at_level, c.below) in
@@ -128,7 +149,13 @@ module _ (code : Listing) (heartbeat z most fuel : ℕ) (S : Scene code heartbea
         free = h.free;
         marked = h.marked;
         named = names_assign st.vars x n ∙ h.named;
-        no_tables = h.no_tables;
+        few = h.few;
+        tabled = h.tabled;
+        held = h.held;
+        ranged = h.ranged;
+        levels = word_other stack (z + cell) (z + levels_cell) (Int n) from (λ (q : z + levels_cell ≡ z + cell). absurd (omega (arith, q, c.at_level))) ∙ h.levels;
+        unmarked = h.unmarked;
+        top = omega (arith, h.top, words_as_many stack (z + cell) (Int n));
         low = h.low;
         room = omega (arith, h.room, words_as_many stack (z + cell) (Int n));
         vars = held_assign stack (with_word stack (pos (z + cell)) (Int n)) z c.scope.cells.items 0 st.vars x n c.sees.laid (c.sees.named ∙ sym h.named) c.inside fits (ap (λ k. word_at (with_word stack (pos (z + cell)) (Int n)) (pos (z + k))) (sym c.is) ∙ same)
@@ -142,8 +169,8 @@ module _ (code : Listing) (heartbeat z most fuel : ℕ) (S : Scene code heartbea
       }
 
   -- one tick more
-  pub shows_ticked : {names : List (List ℕ)} {st : meaning.State} {words : List Word} {stack : StackValue} {spent : FuelState} {output : List ℕ} {goal : Goal} {pending : Option Tie} → Shown names st words stack spent output goal pending
-      → st.ticks < fuel → Shown names (record st { ticks = ticked fuel st.ticks }) words stack (record spent { ticks = ticked spent.limit spent.ticks }) output goal pending
+  pub shows_ticked : {names : List (List ℕ)} {st : meaning.State} {words : List Word} {stack : StackValue} {holdings : List Holding} {spent : FuelState} {output : List ℕ} {goal : Goal} {pending : Option Tie} → Shown names st words stack holdings spent output goal pending
+      → st.ticks < fuel → Shown names (record st { ticks = ticked fuel st.ticks }) words stack holdings (record spent { ticks = ticked spent.limit spent.ticks }) output goal pending
   shows_ticked {names} {st} {stack = stack} {spent} h below =
       let test : is_tick_allowed fuel st.ticks ≡ true = grind (arith, nat_tests) in
       let next : ticked fuel st.ticks ≡ st.ticks + 1 = rw test refl in
@@ -159,29 +186,69 @@ module _ (code : Listing) (heartbeat z most fuel : ℕ) (S : Scene code heartbea
         free = h.free;
         marked = h.marked;
         named = h.named;
-        no_tables = h.no_tables;
+        few = h.few;
+        tabled = h.tabled;
+        held = h.held;
+        ranged = h.ranged;
+        levels = h.levels;
+        unmarked = h.unmarked;
+        top = h.top;
         low = h.low;
         room = h.room;
         vars = h.vars;
         keeps = h.keeps;
       }
 
-  -- a number printed
-  pub shows_printed : {names : List (List ℕ)} {st : meaning.State} {words : List Word} {stack : StackValue} {spent : FuelState} {output : List ℕ} {goal : Goal} {pending : Option Tie} → Shown names st words stack spent output goal pending
-      → (n : ℤ) → Shown names (print_line n st) words stack spent (output ++ (signed_decimal n ++ 10 ∷ [])) goal pending
-  shows_printed {output = output} h n = record {
+  -- more output
+  pub shows_output : {names : List (List ℕ)} {st : meaning.State} {words : List Word} {stack : StackValue} {holdings : List Holding} {spent : FuelState} {output : List ℕ} {goal : Goal} {pending : Option Tie} → Shown names st words stack holdings spent output goal pending
+      → (text : List ℕ) → Shown names (record st { output = st.output ++ text }) words stack holdings spent (output ++ text) goal pending
+  shows_output {output = output} h text = record {
     size = h.size;
     base = h.base;
     limit = h.limit;
     ticks = h.ticks;
     within = h.within;
     begun = h.begun;
-    printed = ap (λ bs. bs ++ (signed_decimal n ++ 10 ∷ [])) h.printed ∙ append_assoc (S.before i) output (signed_decimal n ++ 10 ∷ []);
+    printed = ap (λ bs. bs ++ text) h.printed ∙ append_assoc (S.before i) output text;
     ends = h.ends;
     free = h.free;
     marked = h.marked;
     named = h.named;
-    no_tables = h.no_tables;
+    few = h.few;
+    tabled = h.tabled;
+    held = h.held;
+    ranged = h.ranged;
+    levels = h.levels;
+    unmarked = h.unmarked;
+    top = h.top;
+    low = h.low;
+    room = h.room;
+    vars = h.vars;
+    keeps = h.keeps;
+  }
+
+  -- other tables of these names
+  pub shows_tables : {names : List (List ℕ)} {st : meaning.State} {words : List Word} {stack : StackValue} {holdings : List Holding} {spent : FuelState} {output : List ℕ} {goal : Goal} {pending : Option Tie} → Shown names st words stack holdings spent output goal pending
+      → (ts : List Table) (hs : List Holding) → table_names ts ≡ table_names st.tables → AreWhole hs ts → All TableInRange ts → Shown names (record st { tables = ts }) words stack hs spent output goal pending
+  shows_tables h ts hs named held ranged = record {
+    size = h.size;
+    base = h.base;
+    limit = h.limit;
+    ticks = h.ticks;
+    within = h.within;
+    begun = h.begun;
+    printed = h.printed;
+    ends = h.ends;
+    free = h.free;
+    marked = h.marked;
+    named = h.named;
+    few = h.few;
+    tabled = named ∙ h.tabled;
+    held = held;
+    ranged = ranged;
+    levels = h.levels;
+    unmarked = h.unmarked;
+    top = h.top;
     low = h.low;
     room = h.room;
     vars = h.vars;
@@ -189,8 +256,8 @@ module _ (code : Listing) (heartbeat z most fuel : ℕ) (S : Scene code heartbea
   }
 
   -- the first variables alone
-  pub shows_left : {names : List (List ℕ)} {st : meaning.State} {words : List Word} {stack : StackValue} {spent : FuelState} {output : List ℕ} {goal : Goal} {pending : Option Tie} → Shown names st words stack spent output goal pending
-      → (n : ℕ) (fewer : List (List ℕ)) → take n names ≡ fewer → Shown fewer (left n st) words stack spent output goal pending
+  pub shows_left : {names : List (List ℕ)} {st : meaning.State} {words : List Word} {stack : StackValue} {holdings : List Holding} {spent : FuelState} {output : List ℕ} {goal : Goal} {pending : Option Tie} → Shown names st words stack holdings spent output goal pending
+      → (n : ℕ) (fewer : List (List ℕ)) → take n names ≡ fewer → Shown fewer (left n st) words stack holdings spent output goal pending
   shows_left {names} {st} {stack = stack} h n fewer is = record {
     size = h.size;
     base = h.base;
@@ -203,7 +270,13 @@ module _ (code : Listing) (heartbeat z most fuel : ℕ) (S : Scene code heartbea
     free = h.free;
     marked = h.marked;
     named = names_take n st.vars ∙ ap (λ ns. take n ns) h.named ∙ is;
-    no_tables = h.no_tables;
+    few = omega (arith, ap length is, length-take n names, h.few);
+    tabled = h.tabled;
+    held = h.held;
+    ranged = h.ranged;
+    levels = h.levels;
+    unmarked = h.unmarked;
+    top = h.top;
     low = h.low;
     room = h.room;
     vars = held_take stack z 0 n st.vars h.vars;

@@ -1,24 +1,20 @@
 -- The code of expressions and operands inside a scene.
-use Rattle.std.proofs.Common.{◌≡◌, ℕ, zero, suc, ◌+◌, ◌≤◌, true, List, [], ◌∷◌, ◌++◌, map, Some, Vec, refl, sym, ap, subst, ◌∙◌, All}
-use Rattle.std.specs.Prelude.{ℤ, pos, negsuc, int_div, int_rem}
-use Rattle.std.specs.declared.alloc.Global.{Global}
-use Rattle.std.proofs.lemmas.List.Elements.{All-nil}
+use Rattle.std.proofs.Common.{◌≡◌, ℕ, ◌+◌, ◌≤◌, List, ◌++◌, Some, refl, sym, ap, subst, ◌∙◌}
+use Rattle.std.specs.Prelude.{ℤ, pos}
+use Rattle.std.specs.List.{AllByRecursion}
 use Rattle.beat_count.specs.BeatState.{BeatState}
-use Rattle.tp_value.specs.declared.Place.{Place}
 use Rattle.tp_value.specs.declared.Table.{Table}
 use Rattle.tp_value.specs.declared.Stop.TheVariants.{Trap}
-use Rattle.loop_syntax.specs.declared.BinOp.{BinOp}
-use Rattle.loop_syntax.specs.declared.BinOp.TheVariants as op
 use Rattle.loop_syntax.specs.declared.Expr.{Expr}
 use Rattle.loop_syntax.specs.declared.Expr.TheVariants.{Int, Var, Cell', Rows, Cols, Neg', Bin'}
 use Rattle.loop_rules.specs.Limits.{height}
 use Rattle.loop_meaning.specs.declared.value.Answer.{Answer}
 use Rattle.loop_meaning.specs.declared.value.Answer.TheVariants.{Number, Traps}
 use Rattle.loop_meaning.specs.declared.value.Variable.{Variable}
-use Rattle.loop_meaning.specs.Expressions.{Value, eval, bind_answer, calculated, divided}
-use Rattle.loop_meaning.specs.InRange.{InRange, StateInRange, TableInRange}
+use Rattle.loop_meaning.specs.Expressions.{eval}
+use Rattle.loop_meaning.specs.InRange.{InRange, StateInRange}
 use Rattle.loop_meaning.specs.State as meaning
-use Rattle.loop_meaning.specs.State.{Note, Ran}
+use Rattle.loop_meaning.specs.State.{Note, Ran, table_of}
 use Rattle.loop_meaning.specs.Statements.{given, given_answer}
 use Rattle.loop_meaning.proofs.Ranges.{value_in}
 use Rattle.tpal_syntax.specs.declared.instructions.Instr.{Instr}
@@ -27,22 +23,25 @@ use Rattle.tpal_syntax.specs.declared.instructions.Value as operands
 use Rattle.tpal_syntax.specs.declared.words.Word.{Word}
 use Rattle.tpal_syntax.specs.declared.words.Word.TheVariants as word
 use Rattle.tpal_syntax.specs.Listing.{Listing}
-use Rattle.tpal_machine.specs.Reading.{register, operand}
+use Rattle.tpal_machine.specs.Reading.{register, operand, table_at}
 use Rattle.tpal_machine.specs.State as machine
 use Rattle.tpal_machine.specs.Step.{advanced}
 use Rattle.tpal_machine.proofs.Kit.{Back}
 use Rattle.expr_lower.specs.declared.scope.Scope.{Scope}
 use Rattle.expr_lower.specs.Bodies.{body_of, traps_of, literal}
-use Rattle.expr_lower.specs.Holding.{Holds}
+use Rattle.expr_lower.specs.Holding.{Holds, IsHeld}
 use Rattle.expr_lower.specs.Leaving.{Keeps, moved, moved_to}
-use Rattle.expr_lower.specs.Scopes.{IsIn, HasTable, has_table_in}
+use Rattle.expr_lower.specs.Scopes.{IsIn, HasTable, table_number}
 use Rattle.expr_lower.specs.Standing.{Remains, AreAt}
 use Rattle.expr_lower.proofs.Evaluating.{Evaluates}
 use Rattle.expr_lower.proofs.Standing.{regrouped}
+use Rattle.block_lower.specs.Layout.{Activation}
 use Rattle.block_lower.specs.Code.{Computes, Operand, number, computed}
 use Rattle.block_lower.specs.Names.{Sees}
 use Rattle.block_lower.proofs.Moves.{traps}
 use Rattle.block_lower.proofs.Scene.{Scene, ShowsIn, Result, Out, result, then}
+use Rattle.block_lower.specs.Owing.{IsWholeOf}
+use Rattle.block_lower.proofs.Tables.{whole_at, reads_held}
 use Rattle.block_lower.proofs.Variables.{held_in_range, held_lookup}
 
 -- the law of the code of expressions
@@ -50,46 +49,6 @@ abbrev pub ExprLaw : Listing → ℕ → Type 1
 ExprLaw code heartbeat =
     (K : Back code heartbeat) (scope : Scope) (vars : List Variable) (tables : List Table) (e : Expr) (label r : ℕ) → IsIn scope e → r + height e ≤ 24 → AreAt code label (traps_of label e)
     → Evaluates code heartbeat K scope vars tables (body_of scope label e r) r (eval vars tables e).answer (eval vars tables e).notes
-
--- ---- expressions of programs without tables read no cell
-
-no_table : (us : List (Vec ℕ Global)) (t : List ℕ) → map (λ (u : Vec ℕ Global). u.items) us ≡ [] → has_table_in us t ≡ true → ⊥
-no_table [] t none has = cc
-no_table (u ∷ us) t none has = cc
-
-quiet_bind : (a : Answer) (ns : List Note) (f : ℤ → Value) → ns ≡ [] → ((n : ℤ) → (f n).notes ≡ []) → (bind_answer a ns f).notes ≡ []
-quiet_bind (Number n) ns f none others = ap (λ (ms : List Note). ms ++ (f n).notes) none ∙ others n
-quiet_bind (Traps kind place) ns f none others = none
-
-quiet_divided : (f : ℤ → ℤ → ℤ) (p : Place) (a b : ℤ) → (divided f p a b).notes ≡ []
-quiet_divided f p a (pos zero) = refl
-quiet_divided f p a (pos (suc n)) = refl
-quiet_divided f p a (negsuc n) = refl
-
-quiet_calculated : (o : BinOp) (p : Place) (a b : ℤ) → (calculated o p a b).notes ≡ []
-quiet_calculated op.Add p a b = refl
-quiet_calculated op.Sub p a b = refl
-quiet_calculated op.Mul p a b = refl
-quiet_calculated op.Div p a b = quiet_divided int_div p a b
-quiet_calculated op.Rem p a b = quiet_divided int_rem p a b
-quiet_calculated op.Eq p a b = refl
-quiet_calculated op.Ne p a b = refl
-quiet_calculated op.Lt p a b = refl
-quiet_calculated op.Le p a b = refl
-quiet_calculated op.Gt p a b = refl
-quiet_calculated op.Ge p a b = refl
-
-quiet : (scope : Scope) (vs : List Variable) (ts : List Table) → ((t : List ℕ) → HasTable scope t → ⊥) → (e : Expr) → IsIn scope e → (eval vs ts e).notes ≡ []
-quiet scope vs ts none (Int n place) is = refl
-quiet scope vs ts none (Var x) is = refl
-quiet scope vs ts none (Cell' t p a q b) is = absurd (none t.text.items is.0)
-quiet scope vs ts none (Rows t) is = refl
-quiet scope vs ts none (Cols t) is = refl
-quiet scope vs ts none (Neg' p a place) is = quiet_bind (eval vs ts a).answer (eval vs ts a).notes _ (quiet scope vs ts none a is) (λ n. refl)
-quiet scope vs ts none (Bin' o place p a q b) is =
-    let first : (eval vs ts a).notes ≡ [] = quiet scope vs ts none a is.0 in
-    let second : (eval vs ts b).notes ≡ [] = quiet scope vs ts none b is.1 in
-    quiet_bind (eval vs ts a).answer (eval vs ts a).notes _ first (λ m. quiet_bind (eval vs ts b).answer (eval vs ts b).notes _ second (λ n. quiet_calculated o place m n))
 
 -- a literal is its number
 pub literal_value : (vs : List Variable) (ts : List Table) (e : Expr) (n : ℤ) → literal e ≡ Some n → (eval vs ts e).answer ≡ Number n
@@ -101,27 +60,37 @@ literal_value vs ts (Cols t) n is = cc
 literal_value vs ts (Neg' p a place) n is = cc
 literal_value vs ts (Bin' o place p a q b) n is = cc
 
-module _ (code : Listing) (heartbeat z most fuel : ℕ) (expr_law : ExprLaw code heartbeat) (S : Scene code heartbeat z) (i : S.World) (names : List (List ℕ)) (st : meaning.State) (state : machine.State) (shows : ShowsIn code heartbeat z most fuel S i names st state) where
-  holds : (scope : Scope) → Sees scope names [] → Holds scope st.vars st.tables [] state
-  holds scope sees = record {
+module _ (code : Listing) (heartbeat z : ℕ) (act : Activation) (fuel : ℕ) (S : Scene code heartbeat z) (i : S.World) (names : List (List ℕ)) (st : meaning.State) (state : machine.State) (shows : ShowsIn code heartbeat z act fuel S i names st state) where
+  -- the table of a name is wholly held
+  pub whole : (scope : Scope) → Sees scope names act.tables → (t : List ℕ) → HasTable scope t → IsWholeOf (table_at state.tables (table_number scope t)) (table_of st.tables t)
+  whole scope sees t has = whole_at state.tables st.tables scope.tables.items t shows.held (sees.listed ∙ sym shows.tabled) has
+
+  -- a task holds what stands in a scope, with those cells that are held
+  pub holds_with : (scope : Scope) → Sees scope names act.tables → (notes : List Note) → AllByRecursion (IsHeld scope st.tables state) notes → Holds scope st.vars st.tables notes state
+  holds_with scope sees notes cells = record {
     registers = shows.size;
     base = pos z;
     is_base = shows.base;
     variables = λ x has. held_lookup state.stack z scope.cells.items 0 st.vars x sees.laid (sees.named ∙ sym shows.named) has shows.vars;
-    rows = λ t has. absurd (no_table scope.tables.items t sees.listed has);
-    cols = λ t has. absurd (no_table scope.tables.items t sees.listed has);
-    cells = tt;
+    rows = λ t has. (whole scope sees t has).rows;
+    cols = λ t has. (whole scope sees t has).cols;
+    cells = cells;
   }
 
-  in_range : StateInRange st
+  holds : (scope : Scope) → Sees scope names act.tables → (e : Expr) → IsIn scope e → Holds scope st.vars st.tables (eval st.vars st.tables e).notes state
+  holds scope sees e inside = holds_with scope sees (eval st.vars st.tables e).notes (reads_held scope st.vars st.tables state (whole scope sees) e inside)
+
+  -- the numbers of the state are in range
+  pub in_range : StateInRange st
   in_range = record {
     vars = held_in_range state.stack z 0 st.vars shows.vars;
-    tables = subst (λ (ts : List Table). All TableInRange ts) (sym shows.no_tables) (All-nil TableInRange);
+    tables = shows.ranged;
   }
 
+module _ (code : Listing) (heartbeat z : ℕ) (act : Activation) (fuel : ℕ) (expr_law : ExprLaw code heartbeat) (S : Scene code heartbeat z) (i : S.World) (names : List (List ℕ)) (st : meaning.State) (state : machine.State) (shows : ShowsIn code heartbeat z act fuel S i names st state) where
   -- an expression's code, behind which a task owes what is given for its number, owes what is given for its
   -- answer
-  pub computes : (e : Expr) (r : ℕ) (instrs more : List Instr) (end : Term) (c : Computes code [] most names e r instrs more) → Remains code state.block state.at instrs end
+  pub computes : (e : Expr) (r : ℕ) (instrs more : List Instr) (end : Term) (c : Computes code act names e r instrs more) → Remains code state.block state.at instrs end
       → (f : ℤ → Ran) (k : meaning.State → Result)
       → ((n : ℤ) → InRange n → (words : List Word) (beat : BeatState) (at : ℕ) → Keeps r state words beat → register words r ≡ word.Int n → Remains code state.block at more end → (S.owing i (then (result (f n)) k)).Holds (moved state words beat at))
       → (S.owing i (then (result (given e st f)) k)).Holds state
@@ -130,11 +99,8 @@ module _ (code : Listing) (heartbeat z most fuel : ℕ) (expr_law : ExprLaw code
       notes : List Note
       notes = (eval st.vars st.tables e).notes
 
-      none : notes ≡ []
-      none = quiet c.scope st.vars st.tables (λ t has. no_table c.scope.tables.items t c.sees.listed has) e c.inside
-
       held : Holds c.scope st.vars st.tables notes state
-      held = subst (λ (ns : List Note). Holds c.scope st.vars st.tables ns state) (sym none) (holds c.scope c.sees)
+      held = holds code heartbeat z act fuel S i names st state shows c.scope c.sees e c.inside
 
       stands_so : Remains code state.block state.at (body_of c.scope c.first e r ++ more) end
       stands_so = regrouped code state.block state.at instrs (body_of c.scope c.first e r ++ more) end c.body stands
@@ -144,7 +110,7 @@ module _ (code : Listing) (heartbeat z most fuel : ℕ) (expr_law : ExprLaw code
           let K : Back code heartbeat = S.owing i (then (result (f n)) k) in
           subst (λ (a : Answer). Evaluates code heartbeat K c.scope st.vars st.tables (body_of c.scope c.first e r) r a notes) is
           (expr_law K c.scope st.vars st.tables e c.first r c.inside c.low c.traps)
-          state more end stands_so held (go n (value_in st in_range e c.ranged n is))
+          state more end stands_so held (go n (value_in st (in_range code heartbeat z act fuel S i names st state shows) e c.ranged n is))
       by_answer (Traps kind place) is =
           let K : Back code heartbeat = S.owing i (Out (Trap kind place) st.ticks st.output) in
           subst (λ (a : Answer). Evaluates code heartbeat K c.scope st.vars st.tables (body_of c.scope c.first e r) r a notes) is
@@ -154,7 +120,7 @@ module _ (code : Listing) (heartbeat z most fuel : ℕ) (expr_law : ExprLaw code
           (traps code heartbeat (moved_to state words beat label 0) kind place next shows.free))
 
   -- the same of an operand
-  pub operand_is : (e : Expr) (r : ℕ) (v : operands.Value) (instrs more : List Instr) (end : Term) → Operand code [] most names e r v instrs more → Remains code state.block state.at instrs end
+  pub operand_is : (e : Expr) (r : ℕ) (v : operands.Value) (instrs more : List Instr) (end : Term) → Operand code act names e r v instrs more → Remains code state.block state.at instrs end
       → (f : ℤ → Ran) (k : meaning.State → Result)
       → ((n : ℤ) → InRange n → (words : List Word) (beat : BeatState) (at : ℕ) → Keeps r state words beat → operand words v ≡ word.Int n → Remains code state.block at more end → (S.owing i (then (result (f n)) k)).Holds (moved state words beat at))
       → (S.owing i (then (result (given e st f)) k)).Holds state

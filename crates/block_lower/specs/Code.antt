@@ -1,17 +1,26 @@
 -- Which code is the code of a statement. It is said of what remains of a block: the code of a statement
 -- leads from some instructions with an end to others with an end, which are the code of what follows.
-use Rattle.std.specs.Prelude.{◌≡◌, ◌≢◌, ℕ, ◌+◌, ◌<◌, ◌≤◌, ℤ, pos, List, [], ◌∷◌, ◌++◌, length, Some, Vec}
+use Rattle.std.specs.Prelude.{◌≡◌, ◌≢◌, ℕ, zero, suc, ◌+◌, ◌<◌, ◌≤◌, ℤ, pos, List, [], ◌∷◌, ◌++◌, length, Some, None, Vec}
 use Rattle.std.specs.List.{AllByRecursion}
 use Rattle.std.specs.declared.alloc.Global.{Global}
 use Rattle.loop_syntax.specs.declared.Name.{Name}
 use Rattle.loop_syntax.specs.declared.Expr.{Expr}
 use Rattle.loop_syntax.specs.declared.Stmt.{Stmt}
-use Rattle.loop_syntax.specs.declared.Stmt.TheVariants.{Let, Set, If, While, Loop, Print}
+use Rattle.loop_syntax.specs.declared.ParLoop.{ParLoop}
+use Rattle.loop_syntax.specs.declared.App.{App}
+use Rattle.loop_syntax.specs.declared.Reduce.{Reduce}
+use Rattle.loop_syntax.specs.declared.Stmt.TheVariants.{Let, Set, Put, If, While, Loop, Par, Fold, Call, Both, Print, Emit}
 use Rattle.loop_rules.specs.Limits.{height}
+use Rattle.loop_rules.specs.Names.{operator_of}
 use Rattle.loop_meaning.specs.InRange.{InRange, ExprInRange}
+use Rattle.tp_value.specs.declared.limits.TheConstants.{MAX_PAR_LENGTH}
+use Rattle.tp_value.specs.declared.Op.{Op}
+use Rattle.tp_value.specs.declared.Op.TheVariants as op
 use Rattle.tp_value.specs.declared.Place.{Place}
+use Rattle.tp_value.specs.declared.TrapKind.TheVariants.{Index, Wide, Deep}
 use Rattle.tpal_syntax.specs.declared.blocks.Block.{Block}
-use Rattle.tpal_syntax.specs.declared.instructions.Alu.TheVariants.{Lt, Add}
+use Rattle.tpal_syntax.specs.declared.instructions.Alu.{Alu}
+use Rattle.tpal_syntax.specs.declared.instructions.Alu.TheVariants.{Lt, Le, Add, Sub, Mul, Min, Max, Affine}
 use Rattle.tpal_syntax.specs.declared.instructions.Instr.{Instr}
 use Rattle.tpal_syntax.specs.declared.instructions.Instr.TheVariants as instr
 use Rattle.tpal_syntax.specs.declared.instructions.Term.{Term}
@@ -22,10 +31,10 @@ use Rattle.tpal_syntax.specs.declared.notes.Note.TheVariants as note
 use Rattle.tpal_syntax.specs.Listing.{Listing}
 use Rattle.tpal_machine.specs.Reading.{block_at}
 use Rattle.expr_lower.specs.declared.scope.Scope.{Scope}
-use Rattle.expr_lower.specs.Bodies.{body_of, traps_of, literal}
-use Rattle.expr_lower.specs.Scopes.{IsIn, HasVariable, offset_of}
+use Rattle.expr_lower.specs.Bodies.{body_of, traps_of, trap_block, literal, range_tests}
+use Rattle.expr_lower.specs.Scopes.{IsIn, HasVariable, HasTable, offset_of, table_number}
 use Rattle.expr_lower.specs.Standing.{AreAt}
-use Rattle.block_lower.specs.Layout.{value_cell, bound_cell}
+use Rattle.block_lower.specs.Layout.{return_cell, levels_cell, value_cell, bound_cell, kept_cell, Entry, entry_of, Activation}
 use Rattle.block_lower.specs.Names.{Sees, names_after}
 
 -- the block at a label is not promotion-ready, and has these instructions and this end
@@ -55,13 +64,44 @@ abbrev pub step_up : ℕ → ℕ → List Instr → List Instr
 step_up counter level more =
     load counter (value_cell level) ∷ instr.Calc counter counter Add (value.Int (pos 1)) ∷ store (value_cell level) (value.Reg counter) ∷ more
 
--- The code of the statements of a program with these tables, in an activation with room for so many
--- variables.
-module _ (code : Listing) (tables : List (List ℕ)) (most : ℕ) where
+-- the operator that folds
+abbrev pub alu_of : Op → Alu
+alu_of op.Add = Add
+alu_of op.Mul = Mul
+alu_of op.Min = Min
+alu_of op.Max = Max
+alu_of op.Affine = Affine
+
+-- a cell of a table is set where it is one: the row, the column and the number are in three registers, and
+-- another one is for the tests
+abbrev pub put_tested : ℕ → ℕ → ℕ → ℕ → ℕ → ℕ → List Instr → List Instr
+put_tested table row col number test trap more = range_tests table row col test trap ++ instr.Put table row col number ∷ more
+
+-- The test of a `par` whose first number is in register 1 and whose bound, above it, is in register 0: their
+-- difference is negative where it is above the numbers of 64 bits.
+abbrev pub wide_test : ℕ → ℕ → List Instr
+wide_test wide again =
+    instr.Calc 2 0 Sub (value.Reg 1) ∷ instr.Calc 3 2 Lt (value.Int (pos 0)) ∷ instr.IfJump 3 wide ∷ instr.Calc 3 2 Le (value.Int (pos MAX_PAR_LENGTH)) ∷ instr.IfJump 3 again ∷ []
+
+-- the end of a call, where the arguments stand in the new activation: a tick, and a trap where no level is left
+abbrev pub call_test : ℕ → Place → List Instr
+call_test go place = instr.Tick ∷ load 0 levels_cell ∷ instr.IfJump 0 go ∷ instr.Trap Deep place ∷ []
+
+-- the callee's levels and its label to return to; its activation is the one that runs
+abbrev pub call_entry : ℕ → ℕ → List Instr
+call_entry size back =
+    instr.Calc 0 0 Sub (value.Int (pos 1)) ∷ store (size + levels_cell) (value.Reg 0) ∷ store (size + return_cell) (value.Label back) ∷ instr.Calc 31 31 Add (value.Int (pos size)) ∷ []
+
+-- behind a call the caller's activation runs again
+abbrev pub call_exit : ℕ → List Instr → List Instr
+call_exit size more = instr.Calc 31 31 Sub (value.Int (pos size)) ∷ more
+
+-- The code of the statements of main, or of a function, that stands on this.
+module _ (code : Listing) (act : Activation) where
   -- the code of an expression, which leaves its value in register `to`, and what stands behind it
   pub record Computes (names : List (List ℕ)) (e : Expr) (r : ℕ) (instrs more : List Instr) : Type 0 where
     pub scope : Scope
-    pub sees : Sees scope names tables
+    pub sees : Sees scope names act.tables
     pub inside : IsIn scope e
     pub low : r + height e ≤ 24
     pub ranged : ExprInRange e
@@ -77,75 +117,168 @@ module _ (code : Listing) (tables : List (List ℕ)) (most : ℕ) where
   -- the cell of a variable that is none of those at the fixed levels
   pub record IsCell (names : List (List ℕ)) (fixed : List ℕ) (x : List ℕ) (cell : ℕ) : Type 0 where
     pub scope : Scope
-    pub sees : Sees scope names tables
+    pub sees : Sees scope names act.tables
     pub inside : HasVariable scope x
     pub is : cell ≡ offset_of scope x
     pub level : ℕ
     pub at_level : cell ≡ value_cell level
-    pub below : level < most
+    pub below : level < act.most
     pub free : AllByRecursion (λ j. j ≢ level) fixed
 
+  -- the number of a table
+  pub record IsTable (names : List (List ℕ)) (t : List ℕ) (number : ℕ) : Type 0 where
+    pub scope : Scope
+    pub sees : Sees scope names act.tables
+    pub inside : HasTable scope t
+    pub is : number ≡ table_number scope t
+
+  -- so many cells are kept behind those of the variables
+  abbrev pub Keeps : ℕ → Type 0
+  Keeps n = kept_cell act n ≤ act.size
+
+  -- the code of arguments, from the one with a number on, which leaves the value of each in its cell
+  pub data Arguments (names : List (List ℕ)) (cell : ℕ → ℕ) : ℕ → List Expr → List Instr → List Instr → Type 0 where
+    no_argument : {i : ℕ} {instrs : List Instr} → Arguments names cell i [] instrs instrs
+    one_argument : {i : ℕ} {e : Expr} {es : List Expr} {v : Value} {instrs second more : List Instr}
+        → Operand names e 0 v instrs (store (cell i) v ∷ second)
+        → Arguments names cell (suc i) es second more
+        → Arguments names cell i (e ∷ es) instrs more
+
+  -- the cell of a parameter in the activation that begins behind this one
+  abbrev pub parameter_cell : ℕ → ℕ
+  parameter_cell i = act.size + value_cell i
+
+  -- kept numbers, from the first on, become arguments
+  abbrev pub passed : ℕ → ℕ → List Instr → List Instr
+  passed zero i more = more
+  passed (suc n) i more = load 0 (kept_cell act i) ∷ store (parameter_cell i) (value.Reg 0) ∷ passed n (suc i) more
+
+  -- a call of a function, whose arguments stand in its activation, from a tick on; behind it stands what
+  -- follows at its label
+  pub record Calls (place : Place) (entry : Entry) (instrs : List Instr) (end : Term) (back : List Instr) (last : Term) : Type 0 where
+    pub go : ℕ
+    pub return : ℕ
+    pub test : instrs ≡ call_test go place
+    pub stops : end ≡ term.Halt
+    pub enters : Opens code go (call_entry act.size return) (to entry.label)
+    pub behind : Opens code return (call_exit act.size back) last
+
   mutual
-    -- the code of a statement, where these variables are visible and those at the fixed levels are the
-    -- variables of loops, from some instructions and an end to others
-    pub data Code : List (List ℕ) → List ℕ → Stmt → List Instr → Term → List Instr → Term → Type 0 where
-      let_code : {names : List (List ℕ)} {fixed : List ℕ} {x : Name} {e : Expr} {v : Value} {instrs more : List Instr} {end : Term}
-          → length names < most
+    -- The code of a statement, where the nearest `par` round it reduces these, these variables are visible and
+    -- those at the fixed levels are the variables of loops: from some instructions and an end to others.
+    pub data Code : List Reduce → List (List ℕ) → List ℕ → Stmt → List Instr → Term → List Instr → Term → Type 0 where
+      let_code : {reduces : List Reduce} {names : List (List ℕ)} {fixed : List ℕ} {x : Name} {e : Expr} {v : Value} {instrs more : List Instr} {end : Term}
+          → length names < act.most
           → Operand names e 0 v instrs (store (value_cell (length names)) v ∷ more)
-          → Code names fixed (Let x e) instrs end more end
-      set_code : {names : List (List ℕ)} {fixed : List ℕ} {x : Name} {e : Expr} {v : Value} {cell : ℕ} {instrs more : List Instr} {end : Term}
+          → Code reduces names fixed (Let x e) instrs end more end
+      set_code : {reduces : List Reduce} {names : List (List ℕ)} {fixed : List ℕ} {x : Name} {e : Expr} {v : Value} {cell : ℕ} {instrs more : List Instr} {end : Term}
           → IsCell names fixed x.text.items cell
           → Operand names e 0 v instrs (store cell v ∷ more)
-          → Code names fixed (Set x e) instrs end more end
-      print_code : {names : List (List ℕ)} {fixed : List ℕ} {place : Place} {e : Expr} {instrs more : List Instr} {end : Term}
-          → Computes names e 0 instrs (instr.Print 0 ∷ more)
-          → Code names fixed (Print place e) instrs end more end
-      if_code : {names : List (List ℕ)} {fixed : List ℕ} {e : Expr} (body other : Vec Stmt Global) {first second exit : ℕ} {instrs more : List Instr} {end : Term}
+          → Code reduces names fixed (Set x e) instrs end more end
+      put_code : {reduces : List Reduce} {names : List (List ℕ)} {fixed : List ℕ} {t : Name} {a b e : Expr} {table trap : ℕ} {instrs second third more : List Instr} {end : Term}
+          → IsTable names t.text.items table
+          → Computes names a 0 instrs second
+          → Computes names b 1 second third
+          → Computes names e 2 third (put_tested table 0 1 2 3 trap more)
+          → AreAt code trap (trap_block trap Index t.place ∷ [])
+          → Code reduces names fixed (Put t a b e) instrs end more end
+      put_kept_code : {reduces : List Reduce} {names : List (List ℕ)} {fixed : List ℕ} {t : Name} {a b e : Expr} {table trap : ℕ} {instrs second third more : List Instr} {end : Term}
+          → Keeps 2
+          → IsTable names t.text.items table
+          → Computes names a 0 instrs (store (kept_cell act 0) (value.Reg 0) ∷ second)
+          → Computes names b 0 second (store (kept_cell act 1) (value.Reg 0) ∷ third)
+          → Computes names e 0 third (load 1 (kept_cell act 0) ∷ load 2 (kept_cell act 1) ∷ put_tested table 1 2 0 3 trap more)
+          → AreAt code trap (trap_block trap Index t.place ∷ [])
+          → Code reduces names fixed (Put t a b e) instrs end more end
+      if_code : {reduces : List Reduce} {names : List (List ℕ)} {fixed : List ℕ} {e : Expr} (body other : Vec Stmt Global) {first second exit : ℕ} {instrs more : List Instr} {end : Term}
           → Computes names e 0 instrs (instr.IfJump 0 first ∷ [])
-          → Branch names fixed body.items first exit
-          → Other names fixed other.items second exit
+          → Branch reduces names fixed body.items first exit
+          → Other reduces names fixed other.items second exit
           → Opens code exit more end
-          → Code names fixed (If e body other) instrs (to second) more end
-      while_code : {names : List (List ℕ)} {fixed : List ℕ} {e : Expr} (body : Vec Stmt Global) {again exit : ℕ} {instrs inner test more : List Instr} {last end : Term}
+          → Code reduces names fixed (If e body other) instrs (to second) more end
+      while_code : {reduces : List Reduce} {names : List (List ℕ)} {fixed : List ℕ} {e : Expr} (body : Vec Stmt Global) {again exit : ℕ} {instrs inner test more : List Instr} {last end : Term}
           → Computes names e 0 instrs (instr.IfJump 0 again ∷ [])
           → Opens code again (instr.Tick ∷ inner) last
-          → Codes names fixed body.items inner last test (to exit)
+          → Codes reduces names fixed body.items inner last test (to exit)
           → Computes names e 0 test (instr.IfJump 0 again ∷ [])
           → Opens code exit more end
-          → Code names fixed (While e body) instrs (to exit) more end
-      loop_code : {names : List (List ℕ)} {fixed : List ℕ} {x : Name} {a b : Expr} (body : Vec Stmt Global) {again exit : ℕ} {instrs second inner more : List Instr} {last end : Term}
-          → length names < most
+          → Code reduces names fixed (While e body) instrs (to exit) more end
+      loop_code : {reduces : List Reduce} {names : List (List ℕ)} {fixed : List ℕ} {x : Name} {a b : Expr} (body : Vec Stmt Global) {again exit : ℕ} {instrs second inner more : List Instr} {last end : Term}
+          → length names < act.most
           → Computes names a 0 instrs (store (value_cell (length names)) (value.Reg 0) ∷ second)
           → Computes names b 0 second (store (bound_cell (length names)) (value.Reg 0) ∷ load 1 (value_cell (length names)) ∷ below_test 1 (value.Reg 0) again)
           → Opens code again (instr.Tick ∷ inner) last
-          → Codes (names ++ x.text.items ∷ []) (length names ∷ fixed) body.items inner last (step_up 1 (length names) (load 0 (bound_cell (length names)) ∷ below_test 1 (value.Reg 0) again)) (to exit)
+          → Codes reduces (names ++ x.text.items ∷ []) (length names ∷ fixed) body.items inner last (step_up 1 (length names) (load 0 (bound_cell (length names)) ∷ below_test 1 (value.Reg 0) again)) (to exit)
           → Opens code exit more end
-          → Code names fixed (Loop x a b body) instrs (to exit) more end
-      loop_to_code : {names : List (List ℕ)} {fixed : List ℕ} {x : Name} {a b : Expr} (body : Vec Stmt Global) {n : ℤ} {again exit : ℕ} {instrs inner more : List Instr} {last end : Term}
-          → length names < most
+          → Code reduces names fixed (Loop x a b body) instrs (to exit) more end
+      loop_to_code : {reduces : List Reduce} {names : List (List ℕ)} {fixed : List ℕ} {x : Name} {a b : Expr} (body : Vec Stmt Global) {n : ℤ} {again exit : ℕ} {instrs inner more : List Instr} {last end : Term}
+          → length names < act.most
           → literal b ≡ Some n → InRange n
           → Computes names a 0 instrs (store (value_cell (length names)) (value.Reg 0) ∷ below_test 0 (value.Int n) again)
           → Opens code again (instr.Tick ∷ inner) last
-          → Codes (names ++ x.text.items ∷ []) (length names ∷ fixed) body.items inner last (step_up 0 (length names) (below_test 0 (value.Int n) again)) (to exit)
+          → Codes reduces (names ++ x.text.items ∷ []) (length names ∷ fixed) body.items inner last (step_up 0 (length names) (below_test 0 (value.Int n) again)) (to exit)
           → Opens code exit more end
-          → Code names fixed (Loop x a b body) instrs (to exit) more end
+          → Code reduces names fixed (Loop x a b body) instrs (to exit) more end
+      par_code : {reduces : List Reduce} {names : List (List ℕ)} {fixed : List ℕ} (l : ParLoop) {check wide again exit : ℕ} {instrs second inner more : List Instr} {last end : Term}
+          → length names < act.most
+          → Computes names l.from 0 instrs (store (value_cell (length names)) (value.Reg 0) ∷ second)
+          → Computes names l.to 0 second (store (bound_cell (length names)) (value.Reg 0) ∷ load 1 (value_cell (length names)) ∷ instr.Calc 2 1 Lt (value.Reg 0) ∷ instr.IfJump 2 check ∷ [])
+          → Opens code check (wide_test wide again) (to wide)
+          → AreAt code wide (trap_block wide Wide l.place ∷ [])
+          → Opens code again (instr.Tick ∷ inner) last
+          → Codes l.reduces.items (names ++ l.var.text.items ∷ []) (length names ∷ fixed) l.body.items inner last (step_up 1 (length names) (load 0 (bound_cell (length names)) ∷ below_test 1 (value.Reg 0) again)) (to exit)
+          → Opens code exit more end
+          → Code reduces names fixed (Par l) instrs (to exit) more end
+      fold_code : {reduces : List Reduce} {names : List (List ℕ)} {fixed : List ℕ} {x : Name} {e : Expr} {o : Op} {v : Value} {cell : ℕ} {instrs more : List Instr} {end : Term}
+          → operator_of reduces x.text.items ≡ Some o
+          → IsCell names fixed x.text.items cell
+          → Operand names e 0 v instrs (load 1 cell ∷ instr.Calc 1 1 (alu_of o) v ∷ store cell (value.Reg 1) ∷ more)
+          → Code reduces names fixed (Fold x e) instrs end more end
+      fold_nothing_code : {reduces : List Reduce} {names : List (List ℕ)} {fixed : List ℕ} {x : Name} {e : Expr} {instrs more : List Instr} {end : Term}
+          → operator_of reduces x.text.items ≡ None
+          → Computes names e 0 instrs more
+          → Code reduces names fixed (Fold x e) instrs end more end
+      call_code : {reduces : List Reduce} {names : List (List ℕ)} {fixed : List ℕ} {x : Name} {f : App} {entry : Entry} {cell : ℕ} {arguments test more : List Instr} {last end : Term}
+          → entry_of act.functions f.callee.text.items ≡ Some entry → length f.args.items ≡ entry.parameters
+          → IsCell names fixed x.text.items cell
+          → Arguments names parameter_cell 0 f.args.items arguments test
+          → Calls f.callee.place entry test last (store cell (value.Reg 0) ∷ more) end
+          → Code reduces names fixed (Call x f) (instr.Salloc entry.size ∷ arguments) last more end
+      both_code : {reduces : List Reduce} {names : List (List ℕ)} {fixed : List ℕ} {x y : Name} {f g : App} {first second : Entry} {x_cell y_cell : ℕ} {arguments others test_first test_second more : List Instr} {last half end : Term}
+          → Keeps 9
+          → entry_of act.functions f.callee.text.items ≡ Some first → length f.args.items ≡ first.parameters
+          → entry_of act.functions g.callee.text.items ≡ Some second → length g.args.items ≡ second.parameters
+          → IsCell names fixed x.text.items x_cell
+          → IsCell names fixed y.text.items y_cell
+          → length g.args.items ≤ 8
+          → Arguments names parameter_cell 0 f.args.items arguments others
+          → Arguments names (kept_cell act) 0 g.args.items others test_first
+          → Calls f.callee.place first test_first last (store (kept_cell act 8) (value.Reg 0) ∷ instr.Salloc second.size ∷ passed (length g.args.items) 0 test_second) half
+          → Calls g.callee.place second test_second half (load 1 (kept_cell act 8) ∷ store x_cell (value.Reg 1) ∷ store y_cell (value.Reg 0) ∷ more) end
+          → Code reduces names fixed (Both x f y g) (instr.Salloc first.size ∷ arguments) last more end
+      print_code : {reduces : List Reduce} {names : List (List ℕ)} {fixed : List ℕ} {place : Place} {e : Expr} {instrs more : List Instr} {end : Term}
+          → Computes names e 0 instrs (instr.Print 0 ∷ more)
+          → Code reduces names fixed (Print place e) instrs end more end
+      emit_code : {reduces : List Reduce} {names : List (List ℕ)} {fixed : List ℕ} {place : Place} {t : Name} {table : ℕ} {more : List Instr} {end : Term}
+          → IsTable names t.text.items table
+          → Code reduces names fixed (Emit place t) (instr.Emit table ∷ more) end more end
 
     -- the code of statements in order
-    pub data Codes : List (List ℕ) → List ℕ → List Stmt → List Instr → Term → List Instr → Term → Type 0 where
-      none : {names : List (List ℕ)} {fixed : List ℕ} {instrs : List Instr} {end : Term} → Codes names fixed [] instrs end instrs end
-      one_more : {names : List (List ℕ)} {fixed : List ℕ} {s : Stmt} {ss : List Stmt} {instrs middle more : List Instr} {end half last : Term}
-          → Code names fixed s instrs end middle half
-          → Codes (names_after names s) fixed ss middle half more last
-          → Codes names fixed (s ∷ ss) instrs end more last
+    pub data Codes : List Reduce → List (List ℕ) → List ℕ → List Stmt → List Instr → Term → List Instr → Term → Type 0 where
+      none : {reduces : List Reduce} {names : List (List ℕ)} {fixed : List ℕ} {instrs : List Instr} {end : Term} → Codes reduces names fixed [] instrs end instrs end
+      one_more : {reduces : List Reduce} {names : List (List ℕ)} {fixed : List ℕ} {s : Stmt} {ss : List Stmt} {instrs middle more : List Instr} {end half last : Term}
+          → Code reduces names fixed s instrs end middle half
+          → Codes reduces (names_after names s) fixed ss middle half more last
+          → Codes reduces names fixed (s ∷ ss) instrs end more last
 
     -- the block of a branch, and what goes on at the exit
-    pub data Branch : List (List ℕ) → List ℕ → List Stmt → ℕ → ℕ → Type 0 where
-      branch : {names : List (List ℕ)} {fixed : List ℕ} {body : List Stmt} {label exit : ℕ} {instrs : List Instr} {end : Term}
+    pub data Branch : List Reduce → List (List ℕ) → List ℕ → List Stmt → ℕ → ℕ → Type 0 where
+      branch : {reduces : List Reduce} {names : List (List ℕ)} {fixed : List ℕ} {body : List Stmt} {label exit : ℕ} {instrs : List Instr} {end : Term}
           → Opens code label instrs end
-          → Codes names fixed body instrs end [] (to exit)
-          → Branch names fixed body label exit
+          → Codes reduces names fixed body instrs end [] (to exit)
+          → Branch reduces names fixed body label exit
 
     -- a branch with no statements has no block
-    pub data Other : List (List ℕ) → List ℕ → List Stmt → ℕ → ℕ → Type 0 where
-      nothing : {names : List (List ℕ)} {fixed : List ℕ} {exit : ℕ} → Other names fixed [] exit exit
-      something : {names : List (List ℕ)} {fixed : List ℕ} {body : List Stmt} {label exit : ℕ} → Branch names fixed body label exit → Other names fixed body label exit
+    pub data Other : List Reduce → List (List ℕ) → List ℕ → List Stmt → ℕ → ℕ → Type 0 where
+      nothing : {reduces : List Reduce} {names : List (List ℕ)} {fixed : List ℕ} {exit : ℕ} → Other reduces names fixed [] exit exit
+      something : {reduces : List Reduce} {names : List (List ℕ)} {fixed : List ℕ} {body : List Stmt} {label exit : ℕ} → Branch reduces names fixed body label exit → Other reduces names fixed body label exit

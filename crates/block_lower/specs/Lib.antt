@@ -8,5 +8,7 @@ pub mod Layout
 pub mod Names
 -- which code is the code of a statement
 pub mod Code
--- which code is the code of a program's main
+-- which code is the code of a program
 pub mod Main
+-- what the code of a program owes
+pub mod Owing

@@ -1,0 +1,152 @@
+-- The scene of a function that is called: its activation stands above that of its caller, which goes on behind
+-- it. And what is owed by the functions of a code.
+use Rattle.std.proofs.Common.{◌≡◌, ℕ, zero, suc, ◌+◌, ◌-◌, ◌*◌, ◌<◌, ◌≤◌, ◌^◌, false, List, [], ◌∷◌, length, Option, Some, sym, ap, subst, ◌∙◌, arith, ⊎_elim}
+use Rattle.std.specs.Prelude.{ℤ, pos}
+use Rattle.std.proofs.lemmas.Bool.{cases_lt}
+use Rattle.beat_count.specs.BeatState.{BeatState}
+use Rattle.beat_count.specs.FuelState.{FuelState}
+use Rattle.slices.specs.Holding.{Holding}
+use Rattle.stack_marks.specs.Stacks.{StackValue, word_at, pushed, popped}
+use Rattle.tp_value.specs.declared.limits.TheConstants.{MAX_CALL_DEPTH, MAX_ACTIVATION_CELLS}
+use Rattle.loop_syntax.specs.declared.Func.{Func}
+use Rattle.loop_rules.specs.Names.{texts}
+use Rattle.loop_meaning.specs.InRange.{InRange}
+use Rattle.loop_meaning.specs.State as meaning
+use Rattle.loop_meaning.specs.Statements.{run_list}
+use Rattle.tpal_syntax.specs.declared.words.Word.{Word}
+use Rattle.tpal_syntax.specs.declared.words.Word.TheVariants as word
+use Rattle.tpal_syntax.specs.Listing.{Listing}
+use Rattle.tpal_machine.specs.declared.ends.Goal.{Goal}
+use Rattle.tpal_machine.specs.declared.ends.Tie.{Tie}
+use Rattle.tpal_machine.specs.Effect.{is_marked_from}
+use Rattle.tpal_machine.specs.Reading.{register}
+use Rattle.tpal_machine.specs.State as machine
+use Rattle.tpal_machine.proofs.Kit.{IsCalm}
+use Rattle.block_lower.specs.Layout.{return_cell, value_cell, Entry, entry_of, Activation}
+use Rattle.block_lower.specs.Main.{HasRoom, FunctionAt, AreFunctions}
+use Rattle.block_lower.proofs.Activations.{word_pushed, word_popped, word_above, popped_length, pushed_length, popped_pushed, clear_above}
+use Rattle.block_lower.proofs.Arguments.{wider}
+use Rattle.block_lower.proofs.Called.{with_value, value_then, body_set}
+use Rattle.block_lower.proofs.Choices.{OwedAt}
+use Rattle.block_lower.proofs.Scene.{Scene, Same, Shows, ShowsIn, Fin, result, then}
+use Rattle.block_lower.proofs.Variables.{AreHeld}
+use Rattle.loop_meaning.specs.declared.value.Variable.{Variable}
+
+-- ---- a caller whose stack has more cells on top
+
+pub same_popped : (z : ℕ) (may : ℕ → Type 0) (level n : ℕ) (s t : StackValue) → Same z may level s t → Same z may level (popped s n) (popped t n)
+same_popped z may level n s t same = record {
+  base = same.base;
+  size = popped_length t n ∙ (ap (λ k. k - n) same.size ∙ sym (popped_length s n));
+  marks = same.marks;
+  at = λ a lt others. ⊎_elim
+      (λ (low : a < s.base + (length s.cells - n)). word_popped t n a (omega (arith, low, same.base, same.size)) ∙ (same.at a lt others ∙ sym (word_popped s n a low)))
+      (λ (high : s.base + (length s.cells - n) ≤ a). word_above (popped t n) a (omega (arith, high, same.base, same.size, popped_length t n)) ∙ sym (word_above (popped s n) a (omega (arith, high, popped_length s n))))
+      (cases_lt a (s.base + (length s.cells - n)));
+}
+
+held_pushed : (s : StackValue) (z level n : ℕ) (vs : List Variable) → AreHeld s z level vs → AreHeld (pushed s n) z level vs
+held_pushed s z level n [] h = tt
+held_pushed s z level n (u ∷ us) h = (word_pushed s n (z + value_cell level) (word.Int u.value) h.0, h.1, held_pushed s z (suc level) n us h.2)
+
+module _ (code : Listing) (heartbeat z : ℕ) where
+  -- the same scene, of a task whose stack has so many cells more on top
+  abbrev pub under : Scene code heartbeat z → ℕ → Scene code heartbeat z
+  under S n = record {
+    World = S.World;
+    levels = S.levels;
+    owing = S.owing;
+    marks = S.marks;
+    goal = S.goal;
+    before = S.before;
+    since = S.since;
+    kept = λ i s. S.kept i (popped s n);
+    lowest = S.lowest;
+    may = S.may;
+    stable = λ i level s t low same k. S.stable i level (popped s n) (popped t n) low (same_popped z S.may level n s t same) k;
+    stops = S.stops;
+  }
+
+  pub shows_pushed : (act : Activation) (n fuel : ℕ) (S : Scene code heartbeat z) (i : S.World) (names : List (List ℕ)) (st : meaning.State) {words : List Word} {stack : StackValue} {holdings : List Holding} {spent : FuelState} {output : List ℕ} {goal : Goal} {pending : Option Tie}
+      → Shows code heartbeat z act fuel S i names st words stack holdings spent output goal pending → Shows code heartbeat z (wider act n) fuel (under S n) i names st words (pushed stack n) holdings spent output goal pending
+  shows_pushed act n fuel S i names st {stack = stack} h = record {
+    size = h.size;
+    base = h.base;
+    limit = h.limit;
+    ticks = h.ticks;
+    within = h.within;
+    begun = h.begun;
+    printed = h.printed;
+    ends = h.ends;
+    free = h.free;
+    marked = h.marked;
+    named = h.named;
+    few = h.few;
+    tabled = h.tabled;
+    held = h.held;
+    ranged = h.ranged;
+    levels = word_pushed stack n (z + 2) (word.Int (pos S.levels)) h.levels;
+    unmarked = clear_above stack.marks (z + act.size) (z + (act.size + n)) (omega arith) h.unmarked;
+    top = omega (arith, h.top, pushed_length stack n);
+    low = h.low;
+    room = omega (arith, h.room, pushed_length stack n);
+    vars = held_pushed stack z 0 n st.vars h.vars;
+    keeps = subst (λ (s : StackValue). S.kept i s) (sym (popped_pushed stack n)) h.keeps;
+  }
+
+-- ---- scenes of functions
+
+-- a stack is that of a caller below the activation of a function, whose first cell has the label to return to
+pub record Below (z back : ℕ) (s t : StackValue) : Type 0 where
+  pub base : t.base ≡ s.base
+  pub at : (a : ℕ) → a < z → word_at t (pos a) ≡ word_at s (pos a)
+  pub label : word_at t (pos (z + return_cell)) ≡ Some (word.Label back)
+
+pub below_same : (z back : ℕ) (may : ℕ → Type 0) (level : ℕ) (s t u : StackValue) → Same z may level t u → Below z back s t → Below z back s u
+below_same z back may level s t u same h = record {
+  base = same.base ∙ h.base;
+  at = λ a lt. same.at a (omega (arith, lt)) (λ x m q. absurd (omega (arith, lt, q))) ∙ h.at a lt;
+  label = same.at (z + return_cell) (omega arith) (λ x m q. absurd (omega (arith, q))) ∙ h.label;
+}
+
+module _ (code : Listing) (heartbeat fuel z : ℕ) (act : Activation) where
+  -- behind a function whose activation begins at z: where control returns, and what holds there once the
+  -- activation is gone and the function's value is in register 0
+  pub record Returns (C : Scene code heartbeat z) : Type 0 where
+    pub label : C.World → ℕ
+    pub calm : (w : C.World) → IsCalm code (label w)
+    pub held : (w : C.World) (s : StackValue) → C.kept w s → word_at s (pos (z + return_cell)) ≡ Some (word.Label (label w))
+    pub clear : (w : C.World) → is_marked_from (C.marks w) z ≡ false
+    pub goes_on : (w : C.World) (names : List (List ℕ)) (st : meaning.State) (state : machine.State) (n : ℤ) (beat : BeatState) → ShowsIn code heartbeat z act fuel C w names st state → InRange n → register state.registers 0 ≡ word.Int n
+        → (C.owing w (Fin (with_value n st))).Holds (record state { stack = popped state.stack act.size; beat = beat; block = label w; at = 0 })
+
+-- an activation has room for its variables, and the stack for it and for all that may be called from it
+pub record HasPlace (z : ℕ) (act : Activation) (levels : ℕ) : Type 0 where
+  pub has_room : HasRoom act
+  pub deep : z + suc (suc levels) * MAX_ACTIVATION_CELLS ≤ 2 ^ 62
+
+-- so it is with main's, where no call is open
+pub main_has_place : (act : Activation) → HasRoom act → HasPlace 0 act MAX_CALL_DEPTH
+main_has_place act has_room = record { has_room = has_room; deep = omega arith }
+
+module _ (code : Listing) (heartbeat fuel : ℕ) (tables : List (List ℕ)) (entries : List Entry) (fs : List Func) where
+  -- the activation of a function
+  abbrev pub activation_of : (x : List ℕ) (entry : Entry) → FunctionAt code tables entries fs x entry → Activation
+  activation_of x entry f = record { tables = tables; functions = entries; most = f.most; size = entry.size }
+
+  -- a function owes what its body and its result give, in every scene with so many levels of calls left, where it returns
+  abbrev pub FunctionOwes : (x : List ℕ) (entry : Entry) → FunctionAt code tables entries fs x entry → ℕ → Type 1
+  FunctionOwes x entry f room =
+      (z : ℕ) → HasPlace z (activation_of x entry f) room → (C : Scene code heartbeat z) → C.levels ≡ room → C.lowest ≡ 0 → ((y : ℕ) → C.may y) → Returns code heartbeat fuel z (activation_of x entry f) C
+      → OwedAt code heartbeat z (activation_of x entry f) fuel C (texts f.func.params.items) entry.label (λ st. then (result (run_list (body_set fs fuel room) f.func.body.items st)) (value_then f.func.result))
+
+  -- each function owes so, where calls have so many levels left
+  abbrev pub FunctionsOwe : AreFunctions code tables entries fs → ℕ → Type 1
+  FunctionsOwe are zero = Unit {1}
+  FunctionsOwe are (suc room) = (x : List ℕ) (entry : Entry) (is : entry_of entries x ≡ Some entry) → FunctionOwes x entry (are x entry is) room
+
+  -- what the code of statements takes from the functions, where so many levels of calls are left
+  pub record CallsOwe (room : ℕ) : Type 1 where
+    pub few : room ≤ MAX_CALL_DEPTH
+    pub are : AreFunctions code tables entries fs
+    pub owe : FunctionsOwe are room

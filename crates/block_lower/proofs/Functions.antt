@@ -1,0 +1,80 @@
+-- The functions of a code owe what their bodies and their results give, however many levels of calls are left.
+use Rattle.std.proofs.Common.{◌≡◌, ℕ, zero, suc, ◌+◌, ◌-◌, ◌≤◌, false, List, [], ◌∷◌, length, sym, subst, ◌∙◌, arith}
+use Rattle.std.specs.Prelude.{pos, slice_set}
+use Rattle.std.proofs.lemmas.List.{length-set}
+use Rattle.beat_count.specs.Heartbeat.{counted}
+use Rattle.stack_marks.specs.Stacks.{popped}
+use Rattle.tp_value.specs.declared.limits.TheConstants.{MAX_CALL_DEPTH}
+use Rattle.loop_syntax.specs.declared.Func.{Func}
+use Rattle.loop_rules.specs.Names.{texts}
+use Rattle.loop_meaning.specs.State.{done}
+use Rattle.loop_meaning.specs.Statements.{run_list}
+use Rattle.tpal_syntax.specs.declared.instructions.Instr.TheVariants as instr
+use Rattle.tpal_syntax.specs.declared.instructions.Term.TheVariants as term
+use Rattle.tpal_syntax.specs.declared.instructions.Value.TheVariants as value
+use Rattle.tpal_syntax.specs.declared.words.Word.{Word}
+use Rattle.tpal_syntax.specs.declared.words.Word.TheVariants as word
+use Rattle.tpal_syntax.specs.Listing.{Listing}
+use Rattle.tpal_machine.specs.Effect as effect
+use Rattle.tpal_machine.specs.Effect.{is_marked_from}
+use Rattle.tpal_machine.specs.Reading.{with_register}
+use Rattle.tpal_machine.specs.State as machine
+use Rattle.tpal_machine.specs.Step.{advanced}
+use Rattle.tpal_machine.proofs.Kit.{Back, on_load, on_sfree, on_jump}
+use Rattle.expr_lower.specs.Leaving.{moved}
+use Rattle.expr_lower.specs.Standing.{Remains}
+use Rattle.expr_lower.proofs.Registers.{register_set, register_other}
+use Rattle.expr_lower.proofs.Standing.{next, behind, at_end}
+use Rattle.block_lower.specs.Code.{load}
+use Rattle.block_lower.specs.Layout.{return_cell, Entry, Activation}
+use Rattle.block_lower.specs.Main.{IsFunction, FunctionAt, AreFunctions}
+use Rattle.block_lower.specs.Names.{names_after_list}
+use Rattle.block_lower.proofs.Called.{with_value, value_then, body_set}
+use Rattle.block_lower.proofs.Callees.{Returns, FunctionOwes, FunctionsOwe, CallsOwe}
+use Rattle.block_lower.proofs.Choices.{enters}
+use Rattle.block_lower.proofs.Law.{codes_law}
+use Rattle.block_lower.proofs.Scene.{Scene, ShowsIn, Owed, Fin, result, then}
+use Rattle.block_lower.proofs.Showing.{shows_words}
+use Rattle.block_lower.proofs.Simple.{still_shows}
+use Rattle.block_lower.proofs.Values.{ExprLaw, computes}
+
+module _ (code : Listing) (heartbeat z : ℕ) (act : Activation) (fuel : ℕ) (expr_law : ExprLaw code heartbeat) (C : Scene code heartbeat z) (returns : Returns code heartbeat fuel z act C) where
+  -- behind the body of a function its result is left in register 0, and control returns
+  gives_value : (f : Func) (label : ℕ) (is : IsFunction code act f label) → Owed code heartbeat z act fuel C (names_after_list (texts f.params.items) f.body.items) is.last (term.Jump (value.Reg 1)) (value_then f.result)
+  gives_value f label is w st state shows stands =
+      computes code heartbeat z act fuel expr_law C w (names_after_list (texts f.params.items) f.body.items) st state shows f.result 0 is.last (load 1 return_cell ∷ instr.Sfree act.size ∷ []) (term.Jump (value.Reg 1)) is.value stands (λ n. done (with_value n st)) Fin
+      (λ n fits words beat at keeps is_n here.
+      let K : Back code heartbeat = C.owing w (Fin (with_value n st)) in
+      let one : machine.State = moved state words beat at in
+      let shows_one : ShowsIn code heartbeat z act fuel C w (names_after_list (texts f.params.items) f.body.items) st one = still_shows code heartbeat z act fuel C w (names_after_list (texts f.params.items) f.body.items) st state 0 words beat at shows keeps in
+      let back : Word = word.Label (returns.label w) in
+      let two : machine.State = with_register (advanced one) 1 back in
+      let shows_two : ShowsIn code heartbeat z act fuel C w (names_after_list (texts f.params.items) f.body.items) st two =
+      shows_words code heartbeat z act fuel C w shows_one (slice_set words 1 back) (length-set words 1 back) (register_other words 1 31 back (λ (q : 31 ≡ 1). absurd (omega (arith, q)))) in
+      let second : Remains code state.block (at + 1) (instr.Sfree act.size ∷ []) (term.Jump (value.Reg 1)) = behind code state.block at _ _ (term.Jump (value.Reg 1)) here in
+      let three : machine.State = effect.with_stack (advanced two) (popped state.stack act.size) in
+      let same : z ≡ state.stack.base + (length state.stack.cells - act.size) = omega (arith, shows.top, shows.low) in
+      on_load code heartbeat K one 1 31 return_cell (pos z) back (next code one _ _ (term.Jump (value.Reg 1)) here) shows_one.base (returns.held w state.stack shows.keeps)
+      (on_sfree code heartbeat K two act.size (next code two _ _ (term.Jump (value.Reg 1)) second) (omega (arith, shows.top, shows.low))
+      (subst (λ (a : ℕ). is_marked_from state.stack.marks a ≡ false) same (subst (λ ms. is_marked_from ms z ≡ false) (sym shows.marked) (returns.clear w)))
+      (on_jump code heartbeat K three (value.Reg 1) (returns.label w) (at_end code three (term.Jump (value.Reg 1)) (behind code state.block (at + 1) _ [] (term.Jump (value.Reg 1)) second)) (register_set words 1 back (omega (arith, shows_one.size))) (returns.calm w)
+      (returns.goes_on w (names_after_list (texts f.params.items) f.body.items) st two n (counted (counted (counted beat))) shows_two fits (register_other words 1 0 back (λ (q : 0 ≡ 1). absurd (omega (arith, q))) ∙ is_n)))))
+
+module _ (code : Listing) (heartbeat fuel : ℕ) (expr_law : ExprLaw code heartbeat) (tables : List (List ℕ)) (entries : List Entry) (fs : List Func) where
+  -- a function, where those that it calls owe what they give
+  pub function_law : (room : ℕ) → CallsOwe code heartbeat fuel tables entries fs room → (x : List ℕ) (entry : Entry) (f : FunctionAt code tables entries fs x entry) → FunctionOwes code heartbeat fuel tables entries fs x entry f room
+  function_law room calls x entry f z place C levels lowest may returns =
+      enters code heartbeat z act fuel C (texts f.func.params.items) entry.label f.is.instrs f.is.end (λ st. then (result (run_list (body_set fs fuel room) f.func.body.items st)) (value_then f.func.result)) f.is.begins
+      (codes_law code heartbeat z act fs fuel room expr_law calls place f.is.statements C levels (omega (arith, lowest)) (λ y free. may y) (value_then f.func.result) (gives_value code heartbeat z act fuel expr_law C returns f.func entry.label f.is))
+    where
+      act : Activation
+      act = record { tables = tables; functions = entries; most = f.most; size = entry.size }
+
+  -- all of them, by the levels of calls that are left
+  pub functions_owe : (are : AreFunctions code tables entries fs) (room : ℕ) → room ≤ MAX_CALL_DEPTH → FunctionsOwe code heartbeat fuel tables entries fs are room
+  functions_owe are zero few = tt
+  functions_owe are (suc room) few = λ x entry is. function_law room (record { few = omega (arith, few); are = are; owe = functions_owe are room (omega (arith, few)) }) x entry (are x entry is)
+
+  -- what the code of main's statements takes from them
+  pub calls_owe : (are : AreFunctions code tables entries fs) (room : ℕ) → room ≤ MAX_CALL_DEPTH → CallsOwe code heartbeat fuel tables entries fs room
+  calls_owe are room few = record { few = few; are = are; owe = functions_owe are room few }
