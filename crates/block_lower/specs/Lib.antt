@@ -10,5 +10,21 @@ pub mod Names
 pub mod Code
 -- which code is the code of a program
 pub mod Main
+-- how many blocks a statement adds, and how many variables it declares
+pub mod Sizes
+-- which expressions are low enough for the registers
+pub mod Heights
+-- how far a code that is being written has come, and what of it stands in a whole code
+pub mod Writing
+-- what the code of statements asks of them
+pub mod Fitting
+-- what the code of main's statements, or of a function's, stands on
+pub mod Bodies
+-- what is promised of writing the code of expressions and statements
+pub mod Lowering
+-- what is promised of writing the code of functions, of tables and of a program
+pub mod Programs
 -- what the code of a program owes
 pub mod Owing
+-- why a program has no code
+pub mod Refusing

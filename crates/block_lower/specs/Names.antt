@@ -11,11 +11,19 @@ abbrev pub AreLaid : ℕ → List (Vec ℕ Global × ℕ) → Type 0
 AreLaid level [] = ⊤
 AreLaid level (c ∷ cs) = (c.1 ≡ value_cell level) × AreLaid (suc level) cs
 
+-- the variables of a scope
+abbrev pub names_of : Scope → List (List ℕ)
+names_of scope = map (λ (c : Vec ℕ Global × ℕ). c.0.items) scope.cells.items
+
 -- a scope has just these variables and tables, in this order
 pub record Sees (scope : Scope) (names tables : List (List ℕ)) : Type 0 where
-  pub named : map (λ (c : Vec ℕ Global × ℕ). c.0.items) scope.cells.items ≡ names
+  pub named : names_of scope ≡ names
   pub laid : AreLaid 0 scope.cells.items
   pub listed : map (λ (t : Vec ℕ Global). t.items) scope.tables.items ≡ tables
+
+-- a scope has the same tables as before, and so many of the variables as told of those before
+abbrev pub SeesAfter : (List (List ℕ) → List (List ℕ)) → Scope → Scope → Type 0
+SeesAfter told old new = (names tables : List (List ℕ)) → Sees old names tables → Sees new (told names) tables
 
 -- the variables that are visible after a statement
 abbrev pub names_after : List (List ℕ) → Stmt → List (List ℕ)

@@ -1,0 +1,189 @@
+-- The code of a `loop` is written where that of its parts is.
+use Rattle.std.proofs.Common.{◌≡◌, ℕ, ◌+◌, List, [], ◌∷◌, ◌++◌, length, Some, Vec, refl, sym, ap, subst, ◌∙◌, arith}
+use Rattle.std.specs.Prelude.{ℤ, pos}
+use Rattle.std.specs.declared.alloc.Global.{Global}
+use Rattle.loop_syntax.specs.declared.Name.{Name}
+use Rattle.loop_syntax.specs.declared.Expr.{Expr}
+use Rattle.loop_syntax.specs.declared.ParLoop.{ParLoop}
+use Rattle.loop_syntax.specs.declared.Reduce.{Reduce}
+use Rattle.loop_syntax.specs.declared.Stmt.{Stmt}
+use Rattle.tp_value.specs.declared.limits.TheConstants.{MAX_PAR_LENGTH}
+use Rattle.tp_value.specs.declared.Place.{Place}
+use Rattle.tp_value.specs.declared.TrapKind.TheVariants.{Wide}
+use Rattle.loop_syntax.specs.declared.Stmt.TheVariants.{Loop, Par}
+use Rattle.loop_meaning.specs.InRange.{InRange}
+use Rattle.tpal_syntax.specs.declared.instructions.Alu.TheVariants.{Lt, Le, Sub}
+use Rattle.tpal_syntax.specs.declared.instructions.Instr.{Instr}
+use Rattle.tpal_syntax.specs.declared.instructions.Instr.TheVariants as instr
+use Rattle.tpal_syntax.specs.declared.instructions.Term.{Term}
+use Rattle.tpal_syntax.specs.declared.instructions.Value.TheVariants as value
+use Rattle.tpal_syntax.specs.Listing.{Listing}
+use Rattle.expr_lower.specs.declared.scope.Scope.{Scope}
+use Rattle.expr_lower.specs.Bodies.{literal, trap_block}
+use Rattle.expr_lower.specs.Standing.{AreAt}
+use Rattle.block_lower.specs.declared.body.Body.{Body}
+use Rattle.block_lower.specs.declared.output.Output.{Output}
+use Rattle.block_lower.specs.Bodies.{entries, activation}
+use Rattle.block_lower.specs.Code.{Opens, Computes, Code, loop_code, loop_to_code, par_code, Codes, to, store, load, below_test, step_up, wide_test}
+use Rattle.block_lower.specs.Fitting.{AllFit}
+use Rattle.block_lower.specs.Layout.{value_cell, bound_cell}
+use Rattle.block_lower.specs.Lowering.{WritesValue, WritesBelow, WritesStart, AreBounds, WritesBounds, WritesSome, WritesWide, Lowers, WithBody, IsBodyAt, LowersBody}
+use Rattle.block_lower.specs.Names.{Sees}
+use Rattle.block_lower.specs.Writing.{label, next_label, IsFresh, Pushes, Traps, Closes, Stands, Continues, Leads}
+use Rattle.block_lower.proofs.Fitting.{fit_of_vec}
+use Rattle.block_lower.proofs.Seeing.{as_long}
+use Rattle.block_lower.proofs.Writing.{pushed, trapped, closed_block, fresh_opens}
+
+-- ---- before the body
+
+pub start_written : (scope : Scope) (a : Expr) (n : ℤ) (again exit : ℕ) (old valued stores new : Output)
+    → WritesValue scope a 0 old valued → Pushes (store (value_cell (length scope.cells.items)) (value.Reg 0) ∷ []) valued stores → WritesBelow 0 (value.Int n) again exit stores new → WritesStart scope a n again exit old new
+start_written scope a n again exit old valued stores new writes push test code act names sees visible stands =
+    let behind : ℕ → List Instr = λ l. store (value_cell l) (value.Reg 0) ∷ below_test 0 (value.Int n) again in
+    let w : Leads code old (λ instrs end. (end ≡ to exit) × Computes code act names a 0 instrs (behind (length scope.cells.items))) =
+    writes code act names (behind (length scope.cells.items)) (to exit) sees visible
+    (pushed code valued stores (store (value_cell (length scope.cells.items)) (value.Reg 0) ∷ []) (below_test 0 (value.Int n) again) (to exit) push (test code stands)) in
+    subst (λ (l : ℕ). Leads code old (λ instrs end. (end ≡ to exit) × Computes code act names a 0 instrs (behind l))) (as_long scope names act.tables sees) w
+
+pub bounds_written : (scope : Scope) (a b : Expr) (old first stores second bounds new : Output)
+    → WritesValue scope a 0 old first → Pushes (store (value_cell (length scope.cells.items)) (value.Reg 0) ∷ []) first stores
+    → WritesValue scope b 0 stores second → Pushes (store (bound_cell (length scope.cells.items)) (value.Reg 0) ∷ []) second bounds
+    → Pushes (load 1 (value_cell (length scope.cells.items)) ∷ []) bounds new → WritesBounds scope a b old new
+bounds_written scope a b old first stores second bounds new one push two push_bound push_load code act names more last sees visible_a visible_b c =
+    let behind : ℕ → List Instr = λ l. store (bound_cell l) (value.Reg 0) ∷ load 1 (value_cell l) ∷ more in
+    let level : ℕ = length scope.cells.items in
+    let v : Leads code stores (λ instrs end. (end ≡ last) × Computes code act names b 0 instrs (behind level)) =
+    two code act names (behind level) last sees visible_b
+    (pushed code second bounds (store (bound_cell level) (value.Reg 0) ∷ []) (load 1 (value_cell level) ∷ more) last push_bound
+    (pushed code bounds new (load 1 (value_cell level) ∷ []) more last push_load c)) in
+    let w : Leads code old (λ instrs end. (end ≡ v.end) × Computes code act names a 0 instrs (store (value_cell level) (value.Reg 0) ∷ v.instrs)) =
+    one code act names (store (value_cell level) (value.Reg 0) ∷ v.instrs) v.end sees visible_a
+    (pushed code first stores (store (value_cell level) (value.Reg 0) ∷ []) v.instrs v.end push v.continues) in
+    let many : level ≡ length names = as_long scope names act.tables sees in
+    record {
+      instrs = w.instrs;
+      end = w.end;
+      continues = w.continues;
+      told = (
+        w.told.0 ∙ v.told.0,
+        record {
+          second = v.instrs;
+          from = subst (λ (l : ℕ). Computes code act names a 0 w.instrs (store (value_cell l) (value.Reg 0) ∷ v.instrs)) many w.told.1;
+          to = subst (λ (l : ℕ). Computes code act names b 0 v.instrs (behind l)) many v.told.1;
+        },
+      );
+    }
+
+-- ---- the loop
+
+-- the body with what stands behind it, and the begin of its block
+module _ (on : Body) (reduces : List Reduce) (scope : Scope) (x : Name) (body : List Stmt) (level again exit : ℕ) (start inner new : Output) (behind : ℕ → List Instr)
+    (long : level ≡ length scope.cells.items) (fresh_start : IsFresh start) (again_is : again ≡ label start) (lowers : LowersBody on reduces scope x.text.items body start inner)
+    (turn : (code : Listing) → Stands code new → Continues code inner (behind level) (to exit)) (fresh : IsFresh new) (exit_is : exit ≡ label new) where
+  -- what a code needs of the blocks of a loop behind its begin
+  record Round (code : Listing) (tables : List (List ℕ)) (names : List (List ℕ)) (fixed : List ℕ) (v : Vec Stmt Global) (more : List Instr) (last : Term) : Type 0 where
+    before : Stands code start
+    instrs : List Instr
+    half : Term
+    begins : Opens code again (instr.Tick ∷ instrs) half
+    codes : Codes code (activation on tables) reduces (names ++ x.text.items ∷ []) (length names ∷ fixed) v.items instrs half (behind (length names)) (to exit)
+    ends : Opens code exit more last
+
+  round : (code : Listing) (tables names : List (List ℕ)) (fixed : List ℕ) (v : Vec Stmt Global) (more : List Instr) (last : Term) → v.items ≡ body → Sees scope names tables
+      → AllFit tables (entries on.callees.items) on.most (names ++ x.text.items ∷ []) (length names ∷ fixed) v.items → Continues code new more last → Round code tables names fixed v more last
+  round code tables names fixed v more last is sees fits c =
+      let deeper : List (List ℕ) = names ++ x.text.items ∷ [] in
+      let b : IsBodyAt code (activation on tables) reduces deeper (length names ∷ fixed) body start (behind level) (to exit) =
+      lowers code tables names fixed (behind level) (to exit) sees (subst (λ (ss : List Stmt). AllFit tables (entries on.callees.items) on.most deeper (length names ∷ fixed) ss) is fits) (turn code c.closed) in
+      let with_vec : Codes code (activation on tables) reduces deeper (length names ∷ fixed) v.items b.instrs b.end (behind level) (to exit) =
+      subst (λ (ss : List Stmt). Codes code (activation on tables) reduces deeper (length names ∷ fixed) ss b.instrs b.end (behind level) (to exit)) (sym is) b.codes in
+      record {
+        before = b.before;
+        instrs = b.instrs;
+        half = b.end;
+        begins = subst (λ (l : ℕ). Opens code l (instr.Tick ∷ b.instrs) b.end) (sym again_is) b.opens;
+        codes = subst (λ (l : ℕ). Codes code (activation on tables) reduces deeper (length names ∷ fixed) v.items b.instrs b.end (behind l) (to exit)) (long ∙ as_long scope names tables sees) with_vec;
+        ends = subst (λ (l : ℕ). Opens code l more last) (sym exit_is) (fresh_opens code new more last fresh c);
+      }
+
+pub loop_to_written : (on : Body) (reduces : List Reduce) (scope : Scope) (x : Name) (a b : Expr) (n : ℤ) (body : List Stmt) (level again exit : ℕ) (old start inner new : Output) → literal b ≡ Some n → InRange n
+    → level ≡ length scope.cells.items → WritesStart scope a n again exit old start → IsFresh start → again ≡ label start → LowersBody on reduces scope x.text.items body start inner
+    → ((code : Listing) → Stands code new → Continues code inner (step_up 0 level (below_test 0 (value.Int n) again)) (to exit)) → IsFresh new → exit ≡ label new → WithBody body (λ v. Lowers on reduces scope (Loop x a b v) old new)
+loop_to_written on reduces scope x a b n body level again exit old start inner new is_literal in_n long starts fresh_start again_is lowers turn fresh exit_is v is code tables names fixed more last sees fits c =
+    let behind : ℕ → List Instr = λ l. step_up 0 l (below_test 0 (value.Int n) again) in
+    let q : Round on reduces scope x body level again exit start inner new behind long fresh_start again_is lowers turn fresh exit_is code tables names fixed v more last =
+    round on reduces scope x body level again exit start inner new behind long fresh_start again_is lowers turn fresh exit_is code tables names fixed v more last is sees (fit_of_vec tables (entries on.callees.items) on.most (names ++ x.text.items ∷ []) (length names ∷ fixed) v fits.3) c in
+    let w : Leads code old (λ instrs end. (end ≡ to exit) × Computes code (activation on tables) names a 0 instrs (store (value_cell (length names)) (value.Reg 0) ∷ below_test 0 (value.Int n) again)) =
+    starts code (activation on tables) names sees fits.1 q.before in
+    record {
+      instrs = w.instrs;
+      end = w.end;
+      continues = w.continues;
+      told = subst (λ (t : Term). Code code (activation on tables) reduces names fixed (Loop x a b v) w.instrs t more last) (sym w.told.0) (loop_to_code v fits.0 is_literal in_n w.told.1 q.begins q.codes q.ends);
+    }
+
+pub loop_written : (on : Body) (reduces : List Reduce) (scope : Scope) (x : Name) (a b : Expr) (body : List Stmt) (level again exit : ℕ) (old bounds start inner new : Output)
+    → level ≡ length scope.cells.items → WritesBounds scope a b old bounds → WritesBelow 1 (value.Reg 0) again exit bounds start → IsFresh start → again ≡ label start → LowersBody on reduces scope x.text.items body start inner
+    → ((code : Listing) → Stands code new → Continues code inner (step_up 1 level (load 0 (bound_cell level) ∷ below_test 1 (value.Reg 0) again)) (to exit)) → IsFresh new → exit ≡ label new → WithBody body (λ v. Lowers on reduces scope (Loop x a b v) old new)
+loop_written on reduces scope x a b body level again exit old bounds start inner new long starts test fresh_start again_is lowers turn fresh exit_is v is code tables names fixed more last sees fits c =
+    let behind : ℕ → List Instr = λ l. step_up 1 l (load 0 (bound_cell l) ∷ below_test 1 (value.Reg 0) again) in
+    let q : Round on reduces scope x body level again exit start inner new behind long fresh_start again_is lowers turn fresh exit_is code tables names fixed v more last =
+    round on reduces scope x body level again exit start inner new behind long fresh_start again_is lowers turn fresh exit_is code tables names fixed v more last is sees (fit_of_vec tables (entries on.callees.items) on.most (names ++ x.text.items ∷ []) (length names ∷ fixed) v fits.3) c in
+    let w : Leads code old (λ instrs end. (end ≡ to exit) × AreBounds code (activation on tables) names a b instrs (below_test 1 (value.Reg 0) again)) =
+    starts code (activation on tables) names (below_test 1 (value.Reg 0) again) (to exit) sees fits.1 fits.2 (test code q.before) in
+    record {
+      instrs = w.instrs;
+      end = w.end;
+      continues = w.continues;
+      told = subst (λ (t : Term). Code code (activation on tables) reduces names fixed (Loop x a b v) w.instrs t more last) (sym w.told.0) (loop_code v fits.0 w.told.1.from w.told.1.to q.begins q.codes q.ends);
+    }
+
+-- ---- `par`
+
+pub some_written : (check exit : ℕ) (old calc jumps new : Output) → Pushes (instr.Calc 2 1 Lt (value.Reg 0) ∷ []) old calc → Pushes (instr.IfJump 2 check ∷ []) calc jumps → Closes (to exit) jumps new → WritesSome check exit old new
+some_written check exit old calc jumps new first second close code stands =
+    pushed code old calc _ (instr.IfJump 2 check ∷ []) (to exit) first
+    (pushed code calc jumps (instr.IfJump 2 check ∷ []) [] (to exit) second (closed_block code jumps new (to exit) close stands))
+
+pub wide_written : (place : Place) (again : ℕ) (old calc first second traps new : Output) → IsFresh old → Pushes (instr.Calc 2 0 Sub (value.Reg 1) ∷ []) old calc
+    → Pushes (instr.Calc 3 2 Lt (value.Int (pos 0)) ∷ instr.IfJump 3 (next_label old) ∷ []) calc first
+    → Pushes (instr.Calc 3 2 Le (value.Int (pos MAX_PAR_LENGTH)) ∷ instr.IfJump 3 again ∷ []) first second
+    → Traps Wide place second traps → Closes (to (next_label old)) traps new → WritesWide place again old new
+wide_written place again old calc first second traps new fresh push_calc push_first push_second trap close code stands =
+    let wide : ℕ = next_label old in
+    let t : Continues code second [] (to wide) × AreAt code (next_label second) (trap_block (next_label second) Wide place ∷ []) =
+    trapped code second traps Wide place [] (to wide) trap (closed_block code traps new (to wide) close stands) in
+    let c : Continues code old (wide_test wide again) (to wide) =
+    pushed code old calc (instr.Calc 2 0 Sub (value.Reg 1) ∷ []) _ (to wide) push_calc
+    (pushed code calc first (instr.Calc 3 2 Lt (value.Int (pos 0)) ∷ instr.IfJump 3 wide ∷ []) _ (to wide) push_first
+    (pushed code first second (instr.Calc 3 2 Le (value.Int (pos MAX_PAR_LENGTH)) ∷ instr.IfJump 3 again ∷ []) [] (to wide) push_second t.0)) in
+    let here : wide ≡ label old + 1 = omega (arith, ap length fresh.traps) in
+    let there : next_label second ≡ label old + 1 =
+    omega (arith, ap length fresh.traps, ap length push_calc.blocks, ap length push_calc.traps, ap length push_first.blocks, ap length push_first.traps, ap length push_second.blocks, ap length push_second.traps) in (
+      c.closed,
+      subst (λ (l : ℕ). Opens code (label old) (wide_test l again) (to l)) here (fresh_opens code old (wide_test wide again) (to wide) fresh c),
+      subst (λ (l : ℕ). AreAt code l (trap_block l Wide place ∷ [])) there t.1,
+    )
+
+pub par_written : (on : Body) (reduces : List Reduce) (scope : Scope) (l : ParLoop) (level check again exit : ℕ) (old bounds start wide inner new : Output)
+    → level ≡ length scope.cells.items → WritesBounds scope l.from l.to old bounds → WritesSome check exit bounds start → check ≡ label start → WritesWide l.place again start wide
+    → IsFresh wide → again ≡ label wide → LowersBody on l.reduces.items scope l.var.text.items l.body.items wide inner
+    → ((code : Listing) → Stands code new → Continues code inner (step_up 1 level (load 0 (bound_cell level) ∷ below_test 1 (value.Reg 0) again)) (to exit)) → IsFresh new → exit ≡ label new → Lowers on reduces scope (Par l) old new
+par_written on reduces scope l level check again exit old bounds start wide inner new long starts test check_is length_test fresh_wide again_is lowers turn fresh exit_is code tables names fixed more last sees fits c =
+    let behind : ℕ → List Instr = λ n. step_up 1 n (load 0 (bound_cell n) ∷ below_test 1 (value.Reg 0) again) in
+    let q : Round on l.reduces.items scope l.var l.body.items level again exit wide inner new behind long fresh_wide again_is lowers turn fresh exit_is code tables names fixed l.body more last =
+    round on l.reduces.items scope l.var l.body.items level again exit wide inner new behind long fresh_wide again_is lowers turn fresh exit_is code tables names fixed l.body more last refl sees
+    (fit_of_vec tables (entries on.callees.items) on.most (names ++ l.var.text.items ∷ []) (length names ∷ fixed) l.body fits.3) c in
+    let t : Stands code start × Opens code (label start) (wide_test (label start + 1) again) (to (label start + 1)) × AreAt code (label start + 1) (trap_block (label start + 1) Wide l.place ∷ []) = length_test code q.before in
+    let some : List Instr = instr.Calc 2 1 Lt (value.Reg 0) ∷ instr.IfJump 2 check ∷ [] in
+    let w : Leads code old (λ instrs end. (end ≡ to exit) × AreBounds code (activation on tables) names l.from l.to instrs some) =
+    starts code (activation on tables) names some (to exit) sees fits.1 fits.2 (test code t.0) in
+    record {
+      instrs = w.instrs;
+      end = w.end;
+      continues = w.continues;
+      told = subst (λ (e : Term). Code code (activation on tables) reduces names fixed (Par l) w.instrs e more last) (sym w.told.0)
+          (par_code l fits.0 w.told.1.from w.told.1.to
+          (subst (λ (n : ℕ). Opens code n (wide_test (label start + 1) again) (to (label start + 1))) (sym check_is) t.1)
+          t.2 q.begins q.codes q.ends);
+    }

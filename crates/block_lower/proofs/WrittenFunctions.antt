@@ -1,0 +1,170 @@
+-- The code of functions is written where that of their statements and results is.
+use Rattle.std.proofs.Common.{◌≡◌, ℕ, zero, suc, ◌+◌, ◌<◌, ◌≤◌, List, [], ◌∷◌, ◌++◌, length, map, drop, get_or, Vec, refl, sym, ap, subst, ◌∙◌, arith, append_assoc, append-nil}
+use Rattle.std.specs.List.{AllByRecursion}
+use Rattle.std.proofs.lemmas.List.{drop_more}
+use Rattle.std.proofs.lemmas.List.Sums.{sum_by-cons}
+use Rattle.std.specs.declared.alloc.Global.{Global}
+use Rattle.loop_syntax.specs.declared.Func.{Func}
+use Rattle.loop_syntax.specs.declared.Name.{Name}
+use Rattle.loop_rules.specs.Names.{texts}
+use Rattle.tpal_syntax.specs.declared.blocks.Block.{Block}
+use Rattle.tpal_syntax.specs.declared.instructions.Instr.{Instr}
+use Rattle.tpal_syntax.specs.declared.instructions.Instr.TheVariants as instr
+use Rattle.tpal_syntax.specs.declared.instructions.Term.{Term}
+use Rattle.tpal_syntax.specs.declared.instructions.Term.TheVariants as term
+use Rattle.tpal_syntax.specs.declared.instructions.Value.TheVariants as value
+use Rattle.tpal_syntax.specs.Listing.{Listing}
+use Rattle.expr_lower.specs.declared.scope.Scope.{Scope}
+use Rattle.block_lower.specs.declared.body.Body.{Body}
+use Rattle.block_lower.specs.declared.body.Callee.{Callee}
+use Rattle.block_lower.specs.declared.output.Output.{Output}
+use Rattle.block_lower.specs.Bodies.{entry, entries, activation, HasRoomFor}
+use Rattle.block_lower.specs.Code.{Computes, Codes, load}
+use Rattle.block_lower.specs.Fitting.{AllFit}
+use Rattle.block_lower.specs.Layout.{return_cell, Entry, Activation}
+use Rattle.block_lower.specs.Lowering.{WritesValue, LowersAll}
+use Rattle.block_lower.specs.Main.{HasRoom, IsFunction}
+use Rattle.block_lower.specs.Names.{Sees, SeesAfter, names_after_list}
+use Rattle.block_lower.specs.Programs.{most_of, size_of, entry_at, entries_from, added_by_funcs, FuncIsSmall, FuncFitsIn, LowersFunc, AreWritten, LowersFuncs}
+use Rattle.block_lower.specs.Sizes.{added_by_func, kept_by_list}
+use Rattle.block_lower.specs.Writing.{label, next_label, IsFresh, Pushes, Closes, Stands, Continues, Leads}
+use Rattle.block_lower.proofs.Planning.{func_fits}
+use Rattle.block_lower.proofs.Writing.{pushed, closed_block, fresh_opens}
+
+-- ---- lists
+
+-- the next one and those behind it
+pub next_dropped : {X : Type 0} (xs : List X) (i : ℕ) (x : X) → i < length xs → x ≡ get_or xs i x → drop i xs ≡ x ∷ drop (i + 1) xs
+next_dropped {X} xs i x below is = drop_more xs i x below ∙ ap (λ (y : X). y ∷ drop (i + 1) xs) (sym is)
+
+pub holds_at : {X : Type 0} (P : X → Type 0) (xs : List X) (i : ℕ) (x : X) → i < length xs → x ≡ get_or xs i x → AllByRecursion P xs → P x
+holds_at P xs i x below is all = subst P (sym is) (from P xs i x below all)
+  where
+    from : {X : Type 0} (P : X → Type 0) (xs : List X) (i : ℕ) (d : X) → i < length xs → AllByRecursion P xs → P (get_or xs i d)
+    from P [] i d below all = absurd (omega arith)
+    from P (x ∷ xs) zero d below all = all.0
+    from P (x ∷ xs) (suc i) d below all = from P xs i d (omega arith) all.1
+
+-- ---- entries
+
+entries_more : (cs : List Callee) (c : Callee) → entries (cs ++ c ∷ []) ≡ entries cs ++ entry c ∷ []
+entries_more [] c = refl
+entries_more (d ∷ ds) c = ap (λ es. entry d ∷ es) (entries_more ds c)
+
+entry_same : (c : Callee) (label : ℕ) (f : Func) → c.name.items ≡ f.name.text.items → c.label ≡ label → c.parameters ≡ length f.params.items → c.size ≡ size_of f → entry c ≡ entry_at label f
+entry_same c label f name there many size = rw (name, there, many, size) refl
+
+-- the next callee has the next entry
+pub entries_next : (cs : List Callee) (c : Callee) (label added : ℕ) (f : Func) (rest : List Func) (all : List Entry) → c.name.items ≡ f.name.text.items → c.label ≡ label → c.parameters ≡ length f.params.items → c.size ≡ size_of f → added ≡ added_by_func f
+    → entries cs ++ entries_from label (f ∷ rest) ≡ all → entries (cs ++ c ∷ []) ++ entries_from (label + added) rest ≡ all
+entries_next cs c label added f rest all name there many size blocks listed =
+    let behind : List Entry = entries_from (label + added) rest in
+    ap (λ (es : List Entry). es ++ behind) (entries_more cs c) ∙ append_assoc (entries cs) (entry c ∷ []) behind ∙ ap (λ (e : Entry). entries cs ++ e ∷ behind) (entry_same c label f name there many size)
+    ∙ ap (λ (n : ℕ). entries cs ++ entry_at label f ∷ entries_from (label + n) rest) blocks ∙ listed
+
+-- ---- names
+
+pub texts_more : (xs : List Name) (x : Name) → texts (xs ++ x ∷ []) ≡ texts xs ++ x.text.items ∷ []
+texts_more [] x = refl
+texts_more (y ∷ ys) x = ap (λ ts. y.text.items ∷ ts) (texts_more ys x)
+
+pub sees_parameter : (before : List Name) (x : Name) (first middle new : Scope) → SeesAfter (λ names. names ++ texts before) first middle → SeesAfter (λ names. names ++ x.text.items ∷ []) middle new → SeesAfter (λ names. names ++ texts (before ++ x ∷ [])) first new
+sees_parameter before x first middle new all one names tables sees =
+    subst (λ (ns : List (List ℕ)). Sees new ns tables)
+    (append_assoc names (texts before) (x.text.items ∷ []) ∙ ap (λ ts. names ++ ts) (sym (texts_more before x)))
+    (one (names ++ texts before) tables (all names tables sees))
+
+pub sees_no_parameter : (scope : Scope) → SeesAfter (λ names. names ++ texts []) scope scope
+sees_no_parameter scope names tables sees = subst (λ (ns : List (List ℕ)). Sees scope ns tables) (sym (append-nil names)) sees
+
+-- a scope with no variable sees what another one with the same tables does
+pub sees_tables : (first scope : Scope) → first.cells.items ≡ [] → scope.cells.items ≡ [] → scope.tables ≡ first.tables → (tables : List (List ℕ)) → Sees first [] tables → Sees scope [] tables
+sees_tables first scope empty none same tables sees = record {
+  named = ap (λ (cs : List (Vec ℕ Global × ℕ)). map (λ (c : Vec ℕ Global × ℕ). c.0.items) cs) none;
+  laid = rw none tt;
+  listed = ap (λ (ts : Vec (Vec ℕ Global) Global). map (λ (t : Vec ℕ Global). t.items) ts.items) same ∙ sees.listed;
+}
+
+-- ---- a function
+
+pub room_of : (on : Body) (n : ℕ) (tables : List (List ℕ)) → HasRoomFor on n → HasRoom (activation on tables)
+room_of on n tables room = record { few = room.few; room = omega (arith, room.room); fits = room.fits }
+
+-- the activation of a function has room for its statements
+pub func_room : (on : Body) (f : Func) → FuncIsSmall f → on.most ≡ most_of f → on.size ≡ size_of f → HasRoomFor on (kept_by_list f.body.items)
+func_room on f small most size = record { few = rw most small.few; room = rw (most, size) (omega arith); fits = rw size (func_fits f small.few) }
+
+pub func_written : (on : Body) (scope declared after : Scope) (f : Func) (kept : ℕ) (old inner valued new : Output) → HasRoomFor on kept → length f.params.items ≤ on.most → IsFresh old
+    → SeesAfter (λ names. names ++ texts f.params.items) scope declared → LowersAll on [] declared f.body.items old inner → SeesAfter (λ names. names_after_list names f.body.items) declared after
+    → WritesValue after f.result 0 inner valued
+    → ((code : Listing) → Stands code new → Continues code valued (load 1 return_cell ∷ instr.Sfree on.size ∷ []) (term.Jump (value.Reg 1)))
+    → LowersFunc on scope f old new
+func_written on scope declared after f kept old inner valued new room params fresh declares all keeps writes returns code tables sees fits visible stands =
+    let names : List (List ℕ) = texts f.params.items in
+    let act : Activation = activation on tables in
+    let inside : Sees declared names tables = declares [] tables sees in
+    let tail : List Instr = load 1 return_cell ∷ instr.Sfree on.size ∷ [] in
+    let v : Leads code inner (λ instrs end. (end ≡ term.Jump (value.Reg 1)) × Computes code act (names_after_list names f.body.items) f.result 0 instrs tail) =
+    writes code act (names_after_list names f.body.items) tail (term.Jump (value.Reg 1)) (keeps names tables inside) visible (returns code stands) in
+    let b : Leads code old (λ instrs end. Codes code act [] names [] f.body.items instrs end v.instrs v.end) = all code tables names [] v.instrs v.end inside fits v.continues in (
+      b.continues.closed,
+      record {
+        has_room = room_of on kept tables room;
+        params = params;
+        instrs = b.instrs;
+        end = b.end;
+        last = v.instrs;
+        begins = fresh_opens code old b.instrs b.end fresh b.continues;
+        statements = subst (λ (t : Term). Codes code act [] names [] f.body.items b.instrs b.end v.instrs t) v.told.0 b.told;
+        value = v.told.1;
+      },
+    )
+
+-- the end of a function
+pub return_written : (size : ℕ) (old loads frees new : Output) → Pushes (load 1 return_cell ∷ []) old loads → Pushes (instr.Sfree size ∷ []) loads frees → Closes (term.Jump (value.Reg 1)) frees new
+    → (code : Listing) → Stands code new → Continues code old (load 1 return_cell ∷ instr.Sfree size ∷ []) (term.Jump (value.Reg 1))
+return_written size old loads frees new one two close code stands =
+    pushed code old loads (load 1 return_cell ∷ []) _ (term.Jump (value.Reg 1)) one
+    (pushed code loads frees (instr.Sfree size ∷ []) [] (term.Jump (value.Reg 1)) two (closed_block code frees new (term.Jump (value.Reg 1)) close stands))
+
+-- ---- functions one behind the other
+
+pub written_more : (code : Listing) (tables : List (List ℕ)) (functions : List Entry) (fs : List Func) (f : Func) (at : ℕ) → AreWritten code tables functions at fs
+    → IsFunction code (record { tables = tables; functions = functions; most = most_of f; size = size_of f }) f (at + added_by_funcs fs) → AreWritten code tables functions at (fs ++ f ∷ [])
+written_more code tables functions [] f at all is = (subst (λ (l : ℕ). IsFunction code (record { tables = tables; functions = functions; most = most_of f; size = size_of f }) f l) (omega arith) is, tt)
+written_more code tables functions (g ∷ gs) f at all is =
+    let there : at + added_by_funcs (g ∷ gs) ≡ at + added_by_func g + added_by_funcs gs = omega (arith, sum_by-cons added_by_func g gs) in (
+      all.0,
+      written_more code tables functions gs f (at + added_by_func g) all.1
+          (subst (λ (l : ℕ). IsFunction code (record { tables = tables; functions = functions; most = most_of f; size = size_of f }) f l) there is),
+    )
+
+fits_before : (tables : List (List ℕ)) (functions : List Entry) (fs gs : List Func) → AllByRecursion (FuncFitsIn tables functions) (fs ++ gs) → AllByRecursion (FuncFitsIn tables functions) fs
+fits_before tables functions [] gs all = tt
+fits_before tables functions (f ∷ fs) gs all = (all.0, fits_before tables functions fs gs all.1)
+
+fits_behind : (tables : List (List ℕ)) (functions : List Entry) (fs gs : List Func) → AllByRecursion (FuncFitsIn tables functions) (fs ++ gs) → AllByRecursion (FuncFitsIn tables functions) gs
+fits_behind tables functions [] gs all = all
+fits_behind tables functions (f ∷ fs) gs all = fits_behind tables functions fs gs all.1
+
+pub no_funcs_written : (functions : List Entry) (scope : Scope) (old : Output) → LowersFuncs functions scope [] old old
+no_funcs_written functions scope old code tables sees fits stands = (stands, tt)
+
+-- the label of the open block is that of the next one less one, where nothing is written in it
+pub fresh_label : (out : Output) → IsFresh out → next_label out ≡ label out + 1
+fresh_label out fresh = let none : length out.traps.items ≡ 0 = ap (λ (bs : List Block). length bs) fresh.traps in omega (arith, none)
+
+pub funcs_written : (on : Body) (first scope : Scope) (fs : List Func) (f : Func) (old middle new : Output) → on.most ≡ most_of f → on.size ≡ size_of f → first.cells.items ≡ [] → scope.cells.items ≡ [] → scope.tables ≡ first.tables
+    → IsFresh old → IsFresh middle → next_label middle ≡ next_label old + added_by_funcs fs
+    → LowersFuncs (entries on.callees.items) first fs old middle → LowersFunc on scope f middle new → LowersFuncs (entries on.callees.items) first (fs ++ f ∷ []) old new
+funcs_written on first scope fs f old middle new most size empty none same fresh fresh_middle labels all one code tables sees fits stands =
+    let own : FuncFitsIn tables (entries on.callees.items) f = (fits_behind tables (entries on.callees.items) fs (f ∷ []) fits).0 in
+    let w : Stands code middle × IsFunction code (activation on tables) f (label middle) =
+    one code tables (sees_tables first scope empty none same tables sees)
+    (subst (λ (n : ℕ). AllFit tables (entries on.callees.items) n (texts f.params.items) [] f.body.items) (sym most) own.fits) own.seen stands in
+    let v : Stands code old × AreWritten code tables (entries on.callees.items) (label old) fs = all code tables sees (fits_before tables (entries on.callees.items) fs (f ∷ []) fits) w.0 in
+    let there : label middle ≡ label old + added_by_funcs fs = omega (arith, labels, fresh_label old fresh, fresh_label middle fresh_middle) in
+    let act : ℕ → ℕ → Activation = λ m s. record { tables = tables; functions = entries on.callees.items; most = m; size = s } in
+    let at_most : IsFunction code (act (most_of f) on.size) f (label middle) = subst (λ (n : ℕ). IsFunction code (act n on.size) f (label middle)) most w.1 in
+    let at_size : IsFunction code (act (most_of f) (size_of f)) f (label middle) = subst (λ (n : ℕ). IsFunction code (act (most_of f) n) f (label middle)) size at_most in
+    (v.0, written_more code tables (entries on.callees.items) fs f (label old) v.1 (subst (λ (l : ℕ). IsFunction code (act (most_of f) (size_of f)) f l) there at_size))

@@ -1,0 +1,8 @@
+use Rattle.std.proofs.Common.{refl}
+use Rattle.block_lower.proofs.Keeping.{sees_left}
+use Rattle.block_lower.proofs.scope.leave.Goals as goal
+
+pub returns-clause-sees : goal.returns-clause-sees
+returns-clause-sees c =
+    sees_left c.args.scope.now (record { cells = c.truncate.new.self; tables = c.args.scope.now.tables; next_label = c.args.scope.now.next_label }) c.args.n
+    c.truncate.ensures.items refl

@@ -1,0 +1,6 @@
+use Rattle.std.proofs.Common.{◌≡◌, drop, max}
+use Rattle.block_lower.specs.Sizes.{kept_by_list}
+use Rattle.block_lower.proofs.sizes.+kept.Given as goal
+
+abbrev pub invariant-kept_by_list-loop-s : goal.invariant-kept_by_list-loop-s
+invariant-kept_by_list-loop-s l = max l.most (kept_by_list (drop l.s-index l.body)) ≡ kept_by_list l.body

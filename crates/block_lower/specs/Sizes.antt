@@ -1,0 +1,113 @@
+-- How many blocks a statement adds to a code, how many variables it declares, and how many values it keeps.
+use Rattle.std.specs.Prelude.{ℕ, ◌+◌, Bool, ◌&&◌, if◌then◌else◌, nat_le, max, List, [], ◌∷◌, length}
+use Rattle.std.specs.List.{sum_by}
+use Rattle.loop_syntax.specs.declared.Expr.{Expr}
+use Rattle.loop_syntax.specs.declared.Func.{Func}
+use Rattle.loop_syntax.specs.declared.Stmt.{Stmt, Row_of-Stmt, end_of-Stmt, more_of-Stmt}
+use Rattle.loop_syntax.specs.declared.Stmt.TheVariants.{Let, Set, Put, If', While', Loop', Par', Fold, Call, Both, Print, Emit}
+use Rattle.loop_syntax.specs.declared.TableDecl.{TableDecl}
+use Rattle.loop_syntax.specs.declared.TableDecl.TheVariants.{Input, Made}
+use Rattle.loop_rules.specs.Declarations.{declared_in}
+use Rattle.loop_rules.specs.Limits.{height}
+use Rattle.tp_value.specs.declared.limits.TheConstants.{MAX_EXPRESSION_HEIGHT}
+use Rattle.expr_lower.specs.Bodies.{trap_count}
+
+-- ---- blocks
+
+-- the trap blocks of expressions
+abbrev pub trap_counts : List Expr → ℕ
+trap_counts es = sum_by trap_count es
+
+-- the blocks that become closed between the begin of a statement and its end
+abbrev mutual
+  pub added : Stmt → ℕ
+  added (Let x e) = trap_count e
+  added (Set x e) = trap_count e
+  added (Put t a b e) = trap_count a + trap_count b + trap_count e + 1
+  added (If' e p body q other) = trap_count e + 1 + (added_by_all body + 1) + added_by_other other
+  added (While' e p body) = trap_count e + 1 + (added_by_all body + 1) + trap_count e
+  added (Loop' x a b p body) = trap_count a + trap_count b + 1 + (added_by_all body + 1)
+  added (Par' place x a b carry_place carries reduces p body) = trap_count a + trap_count b + 3 + (added_by_all body + 1)
+  added (Fold x e) = trap_count e
+  added (Call x f) = trap_counts f.args.items + 2
+  added (Both x f y g) = trap_counts f.args.items + trap_counts g.args.items + 4
+  added (Print place e) = trap_count e
+  added (Emit place t) = 0
+
+  pub added_by_all : {m : _} → Row_of-Stmt m → ℕ
+  added_by_all end_of-Stmt = 0
+  added_by_all (more_of-Stmt first rest) = added first + added_by_all rest
+
+  -- a second branch with no statements has no block
+  pub added_by_other : {m : _} → Row_of-Stmt m → ℕ
+  added_by_other end_of-Stmt = 0
+  added_by_other (more_of-Stmt first rest) = added first + added_by_all rest + 1
+
+abbrev pub added_by_list : List Stmt → ℕ
+added_by_list body = sum_by added body
+
+abbrev pub added_by_second : List Stmt → ℕ
+added_by_second [] = 0
+added_by_second (s ∷ ss) = added_by_list (s ∷ ss) + 1
+
+-- the blocks of a function
+abbrev pub added_by_func : Func → ℕ
+added_by_func f = added_by_list f.body.items + trap_count f.result + 1
+
+-- the trap blocks of the sizes of a table
+abbrev pub added_by_decl : TableDecl → ℕ
+added_by_decl (Input x) = 0
+added_by_decl (Made x a b) = trap_count a + trap_count b
+
+abbrev pub added_by_decls : List TableDecl → ℕ
+added_by_decls ds = sum_by added_by_decl ds
+
+-- ---- variables
+
+-- how many variables a statement declares
+abbrev pub declared : Stmt → ℕ
+declared s = length (declared_in s)
+
+abbrev pub declared_by_list : List Stmt → ℕ
+declared_by_list body = sum_by declared body
+
+-- ---- kept values
+
+-- whether an expression can leave its value in a register
+abbrev pub is_low_at : ℕ → Expr → Bool
+is_low_at r e = nat_le (r + height e) MAX_EXPRESSION_HEIGHT
+
+-- How many values a statement keeps in its activation while it computes others: the row and the column of a
+-- cell where there are no registers for them, and the arguments of the second of two calls, with the value of
+-- the first.
+abbrev mutual
+  pub kept : Stmt → ℕ
+  kept (Let x e) = 0
+  kept (Set x e) = 0
+  kept (Put t a b e) = if is_low_at 1 b && is_low_at 2 e then 0 else 2
+  kept (If' e p body q other) = max (kept_by_all body) (kept_by_all other)
+  kept (While' e p body) = kept_by_all body
+  kept (Loop' x a b p body) = kept_by_all body
+  kept (Par' place x a b carry_place carries reduces p body) = kept_by_all body
+  kept (Fold x e) = 0
+  kept (Call x f) = 0
+  kept (Both x f y g) = 9
+  kept (Print place e) = 0
+  kept (Emit place t) = 0
+
+  pub kept_by_all : {m : _} → Row_of-Stmt m → ℕ
+  kept_by_all end_of-Stmt = 0
+  kept_by_all (more_of-Stmt first rest) = max (kept first) (kept_by_all rest)
+
+abbrev pub kept_by_list : List Stmt → ℕ
+kept_by_list [] = 0
+kept_by_list (s ∷ ss) = max (kept s) (kept_by_list ss)
+
+-- the rows of a table that is made are kept where the columns need all registers
+abbrev pub kept_by_decl : TableDecl → ℕ
+kept_by_decl (Input x) = 0
+kept_by_decl (Made x a b) = if is_low_at 1 b then 0 else 1
+
+abbrev pub kept_by_decls : List TableDecl → ℕ
+kept_by_decls [] = 0
+kept_by_decls (d ∷ ds) = max (kept_by_decl d) (kept_by_decls ds)

@@ -1,0 +1,121 @@
+// A code that is being written.
+
+ghost use Rattle.std.specs.Prelude.{◌≡◌, ◌+◌, ◌<◌, ◌≤◌, ◌^◌, ◌++◌, ◌∷◌, [], length, OnOk};
+ghost use Rattle.expr_lower.specs.Bodies.{body_of, traps_of, trap_count};
+ghost use Rattle.loop_rules.specs.Limits.{height};
+ghost use Rattle.block_lower.specs.Lowering.{WritesValue};
+ghost use Rattle.block_lower.specs.Writing as writing;
+ghost use Rattle.block_lower.specs.Writing.{IsFresh, Pushes, Traps, Closes};
+
+use expr_lower::{Scope, Site, name_of, push_expr, push_trap};
+use loop_syntax::Expr;
+use std::alloc::Global;
+use std::mem;
+use tp_value::{Items, NoMemory, Place, TrapKind};
+use tpal_syntax::{Block, Instr, Note, Term};
+
+/// A code that is being written: its closed blocks, and an open one, which is the next of them. The
+/// trap blocks of the open block stand right behind it.
+#[derive(Drop)]
+pub struct Output {
+    /// The closed blocks, by their labels.
+    pub blocks: Vec<Block>,
+    /// The instructions of the open block so far.
+    pub body: Vec<Instr>,
+    /// The trap blocks behind the open block so far.
+    pub traps: Vec<Block>,
+}
+
+/// No closed block, and an open one with no instruction.
+pub fn no_output(alloc: Global) -> Output
+    ensures blocks { result.blocks.items ≡ [] }
+    ensures fresh { IsFresh result }
+{
+    Output {
+        blocks: Vec::new(alloc),
+        body: Vec::new(alloc),
+        traps: Vec::new(alloc),
+    }
+}
+
+/// The label of the open block.
+fn label(out: &Output) -> u32
+    requires { writing.label out.now < 2 ^ 32 }
+    ensures { result ≡ writing.label out.now }
+{
+    out.blocks.len() as u32
+}
+
+/// The label of the block that is opened when the open one is closed.
+pub fn next_label(out: &Output) -> u32
+    requires { writing.next_label out.now < 2 ^ 32 }
+    ensures { result ≡ writing.next_label out.now }
+{
+    (out.blocks.len() + 1 + out.traps.len()) as u32
+}
+
+/// Appends an instruction to the open block.
+pub fn push(out: &mut Output, instr: Instr) -> Result<(), NoMemory>
+    ensures pushed { OnOk result (Pushes (instr ∷ []) out.old out.new) }
+    ensures labels { OnOk result (writing.next_label out.new ≡ writing.next_label out.old) }
+{
+    out.body.push(instr)?;
+    Ok(())
+}
+
+/// Appends the instructions that leave an expression's value in register `to`, and its trap blocks.
+pub fn push_value(
+    alloc: Global,
+    out: &mut Output,
+    scope: &Scope,
+    expr: &Expr,
+    to: u8,
+) -> Result<(), NoMemory>
+    requires few_tables { length scope.now.tables.items ≤ 16 }
+    requires registers { to + height expr.now ≤ 24 }
+    requires labels { writing.next_label out.old + trap_count expr.now ≤ 65536 }
+    ensures blocks { OnOk result (out.new.blocks.items ≡ out.old.blocks.items) }
+    ensures body { OnOk result (out.new.body.items ≡ out.old.body.items ++ body_of scope.now (writing.next_label out.old) expr.now to) }
+    ensures traps { OnOk result (out.new.traps.items ≡ out.old.traps.items ++ traps_of (writing.next_label out.old) expr.now) }
+    ensures labels { OnOk result (writing.next_label out.new ≡ writing.next_label out.old + trap_count expr.now) }
+    ensures code { OnOk result (WritesValue scope.now expr.now to out.old out.new) }
+{
+    let first = label(out) + 1;
+    let site = Site { to, first };
+    push_expr(alloc, &mut out.body, &mut out.traps, expr, scope, site)?;
+    Ok(())
+}
+
+/// Appends a block that traps to those behind the open block. Its label was the next one.
+pub fn push_trap_block(
+    alloc: Global,
+    out: &mut Output,
+    kind: TrapKind,
+    place: Place,
+) -> Result<(), NoMemory>
+    requires { writing.next_label out.old ≤ 65536 }
+    ensures traps { OnOk result (Traps kind place out.old out.new) }
+    ensures labels { OnOk result (writing.next_label out.new ≡ writing.next_label out.old + 1) }
+{
+    let label = next_label(out);
+    push_trap(alloc, &mut out.traps, label, kind, place)?;
+    Ok(())
+}
+
+/// Closes the open block, with its trap blocks behind it, and opens the next one.
+pub fn close(alloc: Global, out: &mut Output, term: Term) -> Result<(), NoMemory>
+    requires { writing.next_label out.old ≤ 65536 }
+    ensures closed { OnOk result (Closes term out.old out.new) }
+    ensures labels { OnOk result (writing.next_label out.new ≡ writing.next_label out.old + 1) }
+{
+    let name = name_of(alloc, label(out))?;
+    let body = mem::replace(&mut out.body, Vec::new(alloc));
+    out.blocks.push(Block {
+        name: Items::new(name),
+        note: Note::Plain,
+        body: Items::new(body),
+        term,
+    })?;
+    out.blocks.append(&mut out.traps)?;
+    Ok(())
+}

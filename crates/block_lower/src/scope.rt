@@ -1,0 +1,31 @@
+// The variables that are visible while statements are lowered.
+
+ghost use Rattle.std.specs.Prelude.{◌≡◌, ◌<◌, ◌≤◌, ◌+◌, ◌++◌, ◌∷◌, [], take, length, OnOk};
+ghost use Rattle.block_lower.specs.Names.{SeesAfter};
+
+use crate::layout::value_cell;
+use expr_lower::Scope;
+use std::alloc::Global;
+use tp_value::NoMemory;
+
+/// Makes a variable visible, in the cell of its level.
+pub fn declare(alloc: Global, scope: &mut Scope, name: &[u8]) -> Result<(), NoMemory>
+    requires { length scope.old.cells.items < 200 }
+    ensures sees { OnOk result (SeesAfter (λ names. names ++ name.now ∷ []) scope.old scope.new) }
+    ensures cells { OnOk result (length scope.new.cells.items ≡ length scope.old.cells.items + 1) }
+    ensures tables { OnOk result (scope.new.tables ≡ scope.old.tables) }
+{
+    let cell = value_cell(scope.cells.len());
+    let copy = Vec::from_slice(alloc, name)?;
+    scope.cells.push((copy, cell))?;
+    Ok(())
+}
+
+/// Leaves the first variables visible.
+pub fn leave(scope: &mut Scope, n: usize)
+    ensures sees { SeesAfter (take n) scope.old scope.new }
+    ensures cells { length scope.new.cells.items ≤ n }
+    ensures tables { scope.new.tables ≡ scope.old.tables }
+{
+    scope.cells.truncate(n);
+}
