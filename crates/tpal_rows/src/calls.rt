@@ -29,7 +29,7 @@ fn programs_print(rt: HostRuntime) -> Result<(), Fail> {
 
 #[test]
 fn texts_are_refused_at_their_first_fault(rt: HostRuntime) -> Result<(), Fail> {
-    let cases: [(&str, &str, usize, &str, &str); 10] = [
+    let cases: [(&str, &str, usize, &str, &str); 9] = [
         ("main { print 1 @ 2; }", "", 0, "", "refused E1 at 1:16\n"),
         (
             "main { print 9223372036854775808; }",
@@ -51,7 +51,6 @@ fn texts_are_refused_at_their_first_fault(rt: HostRuntime) -> Result<(), Fail> {
             "refused E14 at 1:526\n",
         ),
         ("main { print x; }", "", 0, "", "refused E7 C1 at 1:14\n"),
-        ("main { let x = 1; }", "", 0, "", "refused E0 not built\n"),
     ];
     for (first, again, times, last, text) in cases {
         let source = repeated(rt.alloc(), first, again, times, last)?;

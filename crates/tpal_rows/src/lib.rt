@@ -7,11 +7,15 @@ mod calls;
 #[cfg(test)]
 mod compiling;
 #[cfg(test)]
+mod examples;
+#[cfg(test)]
 mod harness;
 #[cfg(test)]
 mod limits;
 #[cfg(test)]
 mod rules;
+#[cfg(test)]
+mod running;
 #[cfg(test)]
 mod tables;
 #[cfg(test)]

@@ -33,8 +33,7 @@ fn an_expression_above_its_height_breaks_a_limit(rt: HostRuntime) -> Result<(), 
 
 #[test]
 fn the_largest_output_is_written_in_pieces(rt: HostRuntime) -> Result<(), Fail> {
-    let source = repeated(rt.alloc(), "main {", "print 1;", 40_000, "}")?;
-    let called = run(rt.alloc(), &source)?;
+    let called = run(rt.alloc(), b"main { loop i in 0..40000 { print 1; } }")?;
     assert_eq!(rt; called.text.len(), 80_000);
     assert_eq!(rt; called.status, Status::Done);
     Ok(())

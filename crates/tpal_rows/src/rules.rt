@@ -139,22 +139,33 @@ fn the_other_rules_come_first(rt: HostRuntime) -> Result<(), Fail> {
 }
 
 #[test]
-fn what_breaks_no_rule_is_only_not_built(rt: HostRuntime) -> Result<(), Fail> {
+fn what_breaks_no_rule_runs(rt: HostRuntime) -> Result<(), Fail> {
     let cases = [
-        "main { let x = 1; print x; }",
-        "main { if 1 { let y = 1; } let y = 2; }",
-        "main { loop i in 0..2 { print i; } let i = 0; i = 1; }",
-        "fn f(a) { let x = 0; call x = g(a); return x; } fn g(b) { return b; } main { }",
-        "fn f(a, b, c, d, e, g, h, i) { return a; } main { }",
-        "table b[1][1]; table a[rows(b)][1]; main { }",
-        "table t[2][2]; main { par i in 0..2 carry t[i] { t[i][0] = i; } emit t; }",
-        "main { let s = 0; par i in 0..2 reduce s by add { fold s with i; } print s; }",
+        ("main { let x = 1; print x; }", "1\n"),
+        ("main { if 1 { let y = 1; } let y = 2; }", ""),
+        (
+            "main { loop i in 0..2 { print i; } let i = 0; i = 1; }",
+            "0\n1\n",
+        ),
+        (
+            "fn f(a) { let x = 0; call x = g(a); return x; } fn g(b) { return b; } main { }",
+            "",
+        ),
+        ("fn f(a, b, c, d, e, g, h, i) { return a; } main { }", ""),
+        ("table b[1][1]; table a[rows(b)][1]; main { }", ""),
+        (
+            "table t[2][2]; main { par i in 0..2 carry t[i] { t[i][0] = i; } emit t; }",
+            "0 0\n1 0\n",
+        ),
+        (
+            "main { let s = 0; par i in 0..2 reduce s by add { fold s with i; } print s; }",
+            "1\n",
+        ),
     ];
-    for source in cases {
-        assert!(rt;
-            refuses(rt.alloc(), source, "refused E0 not built\n")?,
-            "{source}"
-        );
+    for (source, text) in cases {
+        let called = run(rt.alloc(), source.as_bytes())?;
+        assert_eq!(rt; called.text.as_slice(), text.as_bytes(), "{source}");
+        assert_eq!(rt; called.status, Status::Done, "{source}");
     }
     Ok(())
 }

@@ -59,7 +59,7 @@ fn a_tables_text_is_refused_at_its_first_fault(rt: HostRuntime) -> Result<(), Fa
 
 #[test]
 fn the_program_is_refused_before_its_tables_text(rt: HostRuntime) -> Result<(), Fail> {
-    let cases: [(&str, &str); 5] = [
+    let cases: [(&str, &str); 4] = [
         ("main { print 1 @ 2; }", "refused E1 at 1:16\n"),
         ("main {", "refused E3 at 1:7\n"),
         ("main { print x; }", "refused E7 C1 at 1:14\n"),
@@ -67,7 +67,6 @@ fn the_program_is_refused_before_its_tables_text(rt: HostRuntime) -> Result<(), 
             "main { let s = 0; par i in 0..2 { s = 1; } }",
             "refused E8 C2 at 1:35\n",
         ),
-        ("main { let x = 1; }", "refused E0 not built\n"),
     ];
     for (source, text) in cases {
         assert!(&rt;

@@ -14,16 +14,16 @@ use Rattle.table_text.specs.TablesText.{TablesOf, FirstTableFault}
 use Rattle.table_text.specs.declared.fault.TableFault.{TableFault}
 use Rattle.tpal_tool.specs.declared.status.Status.{Status}
 use Rattle.tpal_tool.specs.declared.status.Status.TheVariants.{Done, Trap, OutOfFuel, Refused, NoMemory, ReadFault, WriteFault}
-use Rattle.tpal_tool.specs.Built.{IsBuilt}
-use Rattle.tpal_tool.specs.Lines.{tables_line, too_long_line}
-use Rattle.tpal_tool.specs.Owed.{RunOwes, faulty_tables, ran, CompilesTo, Owes, Owed, bad_words, too_long, refused, compiled, tables_too_long, AreTexts, IsTables, IsToldTables, IsFinal, Finished, Names, ReadFailed, program_failed, tables_failed, Ends, finished, read_failed, write_failed, no_memory, IsWritten, whole, failed, no_room, NamedRunOwes, long, fits}
+use Rattle.tpal_tool.specs.Inputs.{first_missing}
+use Rattle.tpal_tool.specs.Lines.{missing_line, tables_line, too_long_line}
+use Rattle.tpal_tool.specs.Owed.{RunOwes, faulty_tables, missing, ran, CompilesTo, Owes, Owed, bad_words, too_long, refused, compiled, tables_too_long, AreTexts, IsTables, IsToldTables, IsFinal, Finished, Names, ReadFailed, program_failed, tables_failed, Ends, finished, read_failed, write_failed, no_memory, IsWritten, whole, failed, no_room, NamedRunOwes, long, fits}
 use Rattle.tpal_tool.specs.Owed as owed
 use Rattle.tpal_tool.specs.Shelf.{HasRisen}
 use Rattle.tpal_tool.specs.Sink.{Appended}
 use Rattle.tpal_tool.specs.Verdict.{Refuses, Accepts, RefusesOnly, AcceptsOnly}
 use Rattle.tpal_tool.specs.Words.{Command, Run, Compile, program_name, tables_name}
-use Rattle.tpal_tool.proofs.Meanings.{meaning-is}
-use Rattle.tpal_tool.proofs.Trees.{built_program, meaning-tree}
+use Rattle.tpal_tool.proofs.TreeInputs.{missing_of_tree}
+use Rattle.tpal_tool.proofs.TreeMeanings.{meaning_of_tree}
 
 some_same : {A : Type 0} {a b : A} → Some a ≡ Some b → a ≡ b
 some_same {a = a} same = ap (λ o. unwrap_or o a) same
@@ -120,7 +120,8 @@ final-by_stop stops.NoFuel = tt
 
 RunOwes-final : {program : Program} {tables : List ℕ} {fuel : ℕ} {status : Status} {text : List ℕ} → RunOwes program tables fuel status text → IsFinal status
 RunOwes-final (faulty_tables fault first is text_is) = final is tt
-RunOwes-final {program = program} {fuel = fuel} (ran inputs are is text_is) = final is (final-by_stop (meaning program inputs fuel).stop)
+RunOwes-final (missing inputs name are misses is text_is) = final is tt
+RunOwes-final {program = program} {fuel = fuel} (ran inputs are complete is text_is) = final is (final-by_stop (meaning program inputs fuel).stop)
 
 Owes-final : {wanted : Option Command} {source tables : List ℕ} {status : Status} {text : List ℕ} → Owes wanted source tables status text → IsFinal status
 Owes-final (bad_words none is text_is) = final is tt
@@ -182,18 +183,34 @@ pub record ReadOneWay : Type 0 where
   pub one_fault : (text : List ℕ) (a b : TableFault) → FirstTableFault text a → FirstTableFault text b → a ≡ b
   pub not_both : (text : List ℕ) (tables : List Table) (fault : TableFault) → TablesOf text tables → FirstTableFault text fault → ⊥
 
+-- of one tables text, programs with one tree miss the same input first
+missed_too : ReadOneWay → (p q : Program) (tables : List ℕ) (a b : List Table) → program_of p ≡ program_of q → TablesOf tables a → TablesOf tables b → first_missing p.tables.items a ≡ first_missing q.tables.items b
+missed_too way p q tables a b same are are' =
+    missing_of_tree p q a same ∙ ap (first_missing q.tables.items) (way.one_list tables a b are are')
+
 -- what a run owes is one thing alone
-run_same : ReadOneWay → (p q : Program) (tables : List ℕ) (fuel : ℕ) (status status' : Status) (text text' : List ℕ) → (program_of p ≡ program_of q) × IsBuilt (program_of p) → RunOwes p tables fuel status text → RunOwes q tables fuel status' text' → (status ≡ status') × (text ≡ text')
+run_same : ReadOneWay → (p q : Program) (tables : List ℕ) (fuel : ℕ) (status status' : Status) (text text' : List ℕ) → program_of p ≡ program_of q → RunOwes p tables fuel status text → RunOwes q tables fuel status' text' → (status ≡ status') × (text ≡ text')
 run_same way p q tables fuel status status' text text' same (faulty_tables fault first is text_is) (faulty_tables fault' first' is' text_is') =
     let one : fault ≡ fault' = way.one_fault tables fault fault' first first' in
     (is ∙ sym is', text_is ∙ ap tables_line one ∙ sym text_is')
-run_same way p q tables fuel status status' text text' same (faulty_tables fault first is text_is) (ran inputs are is' text_is') =
+run_same way p q tables fuel status status' text text' same (faulty_tables fault first is text_is) (missing inputs name are misses is' text_is') =
     absurd (way.not_both tables inputs fault are first)
-run_same way p q tables fuel status status' text text' same (ran inputs are is text_is) (faulty_tables fault first is' text_is') =
+run_same way p q tables fuel status status' text text' same (faulty_tables fault first is text_is) (ran inputs are complete is' text_is') =
     absurd (way.not_both tables inputs fault are first)
-run_same way p q tables fuel status status' text text' same (ran inputs are is text_is) (ran inputs' are' is' text_is') =
+run_same way p q tables fuel status status' text text' same (missing inputs name are misses is text_is) (faulty_tables fault first is' text_is') =
+    absurd (way.not_both tables inputs fault are first)
+run_same way p q tables fuel status status' text text' same (missing inputs name are misses is text_is) (missing inputs' name' are' misses' is' text_is') =
+    let one : name ≡ name' = some_same (sym misses ∙ missed_too way p q tables inputs inputs' same are are' ∙ misses') in
+    (is ∙ sym is', text_is ∙ ap missing_line one ∙ sym text_is')
+run_same way p q tables fuel status status' text text' same (missing inputs name are misses is text_is) (ran inputs' are' complete is' text_is') =
+    absurd (some_none (sym complete ∙ sym (missed_too way p q tables inputs inputs' same are are') ∙ misses))
+run_same way p q tables fuel status status' text text' same (ran inputs are complete is text_is) (faulty_tables fault first is' text_is') =
+    absurd (way.not_both tables inputs fault are first)
+run_same way p q tables fuel status status' text text' same (ran inputs are complete is text_is) (missing inputs' name are' misses is' text_is') =
+    absurd (some_none (sym complete ∙ missed_too way p q tables inputs inputs' same are are' ∙ misses))
+run_same way p q tables fuel status status' text text' same (ran inputs are complete is text_is) (ran inputs' are' complete' is' text_is') =
     let one : inputs ≡ inputs' = way.one_list tables inputs inputs' are are' in
-    let meant : meaning p inputs fuel ≡ meaning q inputs' fuel = meaning-tree p q inputs fuel same.0 same.1 ∙ ap (λ list. meaning q list fuel) one in
+    let meant : meaning p inputs fuel ≡ meaning q inputs' fuel = meaning_of_tree p q inputs fuel same ∙ ap (λ list. meaning q list fuel) one in
     (is ∙ ap (status_of Done Trap OutOfFuel) meant ∙ sym is', text_is ∙ ap text_of meant ∙ sym text_is')
 
 module _ (wanted : Option Command) (told : List ℕ → Option (List ℕ)) (old new : Option (List ℕ)) (status : Status) where
@@ -309,7 +326,7 @@ module _ (wanted : Option Command) (told : List ℕ → Option (List ℕ)) (old 
           let fuel_is : fuel' ≡ fuel = ap (fuel_of_run 0) (some_same (sym also ∙ asked_is)) in
           let tree : program_of program ≡ program_of q = only.one_program program accepts_here in
           let mine_owes : RunOwes q f.tables fuel status mine = subst (λ (n : ℕ). RunOwes q f.tables n status mine) fuel_is owes in
-          let one : (other ≡ status) × (text ≡ mine) = run_same way program q f.tables fuel other status text mine (tree, accepts_here.built) owes_here mine_owes in
+          let one : (other ≡ status) × (text ≡ mine) = run_same way program q f.tables fuel other status text mine tree owes_here mine_owes in
           (sym one.0, wrote (sym one.1) appended)
 
 -- ---- calls that meet no fault
@@ -327,18 +344,14 @@ module _ (wanted : Option Command) (told : List ℕ → Option (List ℕ)) (read
   unhurt command asked_is no_read no_write (write_failed is risen cut) = absurd (no_write risen)
   unhurt command asked_is no_read no_write (no_memory is cut) = inr is
 
-  -- a program that is built comes to its end
-  run_is_done : (program : Program) (inputs : List Table) (fuel : ℕ) → IsBuilt (program_of program) → status_of Done Trap OutOfFuel (meaning program inputs fuel) ≡ Done
-  run_is_done program inputs fuel built = ap (status_of Done Trap OutOfFuel) (meaning-is program inputs fuel (built_program program built))
-
-  pub runs-ends : ReadOneWay → Ends wanted told reads reads' old new writes writes' status → (name source tables : List ℕ) (over : Option (List ℕ)) (fuel : ℕ) (program : Program) (inputs : List Table) → wanted ≡ Some (Run name over fuel) → told name ≡ Some source → length source ≤ MAX_SOURCE_BYTES → Accepts source program → IsToldTables told over tables → length tables ≤ MAX_TABLES_BYTES → TablesOf tables inputs → ((read : List ℕ) → Names (Run name over fuel) read → HasRisen (reads read) (reads' read) → ⊥) → (HasRisen writes writes' → ⊥) → (status ≡ Done) ⊎ (status ≡ NoMemory)
-  runs-ends way ends name source tables over fuel program inputs asked_is told_is fits_it accepts tables_told few are no_read no_write =
+  pub runs-ends : ReadOneWay → Ends wanted told reads reads' old new writes writes' status → (name source tables : List ℕ) (over : Option (List ℕ)) (fuel : ℕ) (program : Program) (inputs : List Table) → wanted ≡ Some (Run name over fuel) → told name ≡ Some source → length source ≤ MAX_SOURCE_BYTES → Accepts source program → IsToldTables told over tables → length tables ≤ MAX_TABLES_BYTES → TablesOf tables inputs → first_missing program.tables.items inputs ≡ None → ((read : List ℕ) → Names (Run name over fuel) read → HasRisen (reads read) (reads' read) → ⊥) → (HasRisen writes writes' → ⊥) → (status ≡ status_of Done Trap OutOfFuel (meaning program inputs fuel)) ⊎ (status ≡ NoMemory)
+  runs-ends way ends name source tables over fuel program inputs asked_is told_is fits_it accepts tables_told few are complete no_read no_write =
       by (unhurt (Run name over fuel) asked_is no_read no_write ends)
     where
-      by : (Finished wanted told old new status) ⊎ (status ≡ NoMemory) → (status ≡ Done) ⊎ (status ≡ NoMemory)
+      by : (Finished wanted told old new status) ⊎ (status ≡ NoMemory) → (status ≡ status_of Done Trap OutOfFuel (meaning program inputs fuel)) ⊎ (status ≡ NoMemory)
       by (inl f) =
-          let owes : RunOwes program tables fuel (status_of Done Trap OutOfFuel (meaning program inputs fuel)) (text_of (meaning program inputs fuel)) = ran inputs are refl refl in
-          inl ((finished-ran wanted told old new status way f name source tables _ over fuel program _ asked_is told_is fits_it accepts tables_told few owes).0 ∙ run_is_done program inputs fuel accepts.built)
+          let owes : RunOwes program tables fuel (status_of Done Trap OutOfFuel (meaning program inputs fuel)) (text_of (meaning program inputs fuel)) = ran inputs are complete refl refl in
+          inl (finished-ran wanted told old new status way f name source tables _ over fuel program _ asked_is told_is fits_it accepts tables_told few owes).0
       by (inr is) = inr is
 
   pub compiles-ends : Ends wanted told reads reads' old new writes writes' status → (name source : List ℕ) (program : Program) → wanted ≡ Some (Compile name) → told name ≡ Some source → length source ≤ MAX_SOURCE_BYTES → Accepts source program → (HasRisen (reads name) (reads' name) → ⊥) → (HasRisen writes writes' → ⊥) → (status ≡ Done) ⊎ (status ≡ NoMemory)

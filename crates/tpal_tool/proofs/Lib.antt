@@ -2,24 +2,28 @@
 pub mod Appending
 -- a text that is written piece by piece
 pub mod Pieces
--- the instructions of a lowered program, and its code
-pub mod Instructions
--- positions in the block of a lowered program
-pub mod Execution
 -- a task that was given no join record is given none by its own steps
 pub mod Unrecorded
 -- the steps of a task to its end, and turns of so many steps
 pub mod CountedSteps
--- what instructions of expressions and prints come to
-pub mod Values
--- what a program that is built means, and what its code comes to
-pub mod Meanings
 -- how a call ends
 pub mod Endings
--- programs that are built, and their meaning, by their trees alone
-pub mod Trees
--- programs that are built break no rule
-pub mod Breaks
+-- the meaning of a program, by its tree alone
+pub mod TreeMeanings
+-- the number of blocks that a program is counted with, by its tree alone
+pub mod TreeBlocks
+-- the inputs that a program misses, by its tree alone
+pub mod TreeInputs
+-- the tables of a text have as many cells as they should, and numbers in range
+pub mod GivenTables
+-- tables that are taken out of the given ones, one by one
+pub mod TakenTables
+-- what is held of a table that was taken
+pub mod HeldTables
+-- the declared tables, one by one
+pub mod Declarations
+-- a program that breaks no rule gives its inputs different names
+pub mod DistinctNames
 -- a source text comes to one thing alone
 pub mod Soles
 -- numbers that digits spell

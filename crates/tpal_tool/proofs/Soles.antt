@@ -1,6 +1,7 @@
 -- A source text comes to one thing alone.
-use Rattle.std.proofs.Common.{◌≡◌, ◌≢◌, ℕ, List, ap, sym, ◌∙◌, subst}
+use Rattle.std.proofs.Common.{◌≡◌, ◌≢◌, ◌<◌, ◌≤◌, ℕ, List, ap, sym, ◌∙◌, subst, arith}
 use Rattle.std.specs.Prelude.{Some, None, Ok, Err, unwrap_or}
+use Rattle.tp_value.specs.declared.limits.TheConstants.{MAX_BLOCKS}
 use Rattle.tp_value.specs.declared.values.Place.{Place}
 use Rattle.loop_lex.specs.declared.token.Token.{Token}
 use Rattle.loop_lex.specs.declared.token.LexFault.{LexFault}
@@ -12,18 +13,17 @@ use Rattle.loop_parse.specs.Text.{Reads, TextFault, Byte, Range, Form, Deep, Fir
 use Rattle.tpal_tool.specs.declared.lines.SourceFault.{SourceFault}
 use Rattle.tpal_tool.specs.declared.lines.SourceFault.TheVariants as faults
 use Rattle.tpal_tool.specs.declared.reading.Reading.TheVariants.{Fault}
-use Rattle.tpal_tool.specs.Built.{IsBuilt, IsBuiltProgram}
-use Rattle.tpal_tool.specs.Lines.{fault_line, fault_of, not_built_line, parallel_line, rule_line}
+use Rattle.tpal_tool.specs.Lines.{blocks_line, fault_line, fault_of, parallel_line, rule_line}
 use Rattle.tpal_tool.specs.Reading.{lexing_of, IsOnlyReading, ReadsAs}
-use Rattle.tpal_tool.specs.Verdict.{Refuses, faulty, broken, broken_parallel, not_built, RefusesOnly, AcceptsOnly}
+use Rattle.tpal_tool.specs.Verdict.{Refuses, faulty, broken, broken_parallel, too_many_blocks, RefusesOnly, AcceptsOnly}
 use Rattle.loop_rules.specs.Resolving.{IsFirstBroken}
 use Rattle.loop_rules.specs.Unbroken.{IsResolved}
 use Rattle.loop_rules.proofs.Firsts.{first-tree, resolved-tree, firsts_agree, not_both}
 use Rattle.loop_check.specs.Checking as parallel
 use Rattle.loop_check.specs.Unbroken.{NoneBroken}
 use Rattle.loop_check.proofs.Firsts as parallels
-use Rattle.tpal_tool.proofs.Breaks.{built_unbroken, resolved_of}
-use Rattle.tpal_tool.proofs.Trees.{built_tree}
+use Rattle.block_lower.specs.Count.{blocks_of_program}
+use Rattle.tpal_tool.proofs.TreeBlocks.{blocks_of_tree}
 
 -- ---- faults of the lexer
 
@@ -91,31 +91,33 @@ lexing-alone source (faults.Deep p) fault is only = absurd (none_fault fault is)
 
 -- ---- verdicts
 
--- a program that is built
-pub accepted-only : (source : List ℕ) (p : Program) → ReadsAs source p → IsBuiltProgram p → AcceptsOnly source p
-accepted-only source p reads_as is_built =
-    let built : IsBuilt (program_of p) = built_tree p is_built in
-    record {
-      accepts = record { reads = reads_as.0; built = built };
-      one_program = λ other a. reads_as.1.0 (program_of other) a.reads;
-      not_refused = unrefused built;
-    }
-  where
-    unrefused : IsBuilt (program_of p) → (line : List ℕ) → Refuses source line → ⊥
-    unrefused built line (faulty fault first t) = reads_as.1.1 fault first
-    unrefused built line (broken program rule place reads first t) =
-        not_both p rule place (resolved_of p (built_unbroken p built)) (first-tree program p rule place (reads_as.1.0 (program_of program) reads) first)
-    unrefused built line (broken_parallel program rule place reads resolved first t) =
-        parallels.not_both p rule place (built_unbroken p built) (parallels.first-tree program p (reads_as.1.0 (program_of program) reads) rule place first)
-    unrefused built line (not_built program reads none unbuilt t) =
-        unbuilt (subst (λ (q : ProgramTree). IsBuilt q) (sym (reads_as.1.0 (program_of program) reads)) built)
+-- a program that breaks no rule at all breaks none of those on names, limits, output and variables of loops
+resolved_of : (p : Program) → NoneBroken p → IsResolved p
+resolved_of p none = record { unbroken = λ r place u h. none.unbroken r place h }
 
--- a program that isn't built
-pub not_built-only : (source : List ℕ) (p : Program) (line : List ℕ) → ReadsAs source p → NoneBroken p → (IsBuilt (program_of p) → ⊥) → line ≡ not_built_line → RefusesOnly source line
-not_built-only source p line reads_as none unbuilt is = record {
-  refuses = not_built p reads_as.0 none unbuilt is;
+-- a program that breaks no rule, and whose code has few enough blocks
+pub accepted-only : (source : List ℕ) (p : Program) → ReadsAs source p → NoneBroken p → blocks_of_program p ≤ MAX_BLOCKS → AcceptsOnly source p
+accepted-only source p reads_as none few = record {
+  accepts = record { reads = reads_as.0; unbroken = none; fits = few };
+  one_program = λ other a. reads_as.1.0 (program_of other) a.reads;
+  not_refused = unrefused;
+}
+  where
+    unrefused : (line : List ℕ) → Refuses source line → ⊥
+    unrefused line (faulty fault first t) = reads_as.1.1 fault first
+    unrefused line (broken program rule place reads first t) =
+        not_both p rule place (resolved_of p none) (first-tree program p rule place (reads_as.1.0 (program_of program) reads) first)
+    unrefused line (broken_parallel program rule place reads resolved first t) =
+        parallels.not_both p rule place none (parallels.first-tree program p (reads_as.1.0 (program_of program) reads) rule place first)
+    unrefused line (too_many_blocks program reads unbroken many t) =
+        omega (arith, few, many, blocks_of_tree program p (reads_as.1.0 (program_of program) reads))
+
+-- a program that breaks no rule, and whose code has too many blocks
+pub too_many-only : (source : List ℕ) (p : Program) (line : List ℕ) → ReadsAs source p → NoneBroken p → MAX_BLOCKS < blocks_of_program p → line ≡ blocks_line (blocks_of_program p) → RefusesOnly source line
+too_many-only source p line reads_as none many is = record {
+  refuses = too_many_blocks p reads_as.0 none many is;
   one_line = one;
-  not_accepted = λ program a. unbuilt (subst (λ (q : ProgramTree). IsBuilt q) (reads_as.1.0 (program_of program) a.reads) a.built);
+  not_accepted = λ program a. omega (arith, many, a.fits, blocks_of_tree program p (reads_as.1.0 (program_of program) a.reads));
 }
   where
     one : (other : List ℕ) → Refuses source other → other ≡ line
@@ -124,14 +126,15 @@ not_built-only source p line reads_as none unbuilt is = record {
         absurd (not_both p rule place (resolved_of p none) (first-tree program p rule place (reads_as.1.0 (program_of program) reads) first))
     one other (broken_parallel program rule place reads resolved first t) =
         absurd (parallels.not_both p rule place none (parallels.first-tree program p (reads_as.1.0 (program_of program) reads) rule place first))
-    one other (not_built program reads none_too unbuilt_too t) = t ∙ sym is
+    one other (too_many_blocks program reads unbroken more t) =
+        t ∙ ap blocks_line (blocks_of_tree program p (reads_as.1.0 (program_of program) reads)) ∙ sym is
 
 -- a program that breaks a rule on names, limits, output or variables of loops
 pub broken-only : (source : List ℕ) (p : Program) (rule : ℕ) (place : Place) (line : List ℕ) → ReadsAs source p → IsFirstBroken p rule place → line ≡ rule_line rule place → RefusesOnly source line
 broken-only source p rule place line reads_as first is = record {
   refuses = broken p rule place reads_as.0 first is;
   one_line = one;
-  not_accepted = λ program a. not_both p rule place (resolved-tree program p (reads_as.1.0 (program_of program) a.reads) (resolved_of program (built_unbroken program a.built))) first;
+  not_accepted = λ program a. not_both p rule place (resolved-tree program p (reads_as.1.0 (program_of program) a.reads) (resolved_of program a.unbroken)) first;
 }
   where
     one : (other : List ℕ) → Refuses source other → other ≡ line
@@ -141,7 +144,7 @@ broken-only source p rule place line reads_as first is = record {
         t ∙ ap (λ n. rule_line n place') same.0 ∙ ap (rule_line rule) same.1 ∙ sym is
     one other (broken_parallel program rule' place' reads resolved first' t) =
         absurd (not_both p rule place (resolved-tree program p (reads_as.1.0 (program_of program) reads) resolved) first)
-    one other (not_built program reads none unbuilt t) =
+    one other (too_many_blocks program reads none many t) =
         absurd (not_both p rule place (resolved-tree program p (reads_as.1.0 (program_of program) reads) (resolved_of program none)) first)
 
 -- a program that breaks a rule on parallel loops, and none of those
@@ -149,7 +152,7 @@ pub parallel-only : (source : List ℕ) (p : Program) (rule : ℕ) (place : Plac
 parallel-only source p rule place line reads_as resolved first is = record {
   refuses = broken_parallel p rule place reads_as.0 resolved first is;
   one_line = one;
-  not_accepted = λ program a. parallels.not_both p rule place (parallels.none-tree program p (reads_as.1.0 (program_of program) a.reads) (built_unbroken program a.built)) first;
+  not_accepted = λ program a. parallels.not_both p rule place (parallels.none-tree program p (reads_as.1.0 (program_of program) a.reads) a.unbroken) first;
 }
   where
     one : (other : List ℕ) → Refuses source other → other ≡ line
@@ -159,7 +162,7 @@ parallel-only source p rule place line reads_as resolved first is = record {
     one other (broken_parallel program rule' place' reads resolved' first' t) =
         let same : (rule' ≡ rule) × (place' ≡ place) = parallels.firsts_agree p rule' rule place' place (parallels.first-tree program p (reads_as.1.0 (program_of program) reads) rule' place' first') first in
         t ∙ ap (λ n. parallel_line n place') same.0 ∙ ap (parallel_line rule) same.1 ∙ sym is
-    one other (not_built program reads none unbuilt t) =
+    one other (too_many_blocks program reads none many t) =
         absurd (parallels.not_both p rule place (parallels.none-tree program p (reads_as.1.0 (program_of program) reads) none) first)
 
 -- a text with a fault
@@ -174,4 +177,4 @@ faulty-only source fault line first only is = record {
     one other (faulty found first' t) = t ∙ ap fault_line (only.0 found first') ∙ sym is
     one other (broken program rule place reads first' t) = absurd (only.1 (program_of program) reads)
     one other (broken_parallel program rule place reads resolved first' t) = absurd (only.1 (program_of program) reads)
-    one other (not_built program reads none unbuilt t) = absurd (only.1 (program_of program) reads)
+    one other (too_many_blocks program reads none many t) = absurd (only.1 (program_of program) reads)

@@ -3,10 +3,8 @@
 pub mod Shelf
 -- where bytes go: what a write appends
 pub mod Sink
--- the programs that are built so far
-pub mod Built
--- the instructions that a program becomes
-pub mod Lowered
+-- the inputs of a program, and the tables that a tables text gives
+pub mod Inputs
 -- the number of steps after which a task ends
 pub mod Steps
 -- the words of a call: what they ask for

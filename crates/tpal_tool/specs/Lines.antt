@@ -51,9 +51,13 @@ tables_line NoMemory = []
 abbrev pub too_long_line : List ℕ → List ℕ
 too_long_line name = codes "refused E15 file " ++ name ++ 10 ∷ []
 
--- a program that uses a form which isn't built yet
-abbrev pub not_built_line : List ℕ
-not_built_line = codes "refused E0 not built" ++ 10 ∷ []
+-- a program whose code may have this many blocks, which are too many
+abbrev pub blocks_line : ℕ → List ℕ
+blocks_line blocks = codes "refused E12 blocks " ++ decimal blocks ++ 10 ∷ []
+
+-- a declared input of this name, which the tables text doesn't give
+abbrev pub missing_line : List ℕ → List ℕ
+missing_line name = codes "refused E13 input " ++ name ++ 10 ∷ []
 
 -- words that are not of the form
 abbrev pub bad_words_line : List ℕ

@@ -9,12 +9,11 @@ use Rattle.table_text.specs.declared.fault.TableFault.{TableFault}
 use Rattle.table_text.specs.TablesText.{TablesOf, FirstTableFault}
 use Rattle.tpal_syntax.specs.Listing.{Listing}
 use Rattle.tpal_syntax.specs.Text.{CodeText}
-use Rattle.tpal_machine.specs.declared.ends.Ending.TheVariants as ending
-use Rattle.tpal_machine.specs.Serial.{OwesSerially}
-use Rattle.tpal_machine.specs.State.{first_state}
+use Rattle.block_lower.specs.Owing.{OwesMeaning}
 use Rattle.tpal_tool.specs.declared.status.Status.{Status}
 use Rattle.tpal_tool.specs.declared.status.Status.TheVariants.{Done, Trap, OutOfFuel, Refused, NoMemory, ReadFault, WriteFault, BadWords}
-use Rattle.tpal_tool.specs.Lines.{bad_words_line, tables_line, too_long_line}
+use Rattle.tpal_tool.specs.Inputs.{first_missing}
+use Rattle.tpal_tool.specs.Lines.{bad_words_line, missing_line, tables_line, too_long_line}
 use Rattle.tpal_tool.specs.Shelf.{HasRisen}
 use Rattle.tpal_tool.specs.Sink.{Appended, PrefixAppended}
 use Rattle.tpal_tool.specs.Verdict.{RefusesOnly, AcceptsOnly}
@@ -26,15 +25,17 @@ use Rattle.tpal_tool.specs.Words.{Command, Run, Compile, program_name, tables_na
 pub data RunOwes (program : Program) (tables : List ℕ) (fuel : ℕ) (status : Status) (text : List ℕ) : Type 0 where
   faulty_tables : (fault : TableFault) → FirstTableFault tables fault → status ≡ Refused → text ≡ tables_line fault →
       RunOwes program tables fuel status text
-  ran : (inputs : List Table) → TablesOf tables inputs → status ≡ status_of Done Trap OutOfFuel (meaning program inputs fuel) →
-      text ≡ text_of (meaning program inputs fuel) → RunOwes program tables fuel status text
+  missing : (inputs : List Table) (name : List ℕ) → TablesOf tables inputs → first_missing program.tables.items inputs ≡ Some name →
+      status ≡ Refused → text ≡ missing_line name → RunOwes program tables fuel status text
+  ran : (inputs : List Table) → TablesOf tables inputs → first_missing program.tables.items inputs ≡ None →
+      status ≡ status_of Done Trap OutOfFuel (meaning program inputs fuel) → text ≡ text_of (meaning program inputs fuel) →
+      RunOwes program tables fuel status text
 
 -- the text is that of a code whose first task owes the program's meaning, where nothing is diverted
 pub record CompilesTo (program : Program) (text : List ℕ) : Type 0 where
   pub code : Listing
   pub code_text : CodeText text code.tables code.blocks
-  pub owes : (inputs : List Table) (fuel heartbeat : ℕ) →
-      OwesSerially code heartbeat 0 (first_state [] fuel) (ending.Root (meaning program inputs fuel))
+  pub owes : OwesMeaning program code
 
 -- ---- what a call owes
 

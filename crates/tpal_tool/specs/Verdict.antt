@@ -1,5 +1,6 @@
 -- What a source text comes to.
-use Rattle.std.specs.Prelude.{◌≡◌, ℕ, List}
+use Rattle.std.specs.Prelude.{◌≡◌, ℕ, ◌<◌, ◌≤◌, List}
+use Rattle.tp_value.specs.declared.limits.TheConstants.{MAX_BLOCKS}
 use Rattle.tp_value.specs.declared.values.Place.{Place}
 use Rattle.loop_syntax.specs.declared.program.Program.{Program}
 use Rattle.loop_syntax.specs.Tree.{program_of}
@@ -8,10 +9,10 @@ use Rattle.loop_rules.specs.Resolving.{IsFirstBroken}
 use Rattle.loop_rules.specs.Unbroken.{IsResolved}
 use Rattle.loop_check.specs.Checking as parallel
 use Rattle.loop_check.specs.Unbroken.{NoneBroken}
+use Rattle.block_lower.specs.Count.{blocks_of_program}
 use Rattle.tpal_tool.specs.declared.judging.Verdict.{Verdict}
 use Rattle.tpal_tool.specs.declared.judging.Verdict.TheVariants.{Accepted, Refused}
-use Rattle.tpal_tool.specs.Built.{IsBuilt}
-use Rattle.tpal_tool.specs.Lines.{fault_line, not_built_line, parallel_line, rule_line}
+use Rattle.tpal_tool.specs.Lines.{blocks_line, fault_line, parallel_line, rule_line}
 
 -- a source text of at most the greatest length is refused with this line
 pub data Refuses (source : List ℕ) (line : List ℕ) : Type 0 where
@@ -20,13 +21,14 @@ pub data Refuses (source : List ℕ) (line : List ℕ) : Type 0 where
       line ≡ rule_line rule place → Refuses source line
   broken_parallel : (program : Program) (rule : ℕ) (place : Place) → Reads source (program_of program) → IsResolved program →
       parallel.IsFirstBroken program rule place → line ≡ parallel_line rule place → Refuses source line
-  not_built : (program : Program) → Reads source (program_of program) → NoneBroken program → (IsBuilt (program_of program) → ⊥) →
-      line ≡ not_built_line → Refuses source line
+  too_many_blocks : (program : Program) → Reads source (program_of program) → NoneBroken program → MAX_BLOCKS < blocks_of_program program →
+      line ≡ blocks_line (blocks_of_program program) → Refuses source line
 
--- a source text is that of this program, which is built
+-- a source text is that of this program, which breaks no rule and whose code has few enough blocks
 pub record Accepts (source : List ℕ) (program : Program) : Type 0 where
   pub reads : Reads source (program_of program)
-  pub built : IsBuilt (program_of program)
+  pub unbroken : NoneBroken program
+  pub fits : blocks_of_program program ≤ MAX_BLOCKS
 
 -- it is refused with this line, and in no other way
 pub record RefusesOnly (source : List ℕ) (line : List ℕ) : Type 0 where

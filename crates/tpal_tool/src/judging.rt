@@ -2,22 +2,23 @@
 
 ghost use Rattle.std.specs.Prelude.{ℕ, ◌≤◌, List, IfOk, length};
 ghost use Rattle.loop_rules.specs.Unbroken.{IsResolved};
+ghost use Rattle.loop_check.specs.Unbroken.{NoneBroken};
 ghost use Rattle.tpal_tool.specs.Reading.{ReadsAs};
 ghost use Rattle.tpal_tool.specs.Verdict.{IsVerdict};
 
-use crate::built::is_built;
-use crate::lines::{fault_line, not_built_line, parallel_line, rule_line};
+use crate::lines::{blocks_line, fault_line, parallel_line, rule_line};
 use crate::reading::{Reading, read_source};
+use block_lower::block_count;
 use loop_check::{Checked, check};
 use loop_rules::{Resolved, RuleFault, resolve};
 use loop_syntax::Program;
 use std::alloc::Global;
-use tp_value::{MAX_SOURCE_BYTES, NoMemory};
+use tp_value::{MAX_BLOCKS, MAX_SOURCE_BYTES, NoMemory};
 
 /// What a source text comes to.
 #[derive(Drop)]
 pub enum Verdict {
-    /// A program that breaks no rule and is built.
+    /// A program that breaks no rule, and whose code has few enough blocks.
     Accepted(Checked),
     /// The line with which the text is refused.
     Refused(Vec<u8>),
@@ -25,13 +26,18 @@ pub enum Verdict {
 
 /// The verdict on a program that breaks no rule.
 fn judge_checked(alloc: Global, program: Checked) -> Result<Verdict, NoMemory>
+    requires { NoneBroken program }
     ensures { (source : List ℕ) → ReadsAs source program → IfOk result (IsVerdict source) }
 {
-    if is_built(program.program()) {
-        Ok(Verdict::Accepted(program))
-    } else {
-        Ok(Verdict::Refused(not_built_line(alloc)?))
+    let blocks = block_count(&program);
+    if blocks <= MAX_BLOCKS as u64 {
+        return Ok(Verdict::Accepted(program));
     }
+    // The count stands still there, and no memory holds such a program.
+    if blocks == u64::MAX {
+        return Err(NoMemory);
+    }
+    Ok(Verdict::Refused(blocks_line(alloc, blocks)?))
 }
 
 /// The verdict on a program that breaks no rule on names, limits, output and variables of loops.

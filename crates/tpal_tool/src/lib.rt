@@ -6,11 +6,10 @@
 //! contract says what a call writes and answers; `specs/Owed.antt` has the definitions that it cites.
 #![tactic(auto)]
 
-mod built;
 mod files;
+mod inputs;
 mod judging;
 mod lines;
-mod lowering;
 mod outcome_text;
 mod reading;
 mod request;
@@ -35,5 +34,7 @@ pub use standard_output::OutSink;
 pub use status::Status;
 pub use tool::tpal;
 
+#[cfg(test)]
+mod input_tests;
 #[cfg(test)]
 mod outside_tests;

@@ -1,7 +1,7 @@
 // The lines of refusals.
 
 ghost use Rattle.std.specs.Prelude.{◌≡◌, ◌≢◌, IfOk};
-ghost use Rattle.tpal_tool.specs.Lines.{bad_words_line, fault_line, fault_of, line_at, line_at_byte, not_built_line, parallel_line, rule_line, tables_line, too_long_line};
+ghost use Rattle.tpal_tool.specs.Lines.{bad_words_line, blocks_line, fault_line, fault_of, line_at, line_at_byte, missing_line, parallel_line, rule_line, tables_line, too_long_line};
 
 use std::alloc::{AllocError, Global};
 use table_text::TableFault;
@@ -86,11 +86,22 @@ pub fn too_long_line(alloc: Global, name: &str) -> Result<Vec<u8>, AllocError>
     Ok(text.into_bytes())
 }
 
-/// The line of a program that uses a form which isn't built yet.
-pub fn not_built_line(alloc: Global) -> Result<Vec<u8>, AllocError>
-    ensures { IfOk result (λ line. line.items ≡ not_built_line) }
+/// The line of a program whose code may have `blocks` blocks, which are too many.
+pub fn blocks_line(alloc: Global, blocks: u64) -> Result<Vec<u8>, AllocError>
+    ensures { IfOk result (λ line. line.items ≡ blocks_line blocks) }
 {
-    Vec::from_slice(alloc, b"refused E0 not built\n")
+    let text = format!(in alloc; "refused E12 blocks {blocks}\n")?;
+    Ok(text.into_bytes())
+}
+
+/// The line of a declared input of that name, which the tables text doesn't give.
+pub fn missing_line(alloc: Global, name: &[u8]) -> Result<Vec<u8>, AllocError>
+    ensures { IfOk result (λ line. line.items ≡ missing_line name.now) }
+{
+    let mut line = Vec::from_slice(alloc, b"refused E13 input ")?;
+    line.extend_from_slice(name)?;
+    line.extend_from_slice(b"\n")?;
+    Ok(line)
 }
 
 /// The line of words that are not of the form.

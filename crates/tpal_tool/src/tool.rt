@@ -1,21 +1,26 @@
 // The top call.
 
-ghost use Rattle.std.specs.Prelude.{◌≡◌, ◌≢◌, ◌⊎◌, ◌↔◌, ℕ, ◌<◌, ◌≤◌, Option, List, [], IfOk, IfSome, Some, None, Err, IsSomeAnd, length, map, option_map, string_bytes};
-ghost use Rattle.tp_value.specs.declared.limits.TheConstants.{MAX_FUEL, MAX_SOURCE_BYTES, MAX_TABLES_BYTES};
+ghost use Rattle.std.specs.Prelude.{◌≡◌, ◌≢◌, ◌⊎◌, ◌↔◌, ℕ, ◌<◌, ◌≤◌, All, Option, List, [], IfOk, IfSome, Some, None, Err, IsSomeAnd, length, map, option_map, string_bytes};
+ghost use Rattle.tp_value.specs.declared.limits.TheConstants.{MAX_BLOCKS, MAX_FUEL, MAX_SOURCE_BYTES, MAX_TABLES_BYTES};
 ghost use Rattle.tp_value.specs.declared.values.Table.{Table};
 ghost use Rattle.loop_syntax.specs.declared.program.Program.{Program};
+ghost use Rattle.block_lower.specs.Count.{blocks_of_program};
+ghost use Rattle.block_lower.specs.Owing.{IsTable};
+ghost use Rattle.loop_meaning.specs.Answers.{status_of};
+ghost use Rattle.loop_meaning.specs.Meaning.{meaning};
 ghost use Rattle.table_text.specs.TablesText.{TablesOf};
 ghost use Rattle.tpal_tool.specs.Asking.{command_of};
-ghost use Rattle.tpal_tool.specs.Built.{IsBuiltProgram};
-ghost use Rattle.tpal_tool.specs.Lines.{bad_words_line, too_long_line};
+ghost use Rattle.tpal_tool.specs.Inputs.{first_missing};
+ghost use Rattle.tpal_tool.specs.Lines.{bad_words_line, missing_line, too_long_line};
 ghost use Rattle.tpal_tool.specs.Owed.{CompilesTo, CutShort, Ends, Finished, IsFinal, IsToldTables, IsWritten, NamedRunOwes, Names, Owed, ReadFailed, RunOwes};
 ghost use Rattle.tpal_tool.specs.Shelf.{HasRisen};
 ghost use Rattle.tpal_tool.specs.Sink.{Appended};
 ghost use Rattle.tpal_tool.specs.Verdict.{Accepts, Refuses};
 ghost use Rattle.tpal_tool.specs.Words.{Command, Run, Compile, asked, program_name, tables_name};
 
+use crate::inputs::first_missing;
 use crate::judging::{Verdict, judge};
-use crate::lines::{bad_words_line, tables_line, too_long_line};
+use crate::lines::{bad_words_line, missing_line, tables_line, too_long_line};
 use crate::outcome_text::text_of;
 use crate::request::{Request, RunRequest};
 use crate::running::{compile_program, run_program};
@@ -24,11 +29,11 @@ use crate::sink::{Sink, SinkFault};
 use crate::status::{Status, status_of};
 use crate::words::asked;
 use crate::writing::write_text;
-use loop_syntax::Program;
+use loop_check::Checked;
 use std::alloc::Global;
 use table_text::laws::text_is_read_one_way;
 use table_text::read_tables;
-use tp_value::{MAX_FUEL, MAX_SOURCE_BYTES, MAX_TABLES_BYTES, NoMemory};
+use tp_value::{MAX_FUEL, MAX_SOURCE_BYTES, MAX_TABLES_BYTES, NoMemory, Table};
 
 /// A status, and the text that is written with it.
 #[derive(Drop)]
@@ -54,8 +59,8 @@ fn too_long_answer(alloc: Global, name: &str) -> Result<Answer, NoMemory>
 }
 
 /// The answer that is the code of a program.
-fn compiled_answer(alloc: Global, program: &Program) -> Result<Answer, NoMemory>
-    requires { IsBuiltProgram program.now }
+fn compiled_answer(alloc: Global, program: &Checked) -> Result<Answer, NoMemory>
+    requires { blocks_of_program program.now ≤ MAX_BLOCKS }
     ensures status { IfOk result (λ answer. answer.status ≡ Status.Done) }
     ensures text { IfOk result (λ answer. CompilesTo program.now answer.text.items) }
 {
@@ -64,33 +69,63 @@ fn compiled_answer(alloc: Global, program: &Program) -> Result<Answer, NoMemory>
     Ok(Answer { status, text })
 }
 
-/// The answer that is what a program comes to.
-fn outcome_answer(alloc: Global, program: &Program, fuel: u64) -> Result<Answer, NoMemory>
-    requires built { IsBuiltProgram program.now }
+/// The answer that is what a program comes to over the given tables.
+fn outcome_answer(
+    alloc: Global,
+    program: &Checked,
+    given: Vec<Table>,
+    fuel: u64,
+) -> Result<Answer, NoMemory>
+    requires blocks { blocks_of_program program.now ≤ MAX_BLOCKS }
+    requires tables { All IsTable given.items }
+    requires complete { first_missing program.now.tables.items given.items ≡ None }
     requires fuel { fuel ≤ MAX_FUEL }
-    ensures { (tables : List ℕ) (inputs : List Table) → TablesOf tables inputs
+    ensures { (tables : List ℕ) → TablesOf tables given.items
         → IfOk result (λ answer. RunOwes program.now tables fuel answer.status answer.text.items) }
 {
-    let outcome = run_program(alloc, program, fuel)?;
+    let outcome = run_program(alloc, program, given, fuel)?;
     let status = status_of(outcome.stop);
     let text = text_of(alloc, outcome)?;
     Ok(Answer { status, text })
 }
 
+/// The answer to a run of a program over the tables of a text.
+fn given_answer(
+    alloc: Global,
+    program: &Checked,
+    given: Vec<Table>,
+    fuel: u64,
+) -> Result<Answer, NoMemory>
+    requires blocks { blocks_of_program program.now ≤ MAX_BLOCKS }
+    requires tables { All IsTable given.items }
+    requires fuel { fuel ≤ MAX_FUEL }
+    ensures { (tables : List ℕ) → TablesOf tables given.items
+        → IfOk result (λ answer. RunOwes program.now tables fuel answer.status answer.text.items) }
+{
+    match first_missing(&program.program().tables, &given) {
+        Some(name) => {
+            let text = missing_line(alloc, name)?;
+            let status = Status::Refused;
+            Ok(Answer { status, text })
+        }
+        None => outcome_answer(alloc, program, given, fuel),
+    }
+}
+
 /// The answer to a run of a program over a tables text.
 fn run_answer(
     alloc: Global,
-    program: &Program,
+    program: &Checked,
     tables: &[u8],
     fuel: u64,
 ) -> Result<Answer, NoMemory>
-    requires built { IsBuiltProgram program.now }
+    requires blocks { blocks_of_program program.now ≤ MAX_BLOCKS }
     requires tables { length tables.now ≤ MAX_TABLES_BYTES }
     requires fuel { fuel ≤ MAX_FUEL }
     ensures { IfOk result (λ answer. RunOwes program.now tables.now fuel answer.status answer.text.items) }
 {
     match read_tables(alloc, tables) {
-        Ok(_inputs) => outcome_answer(alloc, program, fuel),
+        Ok(given) => given_answer(alloc, program, given, fuel),
         Err(fault) => {
             let text = tables_line(alloc, fault)?;
             let status = Status::Refused;
@@ -120,12 +155,12 @@ impl From<NoMemory> for Silence {
 /// The answer to a run of a program, with the tables text of that name fetched from the shelf.
 fn fetched_run_answer<S: Shelf>(
     alloc: Global,
-    program: &Program,
+    program: &Checked,
     name: &str,
     fuel: u64,
     shelf: &mut S,
 ) -> Result<Answer, Silence>
-    requires built { IsBuiltProgram program.now }
+    requires blocks { blocks_of_program program.now ≤ MAX_BLOCKS }
     requires fuel { fuel ≤ MAX_FUEL }
     ensures answer { IfOk result (λ answer. NamedRunOwes program.now (S.text shelf.old) (Some name.now) fuel answer.status answer.text.items) }
     ensures read_failed { result ≡ Err Silence.ReadFailed → HasRisen (S.faults shelf.old name.now) (S.faults shelf.new name.now) }
@@ -141,11 +176,11 @@ fn fetched_run_answer<S: Shelf>(
 /// The answer to a run of a program, over the tables text of a name, or over the empty one.
 fn named_run_answer<S: Shelf>(
     alloc: Global,
-    program: &Program,
+    program: &Checked,
     run: RunRequest,
     shelf: &mut S,
 ) -> Result<Answer, Silence>
-    requires { IsBuiltProgram program.now }
+    requires { blocks_of_program program.now ≤ MAX_BLOCKS }
     ensures answer { IfOk result (λ answer. NamedRunOwes program.now (S.text shelf.old)
         (option_map (λ t. t.now) run.entry.tables) run.entry.fuel answer.status answer.text.items) }
     ensures read_failed { result ≡ Err Silence.ReadFailed
@@ -176,8 +211,8 @@ fn source_answer<S: Shelf>(
             Ok(Answer { status, text })
         }
         Verdict::Accepted(checked) => match request {
-            Request::Run(run) => named_run_answer(alloc, checked.program(), run, shelf),
-            Request::Compile(_) => Ok(compiled_answer(alloc, checked.program())?),
+            Request::Run(run) => named_run_answer(alloc, &checked, run, shelf),
+            Request::Compile(_) => Ok(compiled_answer(alloc, &checked)?),
         },
     }
 }
@@ -284,6 +319,13 @@ pub fn tpal<S: Shelf, K: Sink>(
         → MAX_TABLES_BYTES < length tables
         → (result ≡ Status.Refused) × Appended (K.written sink.old) (K.written sink.new) (too_long_line over) }
 
+    ensures missing { (name source tables input : List ℕ) (over : Option (List ℕ)) (fuel : ℕ) (program : Program) (inputs : List Table)
+        → IsFinal result
+        → asked (map string_bytes words.now) ≡ Some (Run name over fuel) → S.text shelf.old name ≡ Some source
+        → length source ≤ MAX_SOURCE_BYTES → Accepts source program → IsToldTables (S.text shelf.old) over tables
+        → length tables ≤ MAX_TABLES_BYTES → TablesOf tables inputs → first_missing program.tables.items inputs ≡ Some input
+        → (result ≡ Status.Refused) × Appended (K.written sink.old) (K.written sink.new) (missing_line input) }
+
     // A program that is accepted runs over its tables text, or is compiled.
     ensures ran { (name source tables text : List ℕ) (over : Option (List ℕ)) (fuel : ℕ) (program : Program) (status : Status)
         → IsFinal result
@@ -296,15 +338,15 @@ pub fn tpal<S: Shelf, K: Sink>(
         → length source ≤ MAX_SOURCE_BYTES → Accepts source program
         → result ≡ Status.Done }
 
-    // Words of the form, a program that is built, tables that are of the form, and no counted fault:
-    // done, or no memory.
+    // Words of the form, a program that is accepted, tables that are of the form and have each input,
+    // and no counted fault: as the program's meaning ends, or no memory.
     ensures runs { (name source tables : List ℕ) (over : Option (List ℕ)) (fuel : ℕ) (program : Program) (inputs : List Table)
         → asked (map string_bytes words.now) ≡ Some (Run name over fuel) → S.text shelf.old name ≡ Some source
         → length source ≤ MAX_SOURCE_BYTES → Accepts source program → IsToldTables (S.text shelf.old) over tables
-        → length tables ≤ MAX_TABLES_BYTES → TablesOf tables inputs
+        → length tables ≤ MAX_TABLES_BYTES → TablesOf tables inputs → first_missing program.tables.items inputs ≡ None
         → ((read : List ℕ) → Names (Run name over fuel) read → HasRisen (S.faults shelf.old read) (S.faults shelf.new read) → ⊥)
         → (HasRisen (K.faults sink.old) (K.faults sink.new) → ⊥)
-        → (result ≡ Status.Done) ⊎ (result ≡ Status.NoMemory) }
+        → (result ≡ status_of Status.Done Status.Trap Status.OutOfFuel (meaning program inputs fuel)) ⊎ (result ≡ Status.NoMemory) }
     ensures compiles { (name source : List ℕ) (program : Program)
         → asked (map string_bytes words.now) ≡ Some (Compile name) → S.text shelf.old name ≡ Some source
         → length source ≤ MAX_SOURCE_BYTES → Accepts source program

@@ -5,7 +5,7 @@ use Rattle.tpal_tool.specs.Owed.{ran}
 use Rattle.tpal_tool.proofs.tool.outcome_answer.Goals as goal
 
 pub returns : goal.returns
-returns c tables inputs are =
-    ran inputs are
-    (c.status_of-status.ensures ∙ ap (status_of Done Trap OutOfFuel) (c.in_ok-outcome.ensures inputs))
-    (c.in_ok-text.ensures ∙ ap text_of (c.in_ok-outcome.ensures inputs))
+returns c tables are =
+    ran c.args.given.items are c.requires.complete
+    (c.status_of-status.ensures ∙ ap (status_of Done Trap OutOfFuel) c.in_ok-outcome.ensures)
+    (c.in_ok-text.ensures ∙ ap text_of c.in_ok-outcome.ensures)

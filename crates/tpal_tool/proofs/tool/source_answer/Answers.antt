@@ -1,15 +1,12 @@
 use Rattle.std.proofs.Common.{◌≡◌, refl, sym, subst}
 use Rattle.std.specs.Prelude.{Some, IfOk, IfSome}
-use Rattle.loop_syntax.specs.declared.program.Program.{Program}
 use Rattle.tpal_tool.specs.declared.judging.Verdict.{Verdict}
 use Rattle.tpal_tool.specs.declared.request.Request.{Request}
 use Rattle.tpal_tool.specs.Asking.{command_of}
-use Rattle.tpal_tool.specs.Built.{IsBuiltProgram}
 use Rattle.tpal_tool.specs.Owed.{Owed, ReadFailed}
 use Rattle.tpal_tool.specs.Verdict.{IsVerdict, RefusesOnly, AcceptsOnly}
 use Rattle.tpal_tool.specs.Words.{program_name}
 use Rattle.tpal_tool.proofs.Endings.{ok_map, refused-owed, compiled-owed, run-owed, tables-failed}
-use Rattle.tpal_tool.proofs.Trees.{built_program}
 use Rattle.tpal_tool.proofs.tool.source_answer.Goals as goal
 
 pub returns-in-Refused-clause-answer : goal.returns-in-Refused-clause-answer
@@ -20,28 +17,26 @@ returns-in-Refused-clause-answer g c =
 pub named_run_answer-requires : goal.named_run_answer-requires
 named_run_answer-requires g c =
     let only : AcceptsOnly c.args.source.now c.in-Accepted.checked = subst (λ (v : Verdict). IsVerdict c.args.source.now v) c.in-Accepted.is c.in_ok-text.ensures in
-    subst (λ (p : Program). IsBuiltProgram p) (sym c.program.ensures.program) (built_program c.in-Accepted.checked only.accepts.built)
+    only.accepts.fits
 
 pub returns-in-Run-clause-answer : goal.returns-in-Run-clause-answer
 returns-in-Run-clause-answer g c =
-    let accepted : AcceptsOnly c.args.source.now c.in-Accepted.checked = subst (λ (v : Verdict). IsVerdict c.args.source.now v) c.in-Accepted.is c.in_ok-text.ensures in
-    let only : AcceptsOnly c.args.source.now c.program.result.now = subst (λ (p : Program). AcceptsOnly c.args.source.now p) (sym c.program.ensures.program) accepted in
+    let only : AcceptsOnly c.args.source.now c.in-Accepted.checked = subst (λ (v : Verdict). IsVerdict c.args.source.now v) c.in-Accepted.is c.in_ok-text.ensures in
     let told = subst (λ (r : Request). IfSome (g.S.Shelf.text c.args.shelf.now (program_name (command_of r))) (λ t. c.args.source.now ≡ t)) c.in-Run.is c.requires.told in
     subst (λ (r : Request). IfOk c.named_run_answer.result (λ answer. Owed (Some (command_of r)) (g.S.Shelf.text c.args.shelf.now) answer.status answer.text.items)) (sym c.in-Run.is)
-    (ok_map c.named_run_answer.result (λ answer owes. run-owed _ _ c.args.source.now _ _ c.program.result.now answer.status answer.text.items told c.requires.within only owes) c.named_run_answer.ensures.answer)
+    (ok_map c.named_run_answer.result (λ answer owes. run-owed _ _ c.args.source.now _ _ c.in-Accepted.checked answer.status answer.text.items told c.requires.within only owes) c.named_run_answer.ensures.answer)
 
 pub compiled_answer-requires : goal.compiled_answer-requires
 compiled_answer-requires g c =
     let only : AcceptsOnly c.args.source.now c.in-Accepted.checked = subst (λ (v : Verdict). IsVerdict c.args.source.now v) c.in-Accepted.is c.in_ok-text.ensures in
-    subst (λ (p : Program). IsBuiltProgram p) (sym c.program-in-Compile.ensures.program) (built_program c.in-Accepted.checked only.accepts.built)
+    only.accepts.fits
 
 pub returns-clause-answer : goal.returns-clause-answer
 returns-clause-answer g c =
-    let accepted : AcceptsOnly c.args.source.now c.in-Accepted.checked = subst (λ (v : Verdict). IsVerdict c.args.source.now v) c.in-Accepted.is c.in_ok-text.ensures in
-    let only : AcceptsOnly c.args.source.now c.program-in-Compile.result.now = subst (λ (p : Program). AcceptsOnly c.args.source.now p) (sym c.program-in-Compile.ensures.program) accepted in
+    let only : AcceptsOnly c.args.source.now c.in-Accepted.checked = subst (λ (v : Verdict). IsVerdict c.args.source.now v) c.in-Accepted.is c.in_ok-text.ensures in
     let told = subst (λ (r : Request). IfSome (g.S.Shelf.text c.args.shelf.now (program_name (command_of r))) (λ t. c.args.source.now ≡ t)) c.in-Compile.is c.requires.told in
     subst (λ (r : Request). Owed (Some (command_of r)) (g.S.Shelf.text c.args.shelf.now) c.in_ok-compiled_answer-in-Compile.field-0.status c.in_ok-compiled_answer-in-Compile.field-0.text.items) (sym c.in-Compile.is)
-    (compiled-owed _ c.in-Compile.field-0.now c.args.source.now c.program-in-Compile.result.now _ _ told c.requires.within only c.in_ok-compiled_answer-in-Compile.ensures.status c.in_ok-compiled_answer-in-Compile.ensures.text)
+    (compiled-owed _ c.in-Compile.field-0.now c.args.source.now c.in-Accepted.checked _ _ told c.requires.within only c.in_ok-compiled_answer-in-Compile.ensures.status c.in_ok-compiled_answer-in-Compile.ensures.text)
 
 pub returns-in-Run-clause-read_failed : goal.returns-in-Run-clause-read_failed
 returns-in-Run-clause-read_failed g c failed =

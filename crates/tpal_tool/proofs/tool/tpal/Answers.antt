@@ -1,3 +1,5 @@
+use Rattle.std.proofs.Common.{refl}
+use Rattle.tpal_tool.specs.Owed.{missing}
 use Rattle.tpal_tool.proofs.Endings.{ReadOneWay, read_fault-failed, final-finished, finished-refused, finished-tables_too_long, finished-ran, finished-compiled, runs-ends, compiles-ends}
 use Rattle.tpal_tool.proofs.tool.tpal.Goals as goal
 
@@ -9,6 +11,11 @@ returns-clause-refused g c command source line is_final = finished-refused _ _ _
 
 pub returns-clause-tables_too_long : goal.returns-clause-tables_too_long
 returns-clause-tables_too_long g c name over source tables fuel program is_final = finished-tables_too_long _ _ _ _ _ (final-finished _ _ _ _ _ _ _ _ _ c.call.ensures is_final) name over source tables fuel program
+
+pub returns-clause-missing : goal.returns-clause-missing
+returns-clause-missing g c name source tables input over fuel program inputs is_final asked_is told_is fits_it accepts tables_told few are misses =
+    let way : ReadOneWay = record { one_list = c.text_is_read_one_way.ensures.one_list; one_fault = c.text_is_read_one_way.ensures.one_fault; not_both = c.text_is_read_one_way.ensures.not_both } in
+    finished-ran _ _ _ _ _ way (final-finished _ _ _ _ _ _ _ _ _ c.call.ensures is_final) name source tables _ over fuel program _ asked_is told_is fits_it accepts tables_told few (missing inputs input are misses refl refl)
 
 pub returns-clause-ran : goal.returns-clause-ran
 returns-clause-ran g c name source tables text over fuel program status is_final =
