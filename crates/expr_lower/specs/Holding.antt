@@ -5,7 +5,7 @@ use Rattle.slices.specs.Holding.{cell_at}
 use Rattle.stack_marks.specs.Stacks.{word_at}
 use Rattle.tp_value.specs.declared.Table.{Table}
 use Rattle.loop_meaning.specs.declared.value.Variable.{Variable}
-use Rattle.loop_meaning.specs.State.{lookup, table_of, cell_of, Note, Reads, Writes, Chance}
+use Rattle.loop_meaning.specs.State.{lookup, table_of, cell_of, Note, Reads, Writes, Emits, Chance}
 use Rattle.tpal_syntax.specs.declared.words.Word.TheVariants.{Int}
 use Rattle.tpal_machine.specs.Reading.{register, table_at}
 use Rattle.tpal_machine.specs.State.{State}
@@ -16,6 +16,7 @@ use Rattle.expr_lower.specs.Scopes.{offset_of, table_number, HasVariable, HasTab
 abbrev pub IsHeld : Scope → List Table → State → Note → Type 0
 IsHeld scope tables state (Reads t i j) = cell_at (table_at state.tables (table_number scope t)) i j ≡ Some (cell_of (table_of tables t) i j)
 IsHeld scope tables state (Writes t i j) = ⊤
+IsHeld scope tables state (Emits t) = ⊤
 IsHeld scope tables state Chance = ⊤
 
 -- A task holds the variables of a scope in the cells of its activation, which begins at the position in

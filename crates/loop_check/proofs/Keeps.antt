@@ -22,7 +22,7 @@ use Rattle.loop_rules.specs.Reading.{ReadsTable}
 use Rattle.loop_rules.specs.Sites.{Act, Assigns, AssignsBoth, Folds, ReadsCell, WritesCell, Calls, Spot, Site, site, in_expr, in_whole, in_args, in_app, in_carries, in_stmt, in_all, in_list, spot_after, in_loop, in_par}
 use Rattle.beat_count.specs.Ticks.{is_tick_allowed}
 use Rattle.loop_meaning.specs.Expressions.{Value, bind, bind_answer, divided, calculated, read_cell, eval}
-use Rattle.loop_meaning.specs.State.{assign, declare, table_of, has_cell, State, Note, Reads, Writes, Chance, Ran, done, noted, go_on, after, tick, leave_block}
+use Rattle.loop_meaning.specs.State.{assign, declare, table_of, has_cell, State, Note, Reads, Writes, Emits, Chance, Ran, done, noted, go_on, after, tick, leave_block}
 use Rattle.loop_meaning.specs.Statements.{given, given_answer, given_all, choose, block, turns, iteration, iterate, folded, put_cell, set_var, Called, with_call, Setting, unless_wide, too_wide, run, run_all, run_list}
 use Rattle.loop_check.proofs.Lists.{Each, each_left, each_right}
 use Rattle.loop_check.proofs.Found.{Found, found_more, found_below, found_take, found_assign}
@@ -38,6 +38,7 @@ pub record Mode : Type 1 where
 abbrev pub NoteOk : Mode → Note → Type 0
 NoteOk m (Reads t i j) = m.reads t i j
 NoteOk m (Writes t i j) = m.writes t i j
+NoteOk m (Emits t) = Unit
 NoteOk m Chance = Unit
 
 abbrev pub Notes : Mode → List Note → Type 0
@@ -255,7 +256,7 @@ module _ (m : Mode) (prog : Program) where
         call_then (k.call g.callee.text.items g.callee.place ms [] t) (λ z v. done (set_var y z (set_var x u v))) (c g.callee.text.items g.callee.place ms [] t second.1.1.0 tt a) (λ v q b.
         record { fixed = assign_fixed _ y.text.items v second.0 (assign_fixed q.vars x.text.items u o.0 b); notes = tt }))))
     run_ok w k c (Print place e) o s h = given_ok w e s _ h o.1 (λ n q. record { fixed = h; notes = tt })
-    run_ok w k c (Emit place t) o s h = record { fixed = h; notes = tt }
+    run_ok w k c (Emit place t) o s h = record { fixed = h; notes = (tt, tt) }
 
     pub all_run_ok : {n : _} → (w : Spot) (k : Setting) → CallsOk m prog k → (row : Row_of-Stmt n) → SitesOk m prog (in_all w row) → Keeps (run_all k row)
     all_run_ok w k c end_of-Stmt o s h = done_ok s h

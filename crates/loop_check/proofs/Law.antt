@@ -1,7 +1,7 @@
 -- Where no rule is broken, the iterations of each `par` touch no cell that another one writes.
 use Rattle.tp_value.specs.declared.limits.TheConstants.{MAX_CALL_DEPTH}
 use Rattle.loop_meaning.specs.Calls.{setting}
-use Rattle.loop_meaning.specs.State.{lookup, declare, State, Note, Reads, Writes, Chance, Ran}
+use Rattle.loop_meaning.specs.State.{lookup, declare, State, Note, Reads, Writes, Emits, Chance, Ran}
 use Rattle.loop_meaning.specs.Statements.{iteration, run_all}
 use Rattle.std.proofs.Common.{◌≡◌, ◌≢◌, ℕ, ◌+◌, ◌-◌, ℤ, List, [], ◌∷◌, ◌++◌, map, length, Option, Some, None, refl, sym, ap, subst, ◌∙◌, Bool, true, false, cond, ◌||◌, not, bytes_eq, Contains, ◌⊎◌, inl, inr}
 use Rattle.tp_value.specs.declared.Place.{Place}
@@ -39,6 +39,7 @@ notes_reads m (Reads t i j ∷ ns) c h k = elim (contains_cons (read_cells ns) (
   | inr l ↦ notes_reads m ns c h.1 l
 ]
 notes_reads m (Writes t i j ∷ ns) c h k = notes_reads m ns c h.1 k
+notes_reads m (Emits t ∷ ns) c h k = notes_reads m ns c h.1 k
 notes_reads m (Chance ∷ ns) c h k = notes_reads m ns c h.1 k
 
 pub notes_writes : (m : Mode) (ns : List Note) (c : Cell) → Notes m ns → Contains (write_cells ns) c → m.writes c.table c.row c.col
@@ -48,6 +49,7 @@ notes_writes m (Writes t i j ∷ ns) c h k = elim (contains_cons (write_cells ns
   | inr l ↦ notes_writes m ns c h.1 l
 ]
 notes_writes m (Reads t i j ∷ ns) c h k = notes_writes m ns c h.1 k
+notes_writes m (Emits t ∷ ns) c h k = notes_writes m ns c h.1 k
 notes_writes m (Chance ∷ ns) c h k = notes_writes m ns c h.1 k
 
 -- the notes of an iteration, whose body begins with the loop's variable

@@ -34,7 +34,7 @@ use Rattle.reduce_ops.specs.Laws.{combine_fits}
 use Rattle.loop_meaning.specs.declared.value.Answer.{Answer}
 use Rattle.loop_meaning.specs.declared.value.Answer.TheVariants.{Number, Traps}
 use Rattle.loop_meaning.specs.declared.value.Variable.{Variable}
-use Rattle.loop_meaning.specs.State.{lookup, assign, declare, table_of, has_cell, cell_of, cell_number, with_cell, write_cell, print_line, print_table, State, Note, Chance, Ran, done, trapped, noted, after, go_on, tick, leave_block}
+use Rattle.loop_meaning.specs.State.{lookup, assign, declare, table_of, has_cell, cell_of, cell_number, with_cell, write_cell, print_line, print_table, State, Note, Emits, Chance, Ran, done, trapped, noted, after, go_on, tick, leave_block}
 use Rattle.loop_meaning.specs.Expressions.{Value, eval, bind, bind_answer, read_cell, calculated, divided}
 use Rattle.loop_meaning.specs.Statements.{Setting, Called, given, given_answer, given_two, given_all, set_var, folded, put_cell, choose, block, turns, iteration, iterate, too_wide, unless_wide, with_call, two_calls, run, run_all, run_list}
 use Rattle.loop_meaning.specs.Calls.{bound, number_in, enter, no_value, call_on, call_at, setting}
@@ -306,7 +306,7 @@ module _ (fuel : ℕ) (call : List ℕ → Place → List ℤ → List Note → 
         (λ ns k. holds_args g.args.items (λ ms. two_calls (under rs) x f.callee ns y g.callee ms (Chance ∷ [])) l.1
         (λ ms m. holds_two_calls rs x f.callee ns y g.callee ms (Chance ∷ []) k m))
     holds_stmt rs (Print place e) l = holds_given e _ l (λ n h. holds_still (λ s. done (print_line n s)) (λ s. refl) (λ s. refl))
-    holds_stmt rs (Emit place t) l = holds_still (λ s. done (print_table (table_of s.tables t.text.items) s)) (λ s. refl) (λ s. refl)
+    holds_stmt rs (Emit place t) l = holds_still (λ s. noted (Emits t.text.items ∷ []) (done (print_table (table_of s.tables t.text.items) s))) (λ s. refl) (λ s. refl)
 
     holds_all : {m : _} (rs : List Reduce) (row : Row_of-Stmt m) → BlockInRange row → Holds (run_all (under rs) row)
     holds_all rs end_of-Stmt l = holds_done

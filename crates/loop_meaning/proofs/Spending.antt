@@ -20,7 +20,7 @@ use Rattle.loop_syntax.specs.declared.Program.{Program}
 use Rattle.loop_rules.specs.Names.{func_of}
 use Rattle.loop_meaning.specs.declared.value.Answer.{Answer}
 use Rattle.loop_meaning.specs.declared.value.Answer.TheVariants.{Number, Traps}
-use Rattle.loop_meaning.specs.State.{table_of, has_cell, declare, State, Note, Ran, done, trapped, noted, after, go_on, tick, leave_block}
+use Rattle.loop_meaning.specs.State.{table_of, has_cell, declare, State, Note, Emits, Ran, done, trapped, noted, after, go_on, tick, leave_block}
 use Rattle.loop_meaning.specs.Expressions.{eval}
 use Rattle.loop_meaning.specs.Statements.{Setting, Called, given, given_answer, given_two, given_all, choose, block, turns, iteration, iterate, unless_wide, put_cell, run_call, run_both, run, run_all, run_list}
 use Rattle.loop_meaning.specs.Calls.{call_at, call_on, enter, bound, setting}
@@ -215,7 +215,7 @@ mutual
   sound_stmt k c (Call x f) s h = sound_run_call k.fuel k c x f s h
   sound_stmt k c (Both x f y g) s h = sound_both k.fuel k c x f y g s h
   sound_stmt k c (Print place e) s h = sound_given k.fuel e s _ h (λ n. done_with k.fuel s _ _ h refl refl)
-  sound_stmt k c (Emit place t) s h = done_with k.fuel s _ _ h refl refl
+  sound_stmt k c (Emit place t) s h = sound_noted k.fuel s (Emits t.text.items ∷ []) _ (done_with k.fuel s _ _ h refl refl)
 
   pub sound_all : {m : _} (k : Setting) → CallsKeep k.fuel k.call → (row : Row_of-Stmt m) → Keeps k.fuel (run_all k row)
   sound_all k c end_of-Stmt s h = sound_done k.fuel s s h refl refl

@@ -7,7 +7,7 @@ use Rattle.loop_syntax.specs.declared.Program.{Program}
 use Rattle.loop_rules.specs.Names.{texts, operator_of}
 use Rattle.loop_rules.specs.Sites.{Loop}
 use Rattle.loop_meaning.specs.declared.value.Variable.{Variable}
-use Rattle.loop_meaning.specs.State.{State, Note, Reads, Writes, Chance, Ran, lookup}
+use Rattle.loop_meaning.specs.State.{State, Note, Reads, Writes, Emits, Chance, Ran, lookup}
 use Rattle.loop_meaning.specs.Statements.{Setting, run_all, iteration}
 use Rattle.loop_meaning.specs.Calls.{setting}
 
@@ -21,6 +21,7 @@ abbrev pub read_cells : List Note → List Cell
 read_cells [] = []
 read_cells (Reads t i j ∷ ns) = record { table = t; row = i; col = j } ∷ read_cells ns
 read_cells (Writes t i j ∷ ns) = read_cells ns
+read_cells (Emits t ∷ ns) = read_cells ns
 read_cells (Chance ∷ ns) = read_cells ns
 
 -- the cells that were written, in order
@@ -28,6 +29,7 @@ abbrev pub write_cells : List Note → List Cell
 write_cells [] = []
 write_cells (Reads t i j ∷ ns) = write_cells ns
 write_cells (Writes t i j ∷ ns) = record { table = t; row = i; col = j } ∷ write_cells ns
+write_cells (Emits t ∷ ns) = write_cells ns
 write_cells (Chance ∷ ns) = write_cells ns
 
 -- ---- the `par` loops of a program

@@ -9,7 +9,7 @@ use Rattle.loop_syntax.specs.declared.Name.{Name}
 use Rattle.loop_syntax.specs.declared.TableDecl.{TableDecl}
 use Rattle.loop_syntax.specs.declared.TableDecl.TheVariants.{Input, Made}
 use Rattle.loop_syntax.specs.declared.Program.{Program}
-use Rattle.loop_meaning.specs.State.{table_of, State, Note, Reads, Writes, Chance, Ran, done, trapped, after}
+use Rattle.loop_meaning.specs.State.{table_of, State, Note, Reads, Writes, Emits, Chance, Ran, done, trapped, after}
 use Rattle.loop_meaning.specs.Statements.{given_two, run_list}
 use Rattle.loop_meaning.specs.Calls.{setting}
 
@@ -80,6 +80,7 @@ abbrev pub count_chances : List Note → ℕ
 count_chances [] = 0
 count_chances (Reads t i j ∷ ns) = count_chances ns
 count_chances (Writes t i j ∷ ns) = count_chances ns
+count_chances (Emits t ∷ ns) = count_chances ns
 count_chances (Chance ∷ ns) = suc (count_chances ns)
 
 -- how often that run could split off a task

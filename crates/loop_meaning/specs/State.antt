@@ -82,11 +82,13 @@ print_table t s = record s { output = s.output ++ row_lines t.rows t.cols t.cell
 
 -- ---- the end of a run
 
--- what a run notes: a cell that it reads or writes, and a chance to split off a task: an iteration begun that
--- isn't the first of its `par`, or the first call of a `both` begun
+-- what a run notes: a cell that an expression reads or that is written, a table that is printed whole, and a
+-- chance to split off a task: an iteration begun that isn't the first of its `par`, or the first call of a
+-- `both` begun
 pub data Note : Type 0 where
   Reads : List ℕ → ℤ → ℤ → Note
   Writes : List ℕ → ℤ → ℤ → Note
+  Emits : List ℕ → Note
   Chance : Note
 
 -- how a run ends, the state then, and its notes in order

@@ -17,7 +17,7 @@ use Rattle.loop_meaning.specs.declared.value.Answer.{Answer}
 use Rattle.loop_meaning.specs.declared.value.Answer.TheVariants.{Number, Traps}
 use Rattle.loop_meaning.specs.declared.value.Variable.{Variable}
 use Rattle.reduce_ops.specs.Reduction.{combine}
-use Rattle.loop_meaning.specs.State.{lookup, assign, declare, table_of, has_cell, write_cell, print_line, print_table, State, Note, Writes, Chance, Ran, done, trapped, out_of_fuel, noted, after, tick, leave_block}
+use Rattle.loop_meaning.specs.State.{lookup, assign, declare, table_of, has_cell, write_cell, print_line, print_table, State, Note, Writes, Emits, Chance, Ran, done, trapped, out_of_fuel, noted, after, tick, leave_block}
 use Rattle.loop_meaning.specs.Expressions.{Value, eval}
 
 -- ---- numbers of expressions
@@ -147,7 +147,7 @@ abbrev mutual
   run k (Call x f) s = run_call k x f s
   run k (Both x f y g) s = run_both k x f y g s
   run k (Print place e) s = given e s (λ n. done (print_line n s))
-  run k (Emit place t) s = done (print_table (table_of s.tables t.text.items) s)
+  run k (Emit place t) s = noted (Emits t.text.items ∷ []) (done (print_table (table_of s.tables t.text.items) s))
 
   pub run_all : {m : _} → Setting → Row_of-Stmt m → State → Ran
   run_all k end_of-Stmt s = done s

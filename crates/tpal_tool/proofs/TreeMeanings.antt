@@ -29,7 +29,7 @@ use Rattle.loop_meaning.specs.declared.value.Variable.{Variable}
 use Rattle.loop_meaning.specs.Calls.{bound, number_in, returned, enter, no_value, call_on, call_at, setting}
 use Rattle.loop_meaning.specs.Expressions.{Value, number, traps, bind, calculated, eval}
 use Rattle.loop_meaning.specs.Meaning.{cell_count, input_cells, is_too_large, zero_table, add_table, unless_large, make_tables, first_state, whole_run, outcome_of, meaning}
-use Rattle.loop_meaning.specs.State.{lookup, assign, declare, table_of, has_cell, cell_of, write_cell, print_line, print_table, State, Note, Reads, Writes, Chance, Ran, done, trapped, out_of_fuel, noted, after, tick}
+use Rattle.loop_meaning.specs.State.{lookup, assign, declare, table_of, has_cell, cell_of, write_cell, print_line, print_table, State, Note, Reads, Writes, Emits, Chance, Ran, done, trapped, out_of_fuel, noted, after, tick}
 use Rattle.loop_meaning.specs.Statements.{given_answer, given, given_two, given_all, folded, choose, block, turns, iterate, unless_wide, too_wide, Called, with_call, Setting, two_calls, run, run_all, run_list}
 
 -- ---- expressions
@@ -148,7 +148,7 @@ abbrev mutual
   run_tree k (NCall x f) s = call_tree k x f s
   run_tree k (NBoth x f y g) s = both_tree k x f y g s
   run_tree k (NPrint place e) s = given_tree e s (λ n. done (print_line n s))
-  run_tree k (NEmit place t) s = done (print_table (table_of s.tables t.text) s)
+  run_tree k (NEmit place t) s = noted (Emits t.text ∷ []) (done (print_table (table_of s.tables t.text) s))
 
   run_nodes : TreeSetting → Nodes → State → Ran
   run_nodes k Last s = done s
