@@ -1,10 +1,8 @@
 -- Stacks with an activation more on top, and without it again.
-use Rattle.std.proofs.Common.{◌≡◌, ℕ, zero, suc, ◌+◌, ◌-◌, ◌<◌, ◌≤◌, Bool, true, false, List, [], ◌∷◌, ◌++◌, length, take, Option, None, Some, refl, sym, ap, ◌∙◌, arith, ⊎_elim}
+use Rattle.std.proofs.Common.{◌≡◌, ℕ, zero, suc, ◌+◌, ◌-◌, ◌<◌, ◌≤◌, Bool, true, false, List, [], ◌∷◌, ◌++◌, length, take, Option, None, Some, refl, ap, ◌∙◌, arith}
 use Rattle.std.specs.Prelude.{pos, nat_le, slice_get, replicate}
-use Rattle.std.proofs.lemmas.Bool.{cases_lt}
 use Rattle.std.proofs.lemmas.Bool.Decides.{nat_tests}
 use Rattle.std.proofs.lemmas.List.{length-append, length-replicate, length-take-le, take_at}
-use Rattle.std.proofs.lemmas.Option.{slice_get_past}
 use Rattle.tpal_syntax.specs.declared.words.Word.{Word}
 use Rattle.tpal_syntax.specs.declared.words.Word.TheVariants.{Nil}
 use Rattle.tpal_machine.specs.Effect.{is_marked_from}
@@ -49,21 +47,8 @@ word_popped s n a below = go (nat_le s.base a) refl
         rw e (get_first (length s.cells - n) s.cells (a - s.base) (omega (arith, below, from)))
     go false e = rw e refl
 
--- no cell is on the stack at its top or above
-pub word_above : (s : StackValue) (a : ℕ) → s.base + length s.cells ≤ a → word_at s (pos a) ≡ None
-word_above s a above =
-    let from : nat_le s.base a ≡ true = grind (arith, nat_tests) in
-    rw from (slice_get_past s.cells (a - s.base) (omega (arith, above)))
-
 pub popped_length : (s : StackValue) (n : ℕ) → length (popped s n).cells ≡ length s.cells - n
 popped_length s n = length-take-le (length s.cells - n) s.cells (omega arith)
-
--- two stacks that are the same below their top are the same in each cell, without the cells on top
-pub popped_alike : (s t : StackValue) (n top : ℕ) → t.base ≡ s.base → length t.cells ≡ length s.cells → top ≡ s.base + (length s.cells - n) → ((a : ℕ) → a < top → word_at t (pos a) ≡ word_at s (pos a)) → (a : ℕ) → word_at (popped t n) (pos a) ≡ word_at (popped s n) (pos a)
-popped_alike s t n top base size is_top same a = ⊎_elim
-    (λ (lt : a < top). word_popped t n a (omega (arith, lt, base, size, is_top)) ∙ (same a lt ∙ sym (word_popped s n a (omega (arith, lt, is_top)))))
-    (λ (ge : top ≤ a). word_above (popped t n) a (omega (arith, ge, base, size, is_top, popped_length t n)) ∙ sym (word_above (popped s n) a (omega (arith, ge, is_top, popped_length s n))))
-    (cases_lt a top)
 
 pub pushed_length : (s : StackValue) (n : ℕ) → length (pushed s n).cells ≡ length s.cells + n
 pushed_length s n = omega (arith, length-append s.cells (replicate n Nil), length-replicate n Nil)

@@ -29,7 +29,8 @@ use Rattle.expr_lower.proofs.Registers.{register_set, register_other}
 use Rattle.expr_lower.proofs.Standing.{next, behind}
 use Rattle.block_lower.specs.Code.{Computes, Operand, number, computed, Arguments, no_argument, one_argument, parameter_cell, passed, store}
 use Rattle.block_lower.specs.Layout.{value_cell, kept_cell, Activation}
-use Rattle.block_lower.proofs.Scene.{Scene, ShowsIn, Result, result, then}
+use Rattle.block_lower.proofs.Results.{Result, result, then}
+use Rattle.block_lower.proofs.Scene.{Scene, ShowsIn}
 use Rattle.block_lower.proofs.Showing.{shows_words, shows_new}
 use Rattle.block_lower.proofs.Simple.{stores_in, still_shows}
 use Rattle.block_lower.proofs.Values.{ExprLaw, operand_is}

@@ -1,8 +1,7 @@
 -- The laws of calls as statements: of one call, and of two.
-use Rattle.std.proofs.Common.{◌≡◌, ℕ, suc, ◌+◌, ◌<◌, ◌≤◌, false, List, [], ◌∷◌, length, Some, refl, sym, ap, subst, ◌∙◌, arith}
+use Rattle.std.proofs.Common.{◌≡◌, ℕ, suc, ◌+◌, ◌<◌, ◌≤◌, List, [], ◌∷◌, length, Some, refl, sym, ap, subst, ◌∙◌, arith}
 use Rattle.std.specs.Prelude.{ℤ, pos, ⊤, slice_set}
 use Rattle.std.proofs.lemmas.List.{length-set}
-use Rattle.stack_marks.specs.declared.mark.Mark.{Mark}
 use Rattle.stack_marks.specs.Stacks.{StackValue, word_at, with_word, pushed}
 use Rattle.loop_syntax.specs.declared.App.{App}
 use Rattle.loop_syntax.specs.declared.Func.{Func}
@@ -36,9 +35,10 @@ use Rattle.block_lower.specs.Main.{FunctionAt}
 use Rattle.block_lower.proofs.Activations.{word_pushed}
 use Rattle.block_lower.proofs.Arguments.{AreIn, are_in_same, arguments_law, passed_law}
 use Rattle.block_lower.proofs.Called.{back_with}
-use Rattle.block_lower.proofs.Callees.{under, shows_pushed, HasPlace, CallsOwe}
-use Rattle.block_lower.proofs.Calls.{Caller, calls_law}
-use Rattle.block_lower.proofs.Scene.{Scene, ShowsIn, Owed, Result, result, then}
+use Rattle.block_lower.proofs.Callees.{shows_pushed, HasPlace, CallsOwe}
+use Rattle.block_lower.proofs.Calls.{Caller, Keeping, calls_law}
+use Rattle.block_lower.proofs.Results.{Result, result, then}
+use Rattle.block_lower.proofs.Scene.{Scene, ShowsIn, Owed}
 use Rattle.block_lower.proofs.Showing.{shows_words, shows_new, shows_assigned}
 use Rattle.block_lower.proofs.Simple.{stores_in}
 use Rattle.block_lower.proofs.Values.{ExprLaw}
@@ -55,7 +55,7 @@ module _ (code : Listing) (heartbeat z : ℕ) (act : Activation) (fuel : ℕ) (f
   -- ---- parts
 
   -- a number in a register is assigned
-  assigns : (K : Back code heartbeat) (i : S.World) (st : meaning.State) (state : machine.State) (fixed : List ℕ) (x : Name) (cell r : ℕ) (n : ℤ) (more : List Instr) (end : Term) → Showing i st state → (c : IsCell code act names fixed x.text.items cell) → S.may c.level → register state.registers r ≡ word.Int n → InRange n
+  assigns : (K : Back code heartbeat) (i : S.World) (st : meaning.State) (state : machine.State) (fixed : List ℕ) (x : Name) (cell r : ℕ) (n : ℤ) (more : List Instr) (end : Term) → Showing i st state → (c : IsCell code act names fixed x.text.items cell) → S.may cell → register state.registers r ≡ word.Int n → InRange n
       → Remains code state.block state.at (store cell (value.Reg r) ∷ more) end
       → ((task : machine.State) → task.registers ≡ state.registers → Showing i (set_var x n st) task → Remains code task.block task.at more end → K.Holds task) → K.Holds state
   assigns K i st state fixed x cell r n more end shows c may is fits stands go =
@@ -76,9 +76,6 @@ module _ (code : Listing) (heartbeat z : ℕ) (act : Activation) (fuel : ℕ) (f
     parameters_fit : (n p : ℕ) → n ≡ entry.parameters → p < n → value_cell p < entry.size
     parameters_fit n p is below = omega (arith, is, below, there.arity, there.is.params, there.is.has_room.room)
 
-  clear : (i : S.World) (st : meaning.State) (state : machine.State) → Showing i st state → is_marked_from (S.marks i) (z + act.size) ≡ false
-  clear i st state shows = subst (λ (ms : List Mark). is_marked_from ms (z + act.size) ≡ false) shows.marked shows.unmarked
-
   above : length names ≤ act.most → value_cell (length names) ≤ act.size
   above few = omega (arith, few, place.has_room.room)
 
@@ -87,40 +84,51 @@ module _ (code : Listing) (heartbeat z : ℕ) (act : Activation) (fuel : ℕ) (f
 
   -- ---- one call
 
-  -- nothing else is known of a task that calls
-  abbrev Nothing : machine.State → Type 0
-  Nothing task = ⊤
+  -- no value is kept
+  abbrev nothing_kept : Keeping code heartbeat z act fuel S names ⊤
+  nothing_kept = record { Holds = λ a s. ⊤; same = λ few a s t alike holds. tt }
 
   pub call_law : (reduces : List Reduce) (k : meaning.State → Result) (fixed : List ℕ) (x : Name) (f : App) (entry : Entry) (cell : ℕ) (arguments test more : List Instr) (last end : Term)
-      → entry_of act.functions f.callee.text.items ≡ Some entry → length f.args.items ≡ entry.parameters → (c : IsCell code act names fixed x.text.items cell) → S.may c.level
+      → entry_of act.functions f.callee.text.items ≡ Some entry → length f.args.items ≡ entry.parameters → (c : IsCell code act names fixed x.text.items cell) → S.may cell
       → Arguments code act names (parameter_cell code act) 0 f.args.items arguments test → Calls code act f.callee.place entry test last (store cell (value.Reg 0) ∷ more) end
       → Owed code heartbeat z act fuel S names more end k → Owed code heartbeat z act fuel S names (instr.Salloc entry.size ∷ arguments) last (λ st. then (result (run (setting reduces) (Call x f) st)) k)
   call_law reduces k fixed x f entry cell arguments test more last end is_entry arity c may args call post i st state shows stands =
       let one : machine.State = effect.with_stack (advanced state) (pushed state.stack entry.size) in
       opens f.callee entry is_entry (S.owing i (then (result (run (setting reduces) (Call x f) st)) k)) i st state arguments last shows stands
-      (arguments_law code heartbeat z act entry.size fuel (under code heartbeat z S entry.size) i names lowest st expr_law args parameters_rise (omega (arith, above shows.few)) (λ p lt. omega (arith, parameters_fit f.callee entry is_entry (length f.args.items) p arity (omega (arith, lt)))) last one
-      (shows_pushed code heartbeat z act entry.size fuel S i names st shows) (behind code state.block state.at _ arguments last stands) (λ ns. with_call (call_at fs fuel room f.callee.text.items f.callee.place ns [] st) (λ v t. done (set_var x v t))) k
+      (arguments_law code heartbeat z act entry.size fuel S i names lowest st expr_law args parameters_rise (omega (arith, above shows.few)) (λ p lt. omega (arith, parameters_fit f.callee entry is_entry (length f.args.items) p arity (omega (arith, lt)))) last one
+      (shows_pushed code heartbeat z act entry.size fuel S i names lowest st shows) (behind code state.block state.at _ arguments last stands) (λ ns. with_call (call_at fs fuel room f.callee.text.items f.callee.place ns [] st) (λ v t. done (set_var x v t))) k
       (λ ns task many shows_task stored left.
-      calls_law code heartbeat z act fuel S names entry Nothing (λ w v t. done (set_var x v t)) k lowest fs f.callee is_entry [] test (store cell (value.Reg 0) ∷ more) last end call
-      (λ w v u back fits shows_back same is here.
+      calls_law code heartbeat z act fuel S names entry ⊤ nothing_kept (λ a v t. done (set_var x v t)) k lowest fs f.callee is_entry [] (λ w r u holds. holds) test (store cell (value.Reg 0) ∷ more) last end call
+      (λ w v u back fits shows_back also is here.
       assigns (S.owing w.world (k (set_var x v (back_with w.state.vars u)))) w.world (back_with w.state.vars u) back fixed x cell 0 v more end shows_back c may is fits here
       (λ after registers shows_after here_after. post w.world (set_var x v (back_with w.state.vars u)) after shows_after here_after))
       room levels calls place
-      (record { world = i; state = st; task = task; numbers = ns; shows = shows_task; clear = clear i st state shows; many = many ∙ arity; stored = stored.are; also = tt }) left))
+      (record { world = i; state = st; value = tt; named = shows.named; few = shows.few })
+      (record { task = task; numbers = ns; shows = shows_task; many = many ∙ arity; stored = stored.are; also = tt }) left))
 
   -- ---- two calls
 
-  -- the arguments of the second call are kept by the caller
-  record Keeping (many : ℕ) (task : machine.State) : Type 0 where
+  -- the arguments of the second call, kept by the caller
+  record Second (many : ℕ) : Type 0 where
     numbers : List ℤ
     as_many : length numbers ≡ many
-    are : AreIn task.stack z (kept_cell act) 0 numbers
 
-  -- the value of the first call is kept
-  record HasFirst (task : machine.State) : Type 0 where
+  abbrev second_kept : (many : ℕ) → many ≤ 8 → kept_cell act 9 ≤ act.size → Keeping code heartbeat z act fuel S names (Second many)
+  second_kept many eight room_kept = record {
+    Holds = λ a s. AreIn s z (kept_cell act) 0 a.numbers;
+    same = λ few a s t alike are. are_in_same s t z (kept_cell act) 0 a.numbers (λ j from below. alike (z + kept_cell act j) (omega (arith, few)) (omega (arith, below, a.as_many, eight, room_kept))) are;
+  }
+
+  -- the value of the first call, kept too
+  record First : Type 0 where
     value : ℤ
     fits : InRange value
-    is : word_at task.stack (pos (z + kept_cell act 8)) ≡ Some (word.Int value)
+
+  abbrev first_kept : kept_cell act 9 ≤ act.size → Keeping code heartbeat z act fuel S names First
+  first_kept room_kept = record {
+    Holds = λ a s. word_at s (pos (z + kept_cell act 8)) ≡ Some (word.Int a.value);
+    same = λ few a s t alike is. alike (z + kept_cell act 8) (omega (arith, few)) (omega (arith, room_kept)) ∙ is;
+  }
 
   are_in_pushed : (s : StackValue) (n : ℕ) (cell : ℕ → ℕ) (i : ℕ) (ns : List ℤ) → AreIn s z cell i ns → AreIn (pushed s n) z cell i ns
   are_in_pushed s n cell i [] h = tt
@@ -130,34 +138,31 @@ module _ (code : Listing) (heartbeat z : ℕ) (act : Activation) (fuel : ℕ) (f
       (room_kept : kept_cell act 9 ≤ act.size)
       (is_first : entry_of act.functions f.callee.text.items ≡ Some first) (arity_first : length f.args.items ≡ first.parameters)
       (is_second : entry_of act.functions g.callee.text.items ≡ Some second) (arity_second : length g.args.items ≡ second.parameters)
-      (c : IsCell code act names fixed x.text.items x_cell) (may_x : S.may c.level) (d : IsCell code act names fixed y.text.items y_cell) (may_y : S.may d.level)
+      (c : IsCell code act names fixed x.text.items x_cell) (may_x : S.may x_cell) (d : IsCell code act names fixed y.text.items y_cell) (may_y : S.may y_cell)
       (eight : length g.args.items ≤ 8)
       (second_call : Calls code act g.callee.place second test_second half (load 1 (kept_cell act 8) ∷ store x_cell (value.Reg 1) ∷ store y_cell (value.Reg 0) ∷ more) end)
       (post : Owed code heartbeat z act fuel S names more end k) where
-    abbrev Second : Type 0
-    Second = Caller code heartbeat z act fuel S names second HasFirst
+    abbrev BehindSecond : Type 0
+    BehindSecond = Caller code heartbeat z act fuel S names First
 
     -- behind the second call both targets are assigned
-    sets_both : (w : Second) (v : ℤ) (u : meaning.State) (task : machine.State) → InRange v → Showing w.world (back_with w.state.vars u) task → ((a : ℕ) → a < z + act.size → word_at task.stack (pos a) ≡ word_at w.task.stack (pos a)) → register task.registers 0 ≡ word.Int v
-        → Remains code task.block task.at (load 1 (kept_cell act 8) ∷ store x_cell (value.Reg 1) ∷ store y_cell (value.Reg 0) ∷ more) end → (S.owing w.world (k (set_var y v (set_var x w.also.value (back_with w.state.vars u))))).Holds task
-    sets_both w v u task fits shows same is stands =
-        on_load code heartbeat K task 1 31 (kept_cell act 8) (pos z) (word.Int w.also.value) (next code task _ _ end stands) shows.base (same (z + kept_cell act 8) (omega (arith, room_kept)) ∙ w.also.is)
-        (assigns K w.world (back_with w.state.vars u) one fixed x x_cell 1 w.also.value (store y_cell (value.Reg 0) ∷ more) end shows_one c may_x (register_set task.registers 1 (word.Int w.also.value) (omega (arith, shows.size))) w.also.fits (behind code task.block task.at _ _ end stands)
+    sets_both : (w : BehindSecond) (v : ℤ) (u : meaning.State) (task : machine.State) → InRange v → Showing w.world (back_with w.state.vars u) task → word_at task.stack (pos (z + kept_cell act 8)) ≡ Some (word.Int w.value.value) → register task.registers 0 ≡ word.Int v
+        → Remains code task.block task.at (load 1 (kept_cell act 8) ∷ store x_cell (value.Reg 1) ∷ store y_cell (value.Reg 0) ∷ more) end → (S.owing w.world (k (set_var y v (set_var x w.value.value (back_with w.state.vars u))))).Holds task
+    sets_both w v u task fits shows is_first_value is stands =
+        on_load code heartbeat K task 1 31 (kept_cell act 8) (pos z) (word.Int w.value.value) (next code task _ _ end stands) shows.base is_first_value
+        (assigns K w.world (back_with w.state.vars u) one fixed x x_cell 1 w.value.value (store y_cell (value.Reg 0) ∷ more) end shows_one c may_x (register_set task.registers 1 (word.Int w.value.value) (omega (arith, shows.size))) w.value.fits (behind code task.block task.at _ _ end stands)
         (λ two registers_two shows_two here_two.
-        assigns K w.world (set_var x w.also.value (back_with w.state.vars u)) two fixed y y_cell 0 v more end shows_two d may_y (ap (λ ws. register ws 0) registers_two ∙ (register_other task.registers 1 0 (word.Int w.also.value) (λ (q : 0 ≡ 1). absurd (omega (arith, q))) ∙ is)) fits here_two
-        (λ three registers_three shows_three here_three. post w.world (set_var y v (set_var x w.also.value (back_with w.state.vars u))) three shows_three here_three)))
+        assigns K w.world (set_var x w.value.value (back_with w.state.vars u)) two fixed y y_cell 0 v more end shows_two d may_y (ap (λ ws. register ws 0) registers_two ∙ (register_other task.registers 1 0 (word.Int w.value.value) (λ (q : 0 ≡ 1). absurd (omega (arith, q))) ∙ is)) fits here_two
+        (λ three registers_three shows_three here_three. post w.world (set_var y v (set_var x w.value.value (back_with w.state.vars u))) three shows_three here_three)))
       where
         K : Back code heartbeat
-        K = S.owing w.world (k (set_var y v (set_var x w.also.value (back_with w.state.vars u))))
+        K = S.owing w.world (k (set_var y v (set_var x w.value.value (back_with w.state.vars u))))
 
         one : machine.State
-        one = with_register (advanced task) 1 (word.Int w.also.value)
+        one = with_register (advanced task) 1 (word.Int w.value.value)
 
         shows_one : Showing w.world (back_with w.state.vars u) one
-        shows_one = shows_words code heartbeat z act fuel S w.world shows (slice_set task.registers 1 (word.Int w.also.value)) (length-set task.registers 1 (word.Int w.also.value)) (register_other task.registers 1 31 (word.Int w.also.value) (λ (q : 31 ≡ 1). absurd (omega (arith, q))))
-
-    abbrev First : Type 0
-    First = Caller code heartbeat z act fuel S names first (Keeping (length g.args.items))
+        shows_one = shows_words code heartbeat z act fuel S w.world shows (slice_set task.registers 1 (word.Int w.value.value)) (length-set task.registers 1 (word.Int w.value.value)) (register_other task.registers 1 31 (word.Int w.value.value) (λ (q : 31 ≡ 1). absurd (omega (arith, q))))
 
     -- the second call, where the first one gave a value
     abbrev follows : ℤ → List ℤ → meaning.State → Ran
@@ -170,22 +175,20 @@ module _ (code : Listing) (heartbeat z : ℕ) (act : Activation) (fuel : ℕ) (f
         stores_in code heartbeat z act fuel K task (kept_cell act 8) (value.Reg 0) _ half stands shows.base shows.low inside
         (subst (λ (w : Word). K.Holds (effect.with_stack (advanced task) (with_word task.stack (pos (z + kept_cell act 8)) w))) (sym is)
         (opens g.callee second is_second K i st one _ half shows_one here_one
-        (passed_law code heartbeat z act second.size fuel (under code heartbeat z S second.size) i names lowest st K ms 0 test_second half two (shows_pushed code heartbeat z act second.size fuel S i names st shows_one)
+        (passed_law code heartbeat z act second.size fuel S i names lowest st K ms 0 test_second half two (shows_pushed code heartbeat z act second.size fuel S i names lowest st shows_one)
         (regrouped code task.block (task.at + 1 + 1) (passed code act (length g.args.items) 0 test_second) (passed code act (length ms) 0 test_second) half (ap (λ n. passed code act n 0 test_second) (sym many)) (behind code task.block (task.at + 1) _ _ half here_one))
         (above shows.few) (are_in_pushed stack second.size (kept_cell act) 0 ms are_one) (λ p lt. omega (arith, lt, many, eight, room_kept)) (λ p lt. parameters_fit g.callee second is_second (length ms) p (many ∙ arity_second) (omega (arith, lt)))
         (λ last_task shows_last stored left.
-        calls_law code heartbeat z act fuel S names second HasFirst (λ w u t. done (set_var y u (set_var x w.also.value t))) k lowest fs g.callee is_second [] test_second _ half end second_call sets_both
+        calls_law code heartbeat z act fuel S names second First (first_kept room_kept) (λ a u t. done (set_var y u (set_var x a.value t))) k lowest fs g.callee is_second [] (λ w r u holds. holds) test_second _ half end second_call sets_both
         room levels calls place
+        (record { world = i; state = st; value = record { value = v; fits = fits }; named = shows.named; few = shows.few })
         (record {
-          world = i;
-          state = st;
           task = last_task;
           numbers = ms;
           shows = shows_last;
-          clear = clear i st task shows;
           many = many ∙ arity_second;
           stored = stored.are;
-          also = record { value = v; fits = fits; is = stored.others (z + kept_cell act 8) (λ j from below q. absurd (omega (arith, q, room_kept))) ∙ word_pushed stack second.size (z + kept_cell act 8) (word.Int v) is_kept };
+          also = stored.others (z + kept_cell act 8) (λ j from below q. absurd (omega (arith, q, room_kept))) ∙ word_pushed stack second.size (z + kept_cell act 8) (word.Int v) is_kept;
         }) left))))
       where
         K : Back code heartbeat
@@ -221,26 +224,22 @@ module _ (code : Listing) (heartbeat z : ℕ) (act : Activation) (fuel : ℕ) (f
     both_law args others_args first_call i st state shows stands =
         let one : machine.State = effect.with_stack (advanced state) (pushed state.stack first.size) in
         opens f.callee first is_first (S.owing i (then (result (run (setting reduces) (Both x f y g) st)) k)) i st state arguments last shows stands
-        (arguments_law code heartbeat z act first.size fuel (under code heartbeat z S first.size) i names lowest st expr_law args parameters_rise (omega (arith, above shows.few)) (λ p lt. omega (arith, parameters_fit f.callee first is_first (length f.args.items) p arity_first (omega (arith, lt)))) last one
-        (shows_pushed code heartbeat z act first.size fuel S i names st shows) (behind code state.block state.at _ arguments last stands)
+        (arguments_law code heartbeat z act first.size fuel S i names lowest st expr_law args parameters_rise (omega (arith, above shows.few)) (λ p lt. omega (arith, parameters_fit f.callee first is_first (length f.args.items) p arity_first (omega (arith, lt)))) last one
+        (shows_pushed code heartbeat z act first.size fuel S i names lowest st shows) (behind code state.block state.at _ arguments last stands)
         (λ ns. given_all g.args.items st (λ ms. two_calls (setting reduces) x f.callee ns y g.callee ms (Chance ∷ []) st)) k
         (λ ns two many shows_two stored here_two.
-        arguments_law code heartbeat z act first.size fuel (under code heartbeat z S first.size) i names lowest st expr_law others_args (λ p q lt. omega (arith, lt)) (omega (arith, shows.few)) (λ p lt. omega (arith, lt, eight, room_kept)) last two shows_two here_two
+        arguments_law code heartbeat z act first.size fuel S i names lowest st expr_law others_args (λ p q lt. omega (arith, lt)) (omega (arith, shows.few)) (λ p lt. omega (arith, lt, eight, room_kept)) last two shows_two here_two
         (λ ms. two_calls (setting reduces) x f.callee ns y g.callee ms (Chance ∷ []) st) k
         (λ ms three as_many shows_three stored_three here_three.
-        calls_law code heartbeat z act fuel S names first (Keeping (length g.args.items)) (λ w v t. follows v w.also.numbers t) k lowest fs f.callee is_first (Chance ∷ []) test_first _ last half first_call
-        (λ w v u task fits shows_task same is here.
-        makes_second w.world (back_with w.state.vars u) task v w.also.numbers w.also.as_many fits shows_task
-        (are_in_same w.task.stack task.stack z (kept_cell act) 0 w.also.numbers (λ j from below. same (z + kept_cell act j) (omega (arith, below, w.also.as_many, eight, room_kept))) w.also.are) is here)
+        calls_law code heartbeat z act fuel S names first (Second (length g.args.items)) (second_kept (length g.args.items) eight room_kept) (λ a v t. follows v a.numbers t) k lowest fs f.callee is_first (Chance ∷ []) S.passes test_first _ last half first_call
+        (λ w v u task fits shows_task also is here. makes_second w.world (back_with w.state.vars u) task v w.value.numbers w.value.as_many fits shows_task also is here)
         room levels calls place
+        (record { world = i; state = st; value = record { numbers = ms; as_many = as_many }; named = shows.named; few = shows.few })
         (record {
-          world = i;
-          state = st;
           task = three;
           numbers = ns;
           shows = shows_three;
-          clear = clear i st state shows;
           many = many ∙ arity_first;
           stored = are_in_same two.stack three.stack z (parameter_cell code act) 0 ns (λ j from below. stored_three.others (z + parameter_cell code act j) (λ p low high q. absurd (omega (arith, q, high, as_many, eight, room_kept)))) stored.are;
-          also = record { numbers = ms; as_many = as_many; are = stored_three.are };
+          also = stored_three.are;
         }) here_three)))

@@ -1,6 +1,6 @@
 -- What a call means, as far as a task tells it: a tick, then a trap or the body of the function, whose value is
 -- that of its result.
-use Rattle.std.proofs.Common.{◌≡◌, ℕ, suc, Bool, true, false, cond, List, [], ◌∷◌, Some, refl, sym, ap, ◌∙◌}
+use Rattle.std.proofs.Common.{◌≡◌, ℕ, suc, Bool, true, false, cond, List, [], ◌∷◌, ◌++◌, Some, refl, sym, ap, ◌∙◌, append-nil}
 use Rattle.std.specs.Prelude.{ℤ, pos}
 use Rattle.beat_count.specs.Ticks.{is_tick_allowed, ticked}
 use Rattle.tp_value.specs.declared.Place.{Place}
@@ -18,7 +18,7 @@ use Rattle.loop_meaning.specs.Expressions.{eval}
 use Rattle.loop_meaning.specs.State as meaning
 use Rattle.loop_meaning.specs.State.{Note, Ran, done, trapped, out_of_fuel, noted, after, go_on, tick}
 use Rattle.loop_meaning.specs.Statements.{Called, Setting, given, given_answer, run_list, with_call}
-use Rattle.block_lower.proofs.Scene.{Result, Fin, result, result_by, then, after_then}
+use Rattle.block_lower.proofs.Results.{Result, end_by, fin, noting, noting_then, result, then, then_end, after_then}
 
 -- the state at the end of a function: a number is its only variable
 abbrev pub with_value : ℤ → meaning.State → meaning.State
@@ -33,7 +33,7 @@ value_of s = first_value s.vars
 
 -- the end of a function whose result is given by an expression
 abbrev pub value_then : Expr → meaning.State → Result
-value_then e s = then (result (given e s (λ n. done (with_value n s)))) Fin
+value_then e s = then (result (given e s (λ n. done (with_value n s)))) fin
 
 -- a state with the variables of the caller again
 abbrev pub back_with : List Variable → meaning.State → meaning.State
@@ -55,8 +55,8 @@ entered_with f ns s = record s { vars = bound f.params.items ns }
 
 module _ (e : Expr) (vs : List Variable) (r : Ran) (g : ℤ → meaning.State → Ran) (k : meaning.State → Result) where
   -- the end of the function's run, where the run of its body stopped so
-  abbrev end_by : Stop → Ran
-  end_by x = go_on x r (λ s. given e s (λ n. done s))
+  abbrev ending : Stop → Ran
+  ending x = go_on x r (λ s. given e s (λ n. done s))
 
   -- the same where the result has this answer
   abbrev end_at : Answer → Ran
@@ -65,11 +65,14 @@ module _ (e : Expr) (vs : List Variable) (r : Ran) (g : ℤ → meaning.State �
   abbrev ends_with : Answer → Ran → Result
   ends_with a end = then (result (record end { state = back_with vs end.state })) (λ s. then (result (g (number_in a) s)) k)
 
-  answered : (a : Answer) → ends_with a (end_at a) ≡ then (then (result (given_answer a (eval r.state.vars r.state.tables e).notes r.state (λ n. done (with_value n r.state)))) Fin) (going_back vs g k)
-  answered (Number n) = refl
+  abbrev read : List Note
+  read = (eval r.state.vars r.state.tables e).notes
+
+  answered : (a : Answer) → ends_with a (end_at a) ≡ then (noting r.notes (then (result (given_answer a read r.state (λ n. done (with_value n r.state)))) fin)) (going_back vs g k)
+  answered (Number n) = ap (λ (ns : List Note). noting (r.notes ++ ns) (then (result (g n (back_with vs r.state))) k)) (sym (append-nil (read ++ [])))
   answered (Traps kind place) = refl
 
-  stopped : (x : Stop) → r.stop ≡ x → ends_with (eval r.state.vars r.state.tables e).answer (end_by x) ≡ then (then (result_by x r.state) (value_then e)) (going_back vs g k)
+  stopped : (x : Stop) → r.stop ≡ x → ends_with (eval r.state.vars r.state.tables e).answer (ending x) ≡ then (then_end r.notes (end_by x r.state) (value_then e)) (going_back vs g k)
   stopped Done is = answered (eval r.state.vars r.state.tables e).answer
   stopped (Trap kind place) is = rw is refl
   stopped NoFuel is = rw is refl
@@ -79,8 +82,11 @@ module _ (e : Expr) (vs : List Variable) (r : Ran) (g : ℤ → meaning.State �
 
 -- the body of a function, its result, and what follows in the caller
 pub enter_is : (set : Setting) (f : Func) (ns : List ℤ) (begin : List Note) (u : meaning.State) (g : ℤ → meaning.State → Ran) (k : meaning.State → Result)
-    → then (result (with_call (enter set (Some f) ns begin u) g)) k ≡ then (then (result (run_list set f.body.items (entered_with f ns u))) (value_then f.result)) (going_back u.vars g k)
-enter_is set f ns begin u g k = returned_is f.result u.vars (noted begin (run_list set f.body.items (entered_with f ns u))) g k
+    → then (result (with_call (enter set (Some f) ns begin u) g)) k ≡ noting begin (then (then (result (run_list set f.body.items (entered_with f ns u))) (value_then f.result)) (going_back u.vars g k))
+enter_is set f ns begin u g k =
+    let body : Result = result (run_list set f.body.items (entered_with f ns u)) in
+    returned_is f.result u.vars (noted begin (run_list set f.body.items (entered_with f ns u))) g k
+    ∙ (ap (λ (r : Result). then r (going_back u.vars g k)) (noting_then begin body (value_then f.result)) ∙ noting_then begin (then body (value_then f.result)) (going_back u.vars g k))
 
 -- ---- the tick
 

@@ -1,8 +1,6 @@
--- The scene of a function that is called: its activation stands above that of its caller, which goes on behind
--- it. And what is owed by the functions of a code.
-use Rattle.std.proofs.Common.{◌≡◌, ℕ, zero, suc, ◌+◌, ◌-◌, ◌*◌, ◌<◌, ◌≤◌, ◌^◌, false, List, [], ◌∷◌, length, Option, Some, sym, ap, subst, ◌∙◌, arith, ⊎_elim}
+-- An activation with more cells on top, and what is owed by the functions of a code.
+use Rattle.std.proofs.Common.{◌≡◌, ℕ, zero, suc, ◌+◌, ◌*◌, ◌<◌, ◌≤◌, ◌^◌, false, List, [], ◌∷◌, length, Option, Some, refl, sym, ap, ◌∙◌, arith}
 use Rattle.std.specs.Prelude.{ℤ, pos}
-use Rattle.std.proofs.lemmas.Bool.{cases_lt}
 use Rattle.beat_count.specs.BeatState.{BeatState}
 use Rattle.beat_count.specs.FuelState.{FuelState}
 use Rattle.slices.specs.Holding.{Holding}
@@ -24,61 +22,39 @@ use Rattle.tpal_machine.specs.State as machine
 use Rattle.tpal_machine.proofs.Kit.{IsCalm}
 use Rattle.block_lower.specs.Layout.{return_cell, value_cell, Entry, entry_of, Activation}
 use Rattle.block_lower.specs.Main.{HasRoom, FunctionAt, AreFunctions}
-use Rattle.block_lower.proofs.Activations.{word_pushed, word_popped, word_above, popped_length, pushed_length, popped_pushed, clear_above}
+use Rattle.block_lower.proofs.Activations.{word_pushed, word_popped, pushed_length, popped_pushed, clear_above}
 use Rattle.block_lower.proofs.Arguments.{wider}
 use Rattle.block_lower.proofs.Called.{with_value, value_then, body_set}
 use Rattle.block_lower.proofs.Choices.{OwedAt}
-use Rattle.block_lower.proofs.Scene.{Scene, Same, Shows, ShowsIn, Fin, result, then}
+use Rattle.block_lower.proofs.Results.{fin, result, then}
+use Rattle.block_lower.proofs.Scene.{Scene, Shows, ShowsIn}
 use Rattle.block_lower.proofs.Variables.{AreHeld}
 use Rattle.loop_meaning.specs.declared.value.Variable.{Variable}
 
--- ---- a caller whose stack has more cells on top
+-- ---- an activation with more cells on top
 
-pub same_popped : (z : ℕ) (may : ℕ → Type 0) (level n : ℕ) (s t : StackValue) → Same z may level s t → Same z may level (popped s n) (popped t n)
-same_popped z may level n s t same = record {
-  base = same.base;
-  size = popped_length t n ∙ (ap (λ k. k - n) same.size ∙ sym (popped_length s n));
-  marks = same.marks;
-  at = λ a lt others. ⊎_elim
-      (λ (low : a < s.base + (length s.cells - n)). word_popped t n a (omega (arith, low, same.base, same.size)) ∙ (same.at a lt others ∙ sym (word_popped s n a low)))
-      (λ (high : s.base + (length s.cells - n) ≤ a). word_above (popped t n) a (omega (arith, high, same.base, same.size, popped_length t n)) ∙ sym (word_above (popped s n) a (omega (arith, high, popped_length s n))))
-      (cases_lt a (s.base + (length s.cells - n)));
-}
+cell_pushed : (s : StackValue) (n a : ℕ) → a < s.base + length s.cells → word_at (pushed s n) (pos a) ≡ word_at s (pos a)
+cell_pushed s n a below = sym (word_popped (pushed s n) n a (omega (arith, below, pushed_length s n))) ∙ ap (λ (t : StackValue). word_at t (pos a)) (popped_pushed s n)
 
 held_pushed : (s : StackValue) (z level n : ℕ) (vs : List Variable) → AreHeld s z level vs → AreHeld (pushed s n) z level vs
 held_pushed s z level n [] h = tt
 held_pushed s z level n (u ∷ us) h = (word_pushed s n (z + value_cell level) (word.Int u.value) h.0, h.1, held_pushed s z (suc level) n us h.2)
 
 module _ (code : Listing) (heartbeat z : ℕ) where
-  -- the same scene, of a task whose stack has so many cells more on top
-  abbrev pub under : Scene code heartbeat z → ℕ → Scene code heartbeat z
-  under S n = record {
-    World = S.World;
-    levels = S.levels;
-    owing = S.owing;
-    marks = S.marks;
-    goal = S.goal;
-    before = S.before;
-    since = S.since;
-    kept = λ i s. S.kept i (popped s n);
-    lowest = S.lowest;
-    may = S.may;
-    stable = λ i level s t low same k. S.stable i level (popped s n) (popped t n) low (same_popped z S.may level n s t same) k;
-    stops = S.stops;
-  }
-
-  pub shows_pushed : (act : Activation) (n fuel : ℕ) (S : Scene code heartbeat z) (i : S.World) (names : List (List ℕ)) (st : meaning.State) {words : List Word} {stack : StackValue} {holdings : List Holding} {spent : FuelState} {output : List ℕ} {goal : Goal} {pending : Option Tie}
-      → Shows code heartbeat z act fuel S i names st words stack holdings spent output goal pending → Shows code heartbeat z (wider act n) fuel (under S n) i names st words (pushed stack n) holdings spent output goal pending
-  shows_pushed act n fuel S i names st {stack = stack} h = record {
+  pub shows_pushed : (act : Activation) (n fuel : ℕ) (S : Scene code heartbeat z) (i : S.World) (names : List (List ℕ)) (lowest : S.lowest ≤ length names) (st : meaning.State) {words : List Word} {stack : StackValue} {holdings : List Holding} {spent : FuelState} {output : List ℕ} {goal : Goal} {ties : Option Tie × Option Tie}
+      → Shows code heartbeat z act fuel S i names st words stack holdings spent output goal ties → Shows code heartbeat z (wider act n) fuel S i names st words (pushed stack n) holdings spent output goal ties
+  shows_pushed act n fuel S i names lowest st {stack = stack} h = record {
     size = h.size;
     base = h.base;
     limit = h.limit;
+    limited = h.limited;
     ticks = h.ticks;
     within = h.within;
     begun = h.begun;
     printed = h.printed;
     ends = h.ends;
     free = h.free;
+    unmet = h.unmet;
     marked = h.marked;
     named = h.named;
     few = h.few;
@@ -91,23 +67,10 @@ module _ (code : Listing) (heartbeat z : ℕ) where
     low = h.low;
     room = omega (arith, h.room, pushed_length stack n);
     vars = held_pushed stack z 0 n st.vars h.vars;
-    keeps = subst (λ (s : StackValue). S.kept i s) (sym (popped_pushed stack n)) h.keeps;
+    keeps = S.stable i (length names) stack (pushed stack n) lowest (record { base = refl; at = λ a lt others. cell_pushed stack n a (omega (arith, lt, h.few, h.room)) }) h.keeps;
   }
 
 -- ---- scenes of functions
-
--- a stack is that of a caller below the activation of a function, whose first cell has the label to return to
-pub record Below (z back : ℕ) (s t : StackValue) : Type 0 where
-  pub base : t.base ≡ s.base
-  pub at : (a : ℕ) → a < z → word_at t (pos a) ≡ word_at s (pos a)
-  pub label : word_at t (pos (z + return_cell)) ≡ Some (word.Label back)
-
-pub below_same : (z back : ℕ) (may : ℕ → Type 0) (level : ℕ) (s t u : StackValue) → Same z may level t u → Below z back s t → Below z back s u
-below_same z back may level s t u same h = record {
-  base = same.base ∙ h.base;
-  at = λ a lt. same.at a (omega (arith, lt)) (λ x m q. absurd (omega (arith, lt, q))) ∙ h.at a lt;
-  label = same.at (z + return_cell) (omega arith) (λ x m q. absurd (omega (arith, q))) ∙ h.label;
-}
 
 module _ (code : Listing) (heartbeat fuel z : ℕ) (act : Activation) where
   -- behind a function whose activation begins at z: where control returns, and what holds there once the
@@ -118,7 +81,7 @@ module _ (code : Listing) (heartbeat fuel z : ℕ) (act : Activation) where
     pub held : (w : C.World) (s : StackValue) → C.kept w s → word_at s (pos (z + return_cell)) ≡ Some (word.Label (label w))
     pub clear : (w : C.World) → is_marked_from (C.marks w) z ≡ false
     pub goes_on : (w : C.World) (names : List (List ℕ)) (st : meaning.State) (state : machine.State) (n : ℤ) (beat : BeatState) → ShowsIn code heartbeat z act fuel C w names st state → InRange n → register state.registers 0 ≡ word.Int n
-        → (C.owing w (Fin (with_value n st))).Holds (record state { stack = popped state.stack act.size; beat = beat; block = label w; at = 0 })
+        → (C.owing w (fin (with_value n st))).Holds (record state { stack = popped state.stack act.size; beat = beat; block = label w; at = 0 })
 
 -- an activation has room for its variables, and the stack for it and for all that may be called from it
 pub record HasPlace (z : ℕ) (act : Activation) (levels : ℕ) : Type 0 where
@@ -137,7 +100,7 @@ module _ (code : Listing) (heartbeat fuel : ℕ) (tables : List (List ℕ)) (ent
   -- a function owes what its body and its result give, in every scene with so many levels of calls left, where it returns
   abbrev pub FunctionOwes : (x : List ℕ) (entry : Entry) → FunctionAt code tables entries fs x entry → ℕ → Type 1
   FunctionOwes x entry f room =
-      (z : ℕ) → HasPlace z (activation_of x entry f) room → (C : Scene code heartbeat z) → C.levels ≡ room → C.lowest ≡ 0 → ((y : ℕ) → C.may y) → Returns code heartbeat fuel z (activation_of x entry f) C
+      (z : ℕ) → HasPlace z (activation_of x entry f) room → (C : Scene code heartbeat z) → C.levels ≡ room → C.lowest ≡ 0 → ((y : ℕ) → C.may (value_cell y)) → Returns code heartbeat fuel z (activation_of x entry f) C
       → OwedAt code heartbeat z (activation_of x entry f) fuel C (texts f.func.params.items) entry.label (λ st. then (result (run_list (body_set fs fuel room) f.func.body.items st)) (value_then f.func.result))
 
   -- each function owes so, where calls have so many levels left

@@ -1,7 +1,8 @@
 -- The law of a call: from the tick on, where the arguments stand in the new activation.
-use Rattle.std.proofs.Common.{◌≡◌, ◌≢◌, ℕ, zero, suc, ◌+◌, ◌-◌, ◌<◌, ◌≤◌, ◌^◌, false, List, [], ◌∷◌, length, Option, Some, Ok, refl, sym, ap, subst, ◌∙◌, arith}
+use Rattle.std.proofs.Common.{◌≡◌, ◌≢◌, ℕ, zero, suc, ◌+◌, ◌<◌, ◌≤◌, ◌^◌, false, List, [], ◌∷◌, length, Option, Some, Ok, refl, sym, ap, subst, ◌∙◌, arith, ◌⊎◌, inl, inr}
 use Rattle.std.specs.Prelude.{ℤ, pos, ◌-ℤ◌, ◌+ℤ◌, ⊤, slice_set}
 use Rattle.std.specs.Int.{w64}
+use Rattle.std.proofs.lemmas.Bool.{cases_lt}
 use Rattle.std.proofs.lemmas.Int.{ints, int_wrap_fits}
 use Rattle.std.proofs.lemmas.List.{length-map, length-set}
 use Rattle.beat_count.specs.BeatState.{BeatState}
@@ -22,7 +23,7 @@ use Rattle.loop_rules.specs.Names.{texts}
 use Rattle.loop_meaning.specs.Calls.{enter, call_at}
 use Rattle.loop_meaning.specs.InRange.{InRange}
 use Rattle.loop_meaning.specs.State as meaning
-use Rattle.loop_meaning.specs.State.{Note, Ran, after, tick, trapped}
+use Rattle.loop_meaning.specs.State.{Note, Chance, Ran, after, tick, trapped}
 use Rattle.loop_meaning.specs.Statements.{run_list, with_call}
 use Rattle.tpal_syntax.specs.declared.instructions.Alu.TheVariants as alu
 use Rattle.tpal_syntax.specs.declared.instructions.Instr.{Instr}
@@ -47,17 +48,19 @@ use Rattle.expr_lower.proofs.Standing.{next, behind, regrouped}
 use Rattle.block_lower.specs.Code.{Opens, Calls, call_test, call_entry, call_exit, parameter_cell, store, to}
 use Rattle.block_lower.specs.Layout.{return_cell, levels_cell, value_cell, Entry, entry_of, Activation}
 use Rattle.block_lower.specs.Main.{HasRoom, FunctionAt}
-use Rattle.block_lower.proofs.Activations.{word_popped, popped_alike, popped_length}
+use Rattle.block_lower.proofs.Activations.{word_popped, popped_length, clear_above}
 use Rattle.block_lower.proofs.Arguments.{AreIn, are_in_same, held_bound, names_bound, wider}
 use Rattle.block_lower.proofs.Called.{with_value, value_then, back_with, going_back, body_set, entered_with, enter_is, deep_call, open_call}
-use Rattle.block_lower.proofs.Callees.{under, Below, below_same, Returns, HasPlace, CallsOwe}
+use Rattle.block_lower.proofs.Callees.{Returns, HasPlace, CallsOwe}
 use Rattle.block_lower.proofs.Choices.{above_zero}
 use Rattle.block_lower.proofs.Moves.{opened, calm, jumps, traps}
-use Rattle.block_lower.proofs.Scene.{Scene, Shows, ShowsIn, Result, Fin, Out, result, then}
+use Rattle.block_lower.proofs.Loops.{Passes}
+use Rattle.block_lower.proofs.Results.{Result, fin, noting, noting_then, out, result, then}
+use Rattle.block_lower.proofs.Scene.{Scene, Near, Shows, ShowsIn, runs_kept}
 use Rattle.block_lower.proofs.Showing.{as_many, shows_words, shows_ticked}
 use Rattle.block_lower.proofs.Simple.{stores_in}
 use Rattle.block_lower.proofs.Ticks.{ticks}
-use Rattle.block_lower.proofs.Variables.{held_same}
+use Rattle.block_lower.proofs.Variables.{AreHeld, held_same, var_names}
 use Rattle.block_lower.proofs.Words.{word_same, word_other, words_as_many}
 
 -- ---- numbers
@@ -131,261 +134,352 @@ module _ (code : Listing) (heartbeat z : ℕ) (act : Activation) (fuel room back
 
 -- ---- callers
 
-module _ (code : Listing) (heartbeat z : ℕ) (act : Activation) (fuel : ℕ) (S : Scene code heartbeat z) (names : List (List ℕ)) (entry : Entry) where
-  -- a task that is about to call: the arguments are in the function's activation, above its own
-  pub record Caller (Also : machine.State → Type 0) : Type 0 where
+module _ (code : Listing) (heartbeat z : ℕ) (act : Activation) (fuel : ℕ) (S : Scene code heartbeat z) (names : List (List ℕ)) where
+  -- who goes on behind a call: its world, its state, and a value that its activation keeps
+  pub record Caller (A : Type 0) : Type 0 where
     pub world : S.World
     pub state : meaning.State
+    pub value : A
+    pub named : var_names state.vars ≡ names
+    pub few : length names ≤ act.most
+
+  -- how an activation keeps a value, in cells behind those of the variables
+  pub record Keeping (A : Type 0) : Type 1 where
+    pub Holds : A → StackValue → Type 0
+    pub same : length names ≤ act.most → (a : A) (s t : StackValue) → ((c : ℕ) → z + value_cell (length names) ≤ c → c < z + act.size → word_at t (pos c) ≡ word_at s (pos c)) → Holds a s → Holds a t
+
+  -- a task that is about to call: the arguments are in the function's activation, above its own
+  pub record Calling {A : Type 0} (kept : Keeping A) (entry : Entry) (w : Caller A) : Type 0 where
     pub task : machine.State
     pub numbers : List ℤ
-    pub shows : ShowsIn code heartbeat z (wider act entry.size) fuel (under code heartbeat z S entry.size) world names state task
-    pub clear : is_marked_from (S.marks world) (z + act.size) ≡ false
+    pub shows : ShowsIn code heartbeat z (wider act entry.size) fuel S w.world names w.state task
     pub many : length numbers ≡ entry.parameters
     pub stored : AreIn task.stack z (parameter_cell code act) 0 numbers
-    pub also : Also task
+    pub also : kept.Holds w.value task.stack
 
-module _ (code : Listing) (heartbeat z : ℕ) (act : Activation) (fuel : ℕ) (S : Scene code heartbeat z) (names : List (List ℕ)) (entry : Entry) (Also : machine.State → Type 0) (next_in : Caller code heartbeat z act fuel S names entry Also → ℤ → meaning.State → Ran) (k : meaning.State → Result) (room back : ℕ) where
-  abbrev pub Calling : Type 0
-  Calling = Caller code heartbeat z act fuel S names entry Also
+-- ---- the scene of a function
 
-  -- the scene of the function: behind it its caller goes on with the value, at a label
+module _ (code : Listing) (heartbeat z : ℕ) (act : Activation) (fuel : ℕ) (S : Scene code heartbeat z) (names : List (List ℕ)) (lowest : S.lowest ≤ length names) (has_room : HasRoom act) (A : Type 0) (kept : Keeping code heartbeat z act fuel S names A)
+    (next_in : A → ℤ → meaning.State → Ran) (k : meaning.State → Result) (room back : ℕ) where
+  abbrev Behind : Type 0
+  Behind = Caller code heartbeat z act fuel S names A
+
+  -- what is kept of the caller, below the function's activation, whose first cell has the label to return to
+  pub record Kept (w : Behind) (s : StackValue) : Type 0 where
+    pub keeps : S.kept w.world s
+    pub low : s.base ≤ z
+    pub vars : AreHeld s z 0 w.state.vars
+    pub levels : word_at s (pos (z + levels_cell)) ≡ Some (word.Int (pos S.levels))
+    pub label : word_at s (pos (z + act.size + return_cell)) ≡ Some (word.Label back)
+    pub also : kept.Holds w.value s
+
+  pub kept_same : (w : Behind) (s t : StackValue) → t.base ≡ s.base → ((a : ℕ) → a < z + act.size + value_cell 0 → word_at t (pos a) ≡ word_at s (pos a)) → Kept w s → Kept w t
+  kept_same w s t base at h = record {
+    keeps = S.stable w.world (length names) s t lowest (record { base = base; at = λ a lt others. at a (omega (arith, lt, w.few, has_room.room)) }) h.keeps;
+    low = omega (arith, base, h.low);
+    vars = held_same s t z 0 w.state.vars (λ x from below. at (z + value_cell x) (omega (arith, below, as_many w.state.vars names w.named, w.few, has_room.room))) h.vars;
+    levels = at (z + levels_cell) (omega (arith, has_room.room)) ∙ h.levels;
+    label = at (z + act.size + return_cell) (omega arith) ∙ h.label;
+    also = kept.same w.few w.value s t (λ c from below. at c (omega (arith, below))) h.also;
+  }
+
+  -- the same behind a cut of the caller's world
+  pub kept_near : (w : Behind) (cut : S.World) (s t : StackValue) → Near z S.may S.lowest s t → S.kept cut t → Kept w s → Kept (record w { world = cut }) t
+  kept_near w cut s t near keeps h = record {
+    keeps = keeps;
+    low = near.low;
+    vars = held_same s t z 0 w.state.vars (λ x from below. near_cell x (cases_lt x S.lowest)) h.vars;
+    levels = near.levels ∙ h.levels;
+    label = near.above (z + act.size + return_cell) (omega (arith, lowest, w.few, has_room.room)) ∙ h.label;
+    also = kept.same w.few w.value s t (λ c from below. near.above c (omega (arith, from, lowest))) h.also;
+  }
+    where
+      near_cell : (x : ℕ) → (x < S.lowest) ⊎ (S.lowest ≤ x) → word_at t (pos (z + value_cell x)) ≡ word_at s (pos (z + value_cell x))
+      near_cell x (inl below) = near.vars x below
+      near_cell x (inr above) = near.above (z + value_cell x) (omega (arith, above))
+
+  -- such a cut changes nothing of the function's activation
+  pub near_up : (w : Behind) (s t : StackValue) → Near z S.may S.lowest s t → Near (z + act.size) (λ c. value_cell 0 ≤ c) 0 s t
+  near_up w s t near = record {
+    low = omega (arith, near.low);
+    top = near.top;
+    levels = near.above (z + act.size + levels_cell) (omega (arith, lowest, w.few, has_room.room));
+    vars = λ x lt. absurd (omega (arith, lt));
+    own = λ c m. near.above (z + act.size + c) (omega (arith, lowest, w.few, has_room.room));
+    above = λ a from. near.above a (omega (arith, from, lowest, w.few, has_room.room));
+  }
+
+  -- no mark of the caller's world stands in it or above
+  pub clear : (w : Behind) (a : ℕ) → z + act.size ≤ a → is_marked_from (S.marks w.world) a ≡ false
+  clear w a from = clear_above (S.marks w.world) (z + value_cell S.lowest) a (omega (arith, from, lowest, w.few, has_room.room)) (S.below w.world)
+
+  -- what follows the function
+  abbrev pub follows : Behind → meaning.State → Result
+  follows w = going_back w.state.vars (next_in w.value) k
+
+  pub noted_first : (w : Behind) (ns : List Note) (r : Result) (state : machine.State) → (S.owing w.world (noting ns (then r (follows w)))).Holds state → (S.owing w.world (then (noting ns r) (follows w))).Holds state
+  noted_first w ns r state holds = subst (λ (q : Result). (S.owing w.world q).Holds state) (sym (noting_then ns r (follows w))) holds
+
+  -- behind the function its caller goes on with the value, at a label
   abbrev pub callee : Scene code heartbeat (z + act.size)
   callee = record {
-    World = Calling;
+    World = Behind;
     levels = room;
-    owing = λ w r. S.owing w.world (then r (going_back w.state.vars (next_in w) k));
+    fuel = S.fuel;
+    dispatch = S.dispatch;
+    owing = λ w r. S.owing w.world (then r (follows w));
+    diverted = λ w r. S.diverted w.world (then r (follows w));
     marks = λ w. S.marks w.world;
     goal = λ w. S.goal w.world;
     before = λ w. S.before w.world;
     since = λ w. S.since w.world;
-    kept = λ w s. Below (z + act.size) back w.task.stack s;
+    region = λ w. S.region w.world;
+    kept = Kept;
     lowest = 0;
-    may = λ x. ⊤;
-    stable = λ w level s t low same h. below_same (z + act.size) back (λ x. ⊤) level w.task.stack s t same h;
+    may = λ c. value_cell 0 ≤ c;
+    cut = λ w n printed. record w { world = S.cut w.world n printed };
+    stable = λ w level s t low same h. kept_same w s t same.base (λ a lt. same.at a (omega (arith, lt)) (λ c m q. absurd (omega (arith, lt, q, m)))) h;
+    below = λ w. clear w (z + act.size + value_cell 0) (omega arith);
     stops = λ w. S.stops w.world;
+    touches = λ w ns r state quiet go. noted_first w ns r state (S.touches w.world ns (then r (follows w)) state quiet go);
+    points = λ w ns r state after one at calm_step loud_step holds. noted_first w ns r state (S.points w.world ns (then r (follows w)) state after one at calm_step loud_step holds);
+    passes = λ w r state holds. noted_first w (Chance ∷ []) r state (S.passes w.world (then r (follows w)) state holds);
+    handles = λ w more r st state marked diverted runs goes_back cut. S.handles w.world more (then r (follows w)) st state marked diverted (runs_kept runs (S.kept w.world) runs.keeps.keeps) goes_back
+        (λ n u gone near runs_u. cut n u gone (near_up w state.stack u.stack near)
+        (runs_kept runs_u (Kept (record w { world = S.cut w.world n st.output })) (kept_near w (S.cut w.world n st.output) state.stack u.stack near runs_u.keeps runs.keeps)));
   }
 
   -- the activation of the function, with room for so many variables
-  abbrev pub inner : ℕ → Activation
-  inner most = record { tables = act.tables; functions = act.functions; most = most; size = entry.size }
+  abbrev pub inner : Entry → ℕ → Activation
+  inner entry most = record { tables = act.tables; functions = act.functions; most = most; size = entry.size }
 
   -- ---- into the function
 
-  module _ (has_room : HasRoom act) (w : Calling) where
-    low : w.task.stack.base ≤ z
-    low = w.shows.low
+  module _ (entry : Entry) (w : Behind) (c : Calling code heartbeat z act fuel S names kept entry w) where
+    low : c.task.stack.base ≤ z
+    low = c.shows.low
 
-    top : w.task.stack.base + length w.task.stack.cells ≡ z + (act.size + entry.size)
-    top = w.shows.top
+    top : c.task.stack.base + length c.task.stack.cells ≡ z + (act.size + entry.size)
+    top = c.shows.top
 
     abbrev first_stack : StackValue
-    first_stack = with_word w.task.stack (pos (z + (act.size + levels_cell))) (word.Int (pos room))
+    first_stack = with_word c.task.stack (pos (z + (act.size + levels_cell))) (word.Int (pos room))
 
     abbrev stack : StackValue
-    stack = entered_stack z act.size room back w.task.stack
+    stack = entered_stack z act.size room back c.task.stack
 
-    as_long : length stack.cells ≡ length w.task.stack.cells
-    as_long = words_as_many first_stack (z + (act.size + return_cell)) (word.Label back) ∙ words_as_many w.task.stack (z + (act.size + levels_cell)) (word.Int (pos room))
+    as_long : length stack.cells ≡ length c.task.stack.cells
+    as_long = words_as_many first_stack (z + (act.size + return_cell)) (word.Label back) ∙ words_as_many c.task.stack (z + (act.size + levels_cell)) (word.Int (pos room))
 
     -- all other cells are as before
-    others : (a : ℕ) → a ≢ z + (act.size + levels_cell) → a ≢ z + (act.size + return_cell) → word_at stack (pos a) ≡ word_at w.task.stack (pos a)
-    others a ne nf = word_other first_stack (z + (act.size + return_cell)) a (word.Label back) (omega (arith, low)) nf ∙ word_other w.task.stack (z + (act.size + levels_cell)) a (word.Int (pos room)) (omega (arith, low)) ne
+    others : (a : ℕ) → a ≢ z + (act.size + levels_cell) → a ≢ z + (act.size + return_cell) → word_at stack (pos a) ≡ word_at c.task.stack (pos a)
+    others a ne nf = word_other first_stack (z + (act.size + return_cell)) a (word.Label back) (omega (arith, low)) nf ∙ word_other c.task.stack (z + (act.size + levels_cell)) a (word.Int (pos room)) (omega (arith, low)) ne
 
-    stored_there : AreIn stack z (parameter_cell code act) 0 w.numbers
-    stored_there = are_in_same w.task.stack stack z (parameter_cell code act) 0 w.numbers (λ j from to_it. others (z + parameter_cell code act j) (λ q. absurd (omega (arith, q))) (λ q. absurd (omega (arith, q)))) w.stored
+    -- so are those of the caller
+    lower : (a : ℕ) → a < z + act.size → word_at stack (pos a) ≡ word_at c.task.stack (pos a)
+    lower a lt = others a (λ q. absurd (omega (arith, q, lt))) (λ q. absurd (omega (arith, q, lt)))
+
+    stored_there : AreIn stack z (parameter_cell code act) 0 c.numbers
+    stored_there = are_in_same c.task.stack stack z (parameter_cell code act) 0 c.numbers (λ j from to_it. others (z + parameter_cell code act j) (λ q. absurd (omega (arith, q))) (λ q. absurd (omega (arith, q)))) c.stored
 
     levels_there : value_cell 0 ≤ entry.size → word_at stack (pos (z + act.size + levels_cell)) ≡ Some (word.Int (pos room))
     levels_there room_in =
         let same : z + act.size + levels_cell ≡ z + (act.size + levels_cell) = omega arith in
         ap (λ a. word_at stack (pos a)) same
         ∙ (word_other first_stack (z + (act.size + return_cell)) (z + (act.size + levels_cell)) (word.Label back) (omega (arith, low)) (λ q. absurd (omega (arith, q)))
-        ∙ word_same w.task.stack (z + (act.size + levels_cell)) (word.Int (pos room)) (omega (arith, low)) (omega (arith, top, room_in)))
+        ∙ word_same c.task.stack (z + (act.size + levels_cell)) (word.Int (pos room)) (omega (arith, low)) (omega (arith, top, room_in)))
 
-    below_it : value_cell 0 ≤ entry.size → Below (z + act.size) back w.task.stack stack
-    below_it room_in =
+    kept_there : value_cell 0 ≤ entry.size → Kept w stack
+    kept_there room_in =
         let same : z + act.size + return_cell ≡ z + (act.size + return_cell) = omega arith in
         record {
-          base = refl;
-          at = λ a lt. others a (λ q. absurd (omega (arith, q, lt))) (λ q. absurd (omega (arith, q, lt)));
-          label = ap (λ a. word_at stack (pos a)) same ∙ word_same first_stack (z + (act.size + return_cell)) (word.Label back) (omega (arith, low)) (omega (arith, top, room_in, words_as_many w.task.stack (z + (act.size + levels_cell)) (word.Int (pos room))));
+          keeps = S.stable w.world (length names) c.task.stack stack lowest (record { base = refl; at = λ a lt others_it. lower a (omega (arith, lt, w.few, has_room.room)) }) c.shows.keeps;
+          low = low;
+          vars = held_same c.task.stack stack z 0 w.state.vars (λ x from below. lower (z + value_cell x) (omega (arith, below, as_many w.state.vars names w.named, w.few, has_room.room))) c.shows.vars;
+          levels = lower (z + levels_cell) (omega (arith, has_room.room)) ∙ c.shows.levels;
+          label = ap (λ a. word_at stack (pos a)) same ∙ word_same first_stack (z + (act.size + return_cell)) (word.Label back) (omega (arith, low)) (omega (arith, top, room_in, words_as_many c.task.stack (z + (act.size + levels_cell)) (word.Int (pos room))));
+          also = kept.same w.few w.value c.task.stack stack (λ a from below. lower a below) c.also;
         }
 
     -- a task in the function's first block shows its parameters
-    shows_callee : (most : ℕ) (func : Func) (words : List Word) (spent : FuelState) (st : meaning.State) → length func.params.items ≡ entry.parameters → length (texts func.params.items) ≤ most → HasRoom (inner most)
-        → Shows code heartbeat z (wider act entry.size) fuel (under code heartbeat z S entry.size) w.world names st w.task.registers w.task.stack w.task.tables spent w.task.output w.task.goal w.task.pending
+    shows_callee : (most : ℕ) (func : Func) (words : List Word) (spent : FuelState) (st : meaning.State) → length func.params.items ≡ entry.parameters → length (texts func.params.items) ≤ most → HasRoom (inner entry most)
+        → Shows code heartbeat z (wider act entry.size) fuel S w.world names st c.task.registers c.task.stack c.task.tables spent c.task.output c.task.goal (c.task.pending, c.task.met)
         → length words ≡ 32 → register words 31 ≡ word.Int (pos (z + act.size))
-        → Shows code heartbeat (z + act.size) (inner most) fuel callee w (texts func.params.items) (entered_with func w.numbers st) words stack w.task.tables spent w.task.output w.task.goal w.task.pending
+        → Shows code heartbeat (z + act.size) (inner entry most) fuel callee w (texts func.params.items) (entered_with func c.numbers st) words stack c.task.tables spent c.task.output c.task.goal (c.task.pending, c.task.met)
     shows_callee most func words spent st arity few room_in h many base = record {
       size = many;
       base = base;
       limit = h.limit;
+      limited = h.limited;
       ticks = h.ticks;
       within = h.within;
       begun = h.begun;
       printed = h.printed;
       ends = h.ends;
       free = h.free;
+      unmet = h.unmet;
       marked = h.marked;
-      named = names_bound func.params.items w.numbers (w.many ∙ sym arity);
+      named = names_bound func.params.items c.numbers (c.many ∙ sym arity);
       few = few;
       tabled = h.tabled;
       held = h.held;
       ranged = h.ranged;
       levels = levels_there (omega (arith, room_in.room));
-      unmarked = subst (λ (a : ℕ). is_marked_from w.task.stack.marks a ≡ false) (omega arith) h.unmarked;
+      unmarked = subst (λ (a : ℕ). is_marked_from c.task.stack.marks a ≡ false) (omega arith) h.unmarked;
       top = omega (arith, h.top, as_long);
       low = omega (arith, low);
       room = omega (arith, h.top, as_long, room_in.room);
-      vars = held_bound stack z act.size 0 func.params.items w.numbers stored_there;
-      keeps = below_it (omega (arith, room_in.room));
+      vars = held_bound stack z act.size 0 func.params.items c.numbers stored_there;
+      keeps = kept_there (omega (arith, room_in.room));
     }
 
   -- ---- and back
 
-  module _ (lowest : S.lowest ≤ length names) (has_room : HasRoom act) (w : Calling) (t : StackValue) (same : Below (z + act.size) back w.task.stack t) (is_top : t.base + length t.cells ≡ z + act.size + entry.size) where
-    -- without the function's activation the stack is that of the caller without it
-    alike : (a : ℕ) → word_at (popped t entry.size) (pos a) ≡ word_at (popped w.task.stack entry.size) (pos a)
-    alike a = popped_alike w.task.stack t entry.size (z + act.size) same.base (omega (arith, same.base, is_top, w.shows.top)) (omega (arith, w.shows.top, w.shows.low)) same.at a
+  module _ (entry : Entry) (w : Behind) (t : StackValue) (same : Kept w t) (is_top : t.base + length t.cells ≡ z + act.size + entry.size) where
+    caller_cells : (a : ℕ) → a < z + act.size → word_at (popped t entry.size) (pos a) ≡ word_at t (pos a)
+    caller_cells a lt = word_popped t entry.size a (omega (arith, is_top, lt, same.low))
 
-    pub caller_cells : (a : ℕ) → a < z + act.size → word_at (popped t entry.size) (pos a) ≡ word_at w.task.stack (pos a)
-    caller_cells a lt = alike a ∙ word_popped w.task.stack entry.size a (omega (arith, w.shows.top, w.shows.low, lt))
+    pub also_back : kept.Holds w.value (popped t entry.size)
+    also_back = kept.same w.few w.value t (popped t entry.size) (λ a from below. caller_cells a below) same.also
 
     -- a task that returned shows the caller's variables
-    pub shows_back : (most : ℕ) (names_in : List (List ℕ)) (u : meaning.State) (words other : List Word) (holdings : List Holding) (spent : FuelState) (output : List ℕ) (goal : Goal) (pending : Option Tie)
-        → Shows code heartbeat (z + act.size) (inner most) fuel callee w names_in u words t holdings spent output goal pending → length other ≡ 32 → register other 31 ≡ word.Int (pos z)
-        → Shows code heartbeat z act fuel S w.world names (back_with w.state.vars u) other (popped t entry.size) holdings spent output goal pending
-    shows_back most names_in u words other holdings spent output goal pending h many base =
-        let long : t.base + length (popped t entry.size).cells ≡ z + act.size = omega (arith, is_top, popped_length t entry.size, same.base, w.shows.low) in
+    pub shows_back : (most : ℕ) (names_in : List (List ℕ)) (u : meaning.State) (words other : List Word) (holdings : List Holding) (spent : FuelState) (output : List ℕ) (goal : Goal) (ties : Option Tie × Option Tie)
+        → Shows code heartbeat (z + act.size) (inner entry most) fuel callee w names_in u words t holdings spent output goal ties → length other ≡ 32 → register other 31 ≡ word.Int (pos z)
+        → Shows code heartbeat z act fuel S w.world names (back_with w.state.vars u) other (popped t entry.size) holdings spent output goal ties
+    shows_back most names_in u words other holdings spent output goal ties h many base =
+        let long : t.base + length (popped t entry.size).cells ≡ z + act.size = omega (arith, is_top, popped_length t entry.size, same.low) in
         record {
           size = many;
           base = base;
           limit = h.limit;
+          limited = h.limited;
           ticks = h.ticks;
           within = h.within;
           begun = h.begun;
           printed = h.printed;
           ends = h.ends;
           free = h.free;
+          unmet = h.unmet;
           marked = h.marked;
-          named = w.shows.named;
-          few = w.shows.few;
+          named = w.named;
+          few = w.few;
           tabled = h.tabled;
           held = h.held;
           ranged = h.ranged;
-          levels = caller_cells (z + levels_cell) (omega (arith, has_room.room)) ∙ w.shows.levels;
-          unmarked = subst (λ (ms : List Mark). is_marked_from ms (z + act.size) ≡ false) (sym h.marked) w.clear;
+          levels = caller_cells (z + levels_cell) (omega (arith, has_room.room)) ∙ same.levels;
+          unmarked = subst (λ (ms : List Mark). is_marked_from ms (z + act.size) ≡ false) (sym h.marked) (clear w (z + act.size) (omega arith));
           top = long;
-          low = omega (arith, same.base, w.shows.low);
+          low = same.low;
           room = omega (arith, long, has_room.room);
-          vars = held_same w.task.stack (popped t entry.size) z 0 w.state.vars (λ x from below. caller_cells (z + value_cell x) (omega (arith, has_room.room, w.shows.few, below, as_many w.state.vars names w.shows.named))) w.shows.vars;
-          keeps = S.stable w.world (length names) (popped w.task.stack entry.size) (popped t entry.size) lowest (record {
-            base = same.base;
-            size = popped_length t entry.size ∙ (ap (λ n. n - entry.size) (omega (arith, same.base, is_top, w.shows.top)) ∙ sym (popped_length w.task.stack entry.size));
-            marks = h.marked ∙ sym w.shows.marked;
-            at = λ a lt others. alike a;
-          }) w.shows.keeps;
+          vars = held_same t (popped t entry.size) z 0 w.state.vars (λ x from below. caller_cells (z + value_cell x) (omega (arith, has_room.room, w.few, below, as_many w.state.vars names w.named))) same.vars;
+          keeps = S.stable w.world (length names) t (popped t entry.size) lowest (record { base = refl; at = λ a lt others. caller_cells a (omega (arith, lt, w.few, has_room.room)) }) same.keeps;
         }
 
 -- ---- the law
 
-module _ (code : Listing) (heartbeat z : ℕ) (act : Activation) (fuel : ℕ) (S : Scene code heartbeat z) (names : List (List ℕ)) (entry : Entry) (Also : machine.State → Type 0) (next_in : Caller code heartbeat z act fuel S names entry Also → ℤ → meaning.State → Ran) (k : meaning.State → Result) where
+module _ (code : Listing) (heartbeat z : ℕ) (act : Activation) (fuel : ℕ) (S : Scene code heartbeat z) (names : List (List ℕ)) (entry : Entry) (A : Type 0) (kept : Keeping code heartbeat z act fuel S names A) (next_in : A → ℤ → meaning.State → Ran) (k : meaning.State → Result) where
   abbrev Waiting : Type 0
-  Waiting = Caller code heartbeat z act fuel S names entry Also
+  Waiting = Caller code heartbeat z act fuel S names A
+
+  abbrev Making : Waiting → Type 0
+  Making w = Calling code heartbeat z act fuel S names kept entry w
 
   -- what a task owes behind the call that shows the caller's variables, with the value in register 0
   abbrev pub GoesOn : List Instr → Term → Type 0
   GoesOn more last =
-      (w : Waiting) (v : ℤ) (u : meaning.State) (task : machine.State) → InRange v → ShowsIn code heartbeat z act fuel S w.world names (back_with w.state.vars u) task → ((a : ℕ) → a < z + act.size → word_at task.stack (pos a) ≡ word_at w.task.stack (pos a))
-      → register task.registers 0 ≡ word.Int v → Remains code task.block task.at more last → (S.owing w.world (then (result (next_in w v (back_with w.state.vars u))) k)).Holds task
+      (w : Waiting) (v : ℤ) (u : meaning.State) (task : machine.State) → InRange v → ShowsIn code heartbeat z act fuel S w.world names (back_with w.state.vars u) task → kept.Holds w.value task.stack
+      → register task.registers 0 ≡ word.Int v → Remains code task.block task.at more last → (S.owing w.world (then (result (next_in w.value v (back_with w.state.vars u))) k)).Holds task
 
   abbrev later : meaning.State → meaning.State
   later st = record st { ticks = ticked fuel st.ticks }
 
   -- the tick, and the levels that are left in register 0
-  at_test : (w : Waiting) (g : meaning.State → Ran) (go : ℕ) (place : Place) → Remains code w.task.block w.task.at (call_test go place) term.Halt
-      → ((words : List Word) (spent : FuelState) (beat : BeatState) (at : ℕ) → Shows code heartbeat z (wider act entry.size) fuel (under code heartbeat z S entry.size) w.world names (later w.state) words w.task.stack w.task.tables spent w.task.output w.task.goal w.task.pending
-      → register words 0 ≡ word.Int (pos S.levels) → Remains code w.task.block at (instr.IfJump 0 go ∷ instr.Trap Deep place ∷ []) term.Halt → (S.owing w.world (then (result (g (later w.state))) k)).Holds (record w.task { registers = words; fuel = spent; beat = beat; at = at }))
-      → (S.owing w.world (then (result (after (tick fuel w.state) g)) k)).Holds w.task
-  at_test w g go place stands goes =
-      ticks code heartbeat z (wider act entry.size) fuel (under code heartbeat z S entry.size) w.world names w.state w.task w.shows _ term.Halt g k stands
+  at_test : (w : Waiting) (c : Making w) (g : meaning.State → Ran) (go : ℕ) (place : Place) → Remains code c.task.block c.task.at (call_test go place) term.Halt
+      → ((words : List Word) (spent : FuelState) (beat : BeatState) (at : ℕ) → Shows code heartbeat z (wider act entry.size) fuel S w.world names (later w.state) words c.task.stack c.task.tables spent c.task.output c.task.goal (c.task.pending, c.task.met)
+      → register words 0 ≡ word.Int (pos S.levels) → Remains code c.task.block at (instr.IfJump 0 go ∷ instr.Trap Deep place ∷ []) term.Halt → (S.owing w.world (then (result (g (later w.state))) k)).Holds (record c.task { registers = words; fuel = spent; beat = beat; at = at }))
+      → (S.owing w.world (then (result (after (tick fuel w.state) g)) k)).Holds c.task
+  at_test w c g go place stands goes =
+      ticks code heartbeat z (wider act entry.size) fuel S w.world names w.state c.task c.shows _ term.Halt g k stands
       (λ below.
-      let one : machine.State = effect.with_tick (advanced w.task) in
-      let shows_one : ShowsIn code heartbeat z (wider act entry.size) fuel (under code heartbeat z S entry.size) w.world names (later w.state) one = shows_ticked code heartbeat z (wider act entry.size) fuel (under code heartbeat z S entry.size) w.world w.shows below in
-      let second : Remains code w.task.block (w.task.at + 1) _ term.Halt = behind code w.task.block w.task.at _ _ term.Halt stands in
-      let words : List Word = slice_set w.task.registers 0 (word.Int (pos S.levels)) in
+      let one : machine.State = effect.with_tick (advanced c.task) in
+      let shows_one : ShowsIn code heartbeat z (wider act entry.size) fuel S w.world names (later w.state) one = shows_ticked code heartbeat z (wider act entry.size) fuel S w.world c.shows below in
+      let second : Remains code c.task.block (c.task.at + 1) _ term.Halt = behind code c.task.block c.task.at _ _ term.Halt stands in
+      let words : List Word = slice_set c.task.registers 0 (word.Int (pos S.levels)) in
       on_load code heartbeat (S.owing w.world (then (result (g (later w.state))) k)) one 0 31 levels_cell (pos z) (word.Int (pos S.levels)) (next code one _ _ term.Halt second) shows_one.base shows_one.levels
-      (goes words one.fuel (counted (counted w.task.beat)) (w.task.at + 1 + 1)
-      (shows_words code heartbeat z (wider act entry.size) fuel (under code heartbeat z S entry.size) w.world shows_one words (length-set w.task.registers 0 (word.Int (pos S.levels))) (register_other w.task.registers 0 31 (word.Int (pos S.levels)) (λ (q : 31 ≡ 0). absurd (omega (arith, q)))))
-      (register_set w.task.registers 0 (word.Int (pos S.levels)) (omega (arith, w.shows.size)))
-      (behind code w.task.block (w.task.at + 1) _ _ term.Halt second)))
+      (goes words one.fuel (counted (counted c.task.beat)) (c.task.at + 1 + 1)
+      (shows_words code heartbeat z (wider act entry.size) fuel S w.world shows_one words (length-set c.task.registers 0 (word.Int (pos S.levels))) (register_other c.task.registers 0 31 (word.Int (pos S.levels)) (λ (q : 31 ≡ 0). absurd (omega (arith, q)))))
+      (register_set c.task.registers 0 (word.Int (pos S.levels)) (omega (arith, c.shows.size)))
+      (behind code c.task.block (c.task.at + 1) _ _ term.Halt second)))
 
   -- where no level is left the call traps
-  too_deep : (w : Waiting) (go : ℕ) (place : Place) → S.levels ≡ 0 → Remains code w.task.block w.task.at (call_test go place) term.Halt → (S.owing w.world (then (result (after (tick fuel w.state) (trapped Deep place))) k)).Holds w.task
-  too_deep w go place none stands =
-      at_test w (trapped Deep place) go place stands
+  too_deep : (w : Waiting) (c : Making w) (go : ℕ) (place : Place) → S.levels ≡ 0 → Remains code c.task.block c.task.at (call_test go place) term.Halt → (S.owing w.world (then (result (after (tick fuel w.state) (trapped Deep place))) k)).Holds c.task
+  too_deep w c go place none stands =
+      at_test w c (trapped Deep place) go place stands
       (λ words spent beat at shows left here.
-      let one : machine.State = record w.task { registers = words; fuel = spent; beat = beat; at = at } in
+      let one : machine.State = record c.task { registers = words; fuel = spent; beat = beat; at = at } in
       let two : machine.State = advanced one in
-      let last : Remains code w.task.block (at + 1) (instr.Trap Deep place ∷ []) term.Halt = behind code w.task.block at _ _ term.Halt here in
-      on_if_not code heartbeat (S.owing w.world (Out (Trap Deep place) (later w.state).ticks w.state.output)) one 0 go (next code one _ _ term.Halt here) (left ∙ ap (λ n. word.Int (pos n)) none)
+      let last : Remains code c.task.block (at + 1) (instr.Trap Deep place ∷ []) term.Halt = behind code c.task.block at _ _ term.Halt here in
+      on_if_not code heartbeat (S.owing w.world (out (Trap Deep place) (later w.state))) one 0 go (next code one _ _ term.Halt here) (left ∙ ap (λ n. word.Int (pos n)) none)
       (S.stops w.world (Trap Deep place) (later w.state) two (advanced two) tt shows.ticks shows.printed shows.ends (traps code heartbeat two Deep place (next code two _ _ term.Halt last) shows.free)))
 
   module _ (lowest : S.lowest ≤ length names) (has_room : HasRoom act) (low : z + act.size ≤ 2 ^ 62) (room back : ℕ) (most : ℕ) (more : List Instr) (last : Term) (behind_it : Opens code back (call_exit act.size more) last) (goes : GoesOn more last) where
     abbrev scene : Scene code heartbeat (z + act.size)
-    scene = callee code heartbeat z act fuel S names entry Also next_in k room back
+    scene = callee code heartbeat z act fuel S names lowest has_room A kept next_in k room back
 
     abbrev act_in : Activation
-    act_in = inner code heartbeat z act fuel S names entry Also next_in k room back most
+    act_in = inner code heartbeat z act fuel S names lowest has_room A kept next_in k room back entry most
 
     -- the caller's activation runs again
     returns : Returns code heartbeat fuel (z + act.size) act_in scene
     returns = record {
       label = λ w. back;
       calm = λ w. calm code back (call_exit act.size more) last behind_it;
-      held = λ w s kept. kept.label;
-      clear = λ w. w.clear;
+      held = λ w s held. held.label;
+      clear = λ w. clear code heartbeat z act fuel S names lowest has_room A kept next_in k room back w (z + act.size) (omega arith);
       goes_on = again;
     }
       where
         again : (w : Waiting) (names_in : List (List ℕ)) (st : meaning.State) (state : machine.State) (n : ℤ) (beat : BeatState) → ShowsIn code heartbeat (z + act.size) act_in fuel scene w names_in st state → InRange n → register state.registers 0 ≡ word.Int n
-            → (scene.owing w (Fin (with_value n st))).Holds (record state { stack = popped state.stack entry.size; beat = beat; block = back; at = 0 })
+            → (scene.owing w (fin (with_value n st))).Holds (record state { stack = popped state.stack entry.size; beat = beat; block = back; at = 0 })
         again w names_in st state n beat shows fits is =
             let one : machine.State = record state { stack = popped state.stack entry.size; beat = beat; block = back; at = 0 } in
             let here : Remains code back 0 (call_exit act.size more) last = opened code back (call_exit act.size more) last behind_it in
             let words : List Word = slice_set state.registers 31 (word.Int (pos z)) in
-            on_calc code heartbeat (scene.owing w (Fin (with_value n st))) one 31 31 alu.Sub (value.Int (pos act.size)) (word.Int (pos z)) (next code one _ more last here) (rw shows.base (ap (λ m. Ok (word.Int m)) (base_less z act.size low)))
+            on_calc code heartbeat (scene.owing w (fin (with_value n st))) one 31 31 alu.Sub (value.Int (pos act.size)) (word.Int (pos z)) (next code one _ more last here) (rw shows.base (ap (λ m. Ok (word.Int m)) (base_less z act.size low)))
             (goes w n st (with_register (advanced one) 31 (word.Int (pos z))) fits
-            (shows_back code heartbeat z act fuel S names entry Also next_in k room back lowest has_room w state.stack shows.keeps shows.top most names_in st state.registers words state.tables state.fuel state.output state.goal state.pending shows
+            (shows_back code heartbeat z act fuel S names lowest has_room A kept next_in k room back entry w state.stack shows.keeps shows.top most names_in st state.registers words state.tables state.fuel state.output state.goal (state.pending, state.met) shows
             (length-set state.registers 31 (word.Int (pos z)) ∙ shows.size) (register_set state.registers 31 (word.Int (pos z)) (omega (arith, shows.size))))
-            (caller_cells code heartbeat z act fuel S names entry Also next_in k room back lowest has_room w state.stack shows.keeps shows.top)
+            (also_back code heartbeat z act fuel S names lowest has_room A kept next_in k room back entry w state.stack shows.keeps shows.top)
             (register_other state.registers 31 0 (word.Int (pos z)) (λ (q : 0 ≡ 31). absurd (omega (arith, q))) ∙ is)
             (behind code back 0 _ more last here))
 
-  module _ (lowest : S.lowest ≤ length names) (fs : List Func) (f : Name) (is_entry : entry_of act.functions f.text.items ≡ Some entry) (begin : List Note) (instrs more : List Instr) (end last : Term) (call : Calls code act f.place entry instrs end more last) (goes : GoesOn more last) where
+  module _ (lowest : S.lowest ≤ length names) (fs : List Func) (f : Name) (is_entry : entry_of act.functions f.text.items ≡ Some entry) (begin : List Note) (begin_passes : Passes code heartbeat z S begin) (instrs more : List Instr) (end last : Term) (call : Calls code act f.place entry instrs end more last) (goes : GoesOn more last) where
     -- what a task owes at the tick, where calls have so many levels left
-    abbrev Owing : ℕ → Waiting → Type 0
-    Owing room w = (S.owing w.world (then (result (with_call (call_at fs fuel room f.text.items f.place w.numbers begin w.state) (next_in w))) k)).Holds w.task
+    abbrev Owing : ℕ → (w : Waiting) → Making w → Type 0
+    Owing room w c = (S.owing w.world (then (result (with_call (call_at fs fuel room f.text.items f.place c.numbers begin w.state) (next_in w.value))) k)).Holds c.task
 
-    tested : (w : Waiting) → Remains code w.task.block w.task.at instrs end → Remains code w.task.block w.task.at (call_test call.go f.place) term.Halt
-    tested w stands = regrouped code w.task.block w.task.at instrs (call_test call.go f.place) term.Halt call.test (subst (λ (t : Term). Remains code w.task.block w.task.at instrs t) call.stops stands)
+    tested : (w : Waiting) (c : Making w) → Remains code c.task.block c.task.at instrs end → Remains code c.task.block c.task.at (call_test call.go f.place) term.Halt
+    tested w c stands = regrouped code c.task.block c.task.at instrs (call_test call.go f.place) term.Halt call.test (subst (λ (t : Term). Remains code c.task.block c.task.at instrs t) call.stops stands)
 
-    goes_in : (room : ℕ) → S.levels ≡ suc room → CallsOwe code heartbeat fuel act.tables act.functions fs (suc room) → HasPlace z act (suc room) → (w : Waiting) → Remains code w.task.block w.task.at instrs end → Owing (suc room) w
-    goes_in room levels calls place w stands =
-        subst (λ (r : Result). (S.owing w.world r).Holds w.task) (sym (open_call fs fuel f.text.items f.place w.numbers begin w.state (next_in w) k room there.func there.named))
-        (at_test w (λ u. with_call (enter (body_set fs fuel room) (Some there.func) w.numbers begin u) (next_in w)) call.go f.place (tested w stands)
+    goes_in : (room : ℕ) → S.levels ≡ suc room → CallsOwe code heartbeat fuel act.tables act.functions fs (suc room) → HasPlace z act (suc room) → (w : Waiting) (c : Making w) → Remains code c.task.block c.task.at instrs end → Owing (suc room) w c
+    goes_in room levels calls place w c stands =
+        subst (λ (r : Result). (S.owing w.world r).Holds c.task) (sym (open_call fs fuel f.text.items f.place c.numbers begin w.state (next_in w.value) k room there.func there.named))
+        (at_test w c (λ u. with_call (enter (body_set fs fuel room) (Some there.func) c.numbers begin u) (next_in w.value)) call.go f.place (tested w c stands)
         (λ words spent beat at shows left here.
-        let one : machine.State = record w.task { registers = words; fuel = spent; beat = beat; at = at } in
+        let one : machine.State = record c.task { registers = words; fuel = spent; beat = beat; at = at } in
         let two : machine.State = at_block call.go (advanced one) in
         let is_left : register words 0 ≡ word.Int (pos (suc room)) = left ∙ ap (λ n. word.Int (pos n)) levels in
-        let K : Back code heartbeat = (callee code heartbeat z act fuel S names entry Also next_in k room call.return).owing w (then (result (run_list (body_set fs fuel room) there.func.body.items (entered_with there.func w.numbers (later w.state)))) (value_then there.func.result)) in
-        subst (λ (r : Result). (S.owing w.world r).Holds one) (sym (enter_is (body_set fs fuel room) there.func w.numbers begin (later w.state) (next_in w) k))
+        let given : Result = then (result (run_list (body_set fs fuel room) there.func.body.items (entered_with there.func c.numbers (later w.state)))) (value_then there.func.result) in
+        let K : Back code heartbeat = (callee code heartbeat z act fuel S names lowest place.has_room A kept next_in k room call.return).owing w given in
+        subst (λ (r : Result). (S.owing w.world r).Holds one) (sym (enter_is (body_set fs fuel room) there.func c.numbers begin (later w.state) (next_in w.value) k))
+        (begin_passes w.world (then given (going_back w.state.vars (next_in w.value) k)) one
         (on_if code heartbeat K one 0 call.go (pos (suc room)) (next code one _ _ term.Halt here) is_left (above_zero room) (calm code call.go _ _ call.enters)
         (entering code heartbeat z act fuel room call.return K two entry.label there.is.instrs there.is.end there.is.begins (opened code call.go _ _ call.enters) shows.size shows.base is_left (omega (arith, calls.few)) low shows.low (omega (arith, shows.top, there.is.has_room.room))
         (λ words_in beat_in many base.
-        calls.owe f.text.items entry is_entry (z + act.size) place_in (callee code heartbeat z act fuel S names entry Also next_in k room call.return) refl refl (λ y. tt) (returns lowest place.has_room low room call.return there.most more last call.behind goes) w (entered_with there.func w.numbers (later w.state))
-        (record two { registers = words_in; stack = entered_stack z act.size room call.return w.task.stack; beat = beat_in; block = entry.label; at = 0 })
-        (shows_callee code heartbeat z act fuel S names entry Also next_in k room call.return place.has_room w there.most there.func words_in spent (later w.state) there.arity (omega (arith, there.is.params, length-map there.func.params.items (λ (x : Name). x.text.items))) there.is.has_room
-        (shows_words code heartbeat z (wider act entry.size) fuel (under code heartbeat z S entry.size) w.world shows w.task.registers (w.shows.size ∙ sym shows.size) (w.shows.base ∙ sym shows.base)) many base) refl refl)))))
+        calls.owe f.text.items entry is_entry (z + act.size) place_in (callee code heartbeat z act fuel S names lowest place.has_room A kept next_in k room call.return) refl refl (λ y. omega arith) (returns lowest place.has_room low room call.return there.most more last call.behind goes) w (entered_with there.func c.numbers (later w.state))
+        (record two { registers = words_in; stack = entered_stack z act.size room call.return c.task.stack; beat = beat_in; block = entry.label; at = 0 })
+        (shows_callee code heartbeat z act fuel S names lowest place.has_room A kept next_in k room call.return entry w c there.most there.func words_in spent (later w.state) there.arity (omega (arith, there.is.params, length-map there.func.params.items (λ (x : Name). x.text.items))) there.is.has_room
+        (shows_words code heartbeat z (wider act entry.size) fuel S w.world shows c.task.registers (c.shows.size ∙ sym shows.size) (c.shows.base ∙ sym shows.base)) many base) refl refl))))))
       where
         there : FunctionAt code act.tables act.functions fs f.text.items entry
         there = calls.are f.text.items entry is_entry
@@ -393,11 +487,11 @@ module _ (code : Listing) (heartbeat z : ℕ) (act : Activation) (fuel : ℕ) (S
         low : z + act.size ≤ 2 ^ 62
         low = omega (arith, place.deep, place.has_room.fits)
 
-        place_in : HasPlace (z + act.size) (inner code heartbeat z act fuel S names entry Also next_in k room call.return there.most) room
+        place_in : HasPlace (z + act.size) (inner code heartbeat z act fuel S names lowest place.has_room A kept next_in k room call.return entry there.most) room
         place_in = record { has_room = there.is.has_room; deep = omega (arith, place.deep, place.has_room.fits) }
 
     -- a call, with what follows it
-    pub calls_law : (room : ℕ) → S.levels ≡ room → CallsOwe code heartbeat fuel act.tables act.functions fs room → HasPlace z act room → (w : Waiting) → Remains code w.task.block w.task.at instrs end → Owing room w
-    calls_law zero levels calls place w stands =
-        subst (λ (r : Result). (S.owing w.world r).Holds w.task) (sym (deep_call fs fuel f.text.items f.place w.numbers begin w.state (next_in w) k)) (too_deep w call.go f.place levels (tested w stands))
-    calls_law (suc room) levels calls place w stands = goes_in room levels calls place w stands
+    pub calls_law : (room : ℕ) → S.levels ≡ room → CallsOwe code heartbeat fuel act.tables act.functions fs room → HasPlace z act room → (w : Waiting) (c : Making w) → Remains code c.task.block c.task.at instrs end → Owing room w c
+    calls_law zero levels calls place w c stands =
+        subst (λ (r : Result). (S.owing w.world r).Holds c.task) (sym (deep_call fs fuel f.text.items f.place c.numbers begin w.state (next_in w.value) k)) (too_deep w c call.go f.place levels (tested w c stands))
+    calls_law (suc room) levels calls place w c stands = goes_in room levels calls place w c stands

@@ -1,5 +1,5 @@
 -- Cells of a table, and of what is held of it.
-use Rattle.std.proofs.Common.{◌≡◌, ◌≢◌, ℕ, ◌+◌, ◌*◌, ◌/◌, ◌%◌, ◌<◌, Bool, true, false, cond, List, [], ◌∷◌, length, Some, bytes_eq, Vec, refl, ap, sym, subst, ◌∙◌, arith}
+use Rattle.std.proofs.Common.{◌≡◌, ◌≢◌, ℕ, ◌+◌, ◌*◌, ◌/◌, ◌%◌, ◌<◌, Bool, true, false, cond, List, [], ◌∷◌, length, None, Some, bytes_eq, Vec, refl, ap, sym, subst, ◌∙◌, arith}
 use Rattle.std.specs.Prelude.{ℤ, pos, negsuc, ◌&&◌, nat_lt, slice_set, slice_index_or, All}
 use Rattle.std.specs.declared.cmp.Ordering.{Ordering}
 use Rattle.std.specs.declared.cmp.Ordering.TheVariants.{Less, Equal, Greater}
@@ -9,6 +9,7 @@ use Rattle.std.specs.FinMap.{get-insert}
 use Rattle.std.specs.Ordering.{eq_by_cmp, is_eq}
 use Rattle.std.proofs.lemmas.Bool.{true≢false}
 use Rattle.std.proofs.lemmas.Bool.Decides.{nat_tests}
+use Rattle.std.proofs.lemmas.Slice.Eq.{bytes_eq-Decides}
 use Rattle.std.proofs.lemmas.List.{get_or-set_same, get_or-set_other, length-set}
 use Rattle.std.proofs.lemmas.List.Elements.{All-nil, All-cons, All-head, All-tail, All-set}
 use Rattle.std.proofs.lemmas.Nat.{div-mul-add, mod-mul-add}
@@ -21,8 +22,8 @@ use Rattle.loop_meaning.specs.InRange.{InRange, TableInRange}
 use Rattle.loop_meaning.specs.State.{table_of, has_cell, cell_of, cell_number, with_cell, write_cell}
 use Rattle.tpal_machine.specs.Reading.{table_at}
 use Rattle.expr_lower.specs.Scopes.{number_in, has_table_in}
-use Rattle.block_lower.specs.Owing.{IsWholeOf}
-use Rattle.block_lower.proofs.Tables.{AreWhole, table_names, listed_names}
+use Rattle.block_lower.proofs.Regions.{Region, IsShown, AreShown}
+use Rattle.block_lower.proofs.Tables.{table_names, listed_names}
 
 -- ---- the cells that a table has
 
@@ -78,48 +79,57 @@ is_tie Less tie = absurd (true≢false (sym tie))
 is_tie Equal tie = refl
 is_tie Greater tie = absurd (true≢false (sym tie))
 
-pub whole_with : (h : Holding) (t : Table) (i j n : ℤ) → IsWholeOf h t → has_cell t i j ≡ true → IsWholeOf (held.with_cell h i j n) (with_cell t i j n)
-whole_with h t i j n whole has = record {
-  rows = whole.rows;
-  cols = whole.cols;
-  full = length-set t.cells (cell_number t i j) n ∙ whole.full;
-  cells = λ a b other. get-insert place_total h.cells (i, j) n (a, b) ∙ by_tie a b other (eq_by_cmp place_cmp (a, b) (i, j)) refl;
+pub shown_with : (has_it : ℤ → ℤ → Bool) (h : Holding) (t : Table) (i j n : ℤ) → IsShown has_it h t → has_cell t i j ≡ true → has_it i j ≡ true → IsShown has_it (held.with_cell h i j n) (with_cell t i j n)
+shown_with has_it h t i j n shown has covered = record {
+  rows = shown.rows;
+  cols = shown.cols;
+  full = length-set t.cells (cell_number t i j) n ∙ shown.full;
+  cells = λ a b other in_it. get-insert place_total h.cells (i, j) n (a, b) ∙ by_tie a b other in_it (eq_by_cmp place_cmp (a, b) (i, j)) refl;
+  others = λ a b outside. get-insert place_total h.cells (i, j) n (a, b) ∙ by_other a b outside (eq_by_cmp place_cmp (a, b) (i, j)) refl;
 }
   where
-    by_tie : (a b : ℤ) → has_cell t a b ≡ true → (same : Bool) → eq_by_cmp place_cmp (a, b) (i, j) ≡ same → cond same (Some n) (cell_at h a b) ≡ Some (cell_of (with_cell t i j n) a b)
-    by_tie a b other true is =
+    by_tie : (a b : ℤ) → has_cell t a b ≡ true → has_it a b ≡ true → (same : Bool) → eq_by_cmp place_cmp (a, b) (i, j) ≡ same → cond same (Some n) (cell_at h a b) ≡ Some (cell_of (with_cell t i j n) a b)
+    by_tie a b other in_it true is =
         let place : ◌≡◌ {A = ℤ × ℤ} (a, b) (i, j) = place_only (a, b) (i, j) (is_tie (place_cmp (a, b) (i, j)) is) in
         let number : cell_number t a b ≡ cell_number t i j = ap (λ (p : ℤ × ℤ). cell_number t p.0 p.1) place in
-        ap Some (sym (ap (λ k. slice_index_or (slice_set t.cells (cell_number t i j) n) k (pos 0)) number ∙ get_or-set_same t.cells (cell_number t i j) n (pos 0) (number_inside t i j whole.full has)))
-    by_tie a b other false is =
+        ap Some (sym (ap (λ k. slice_index_or (slice_set t.cells (cell_number t i j) n) k (pos 0)) number ∙ get_or-set_same t.cells (cell_number t i j) n (pos 0) (number_inside t i j shown.full has)))
+    by_tie a b other in_it false is =
         let apart : cell_number t a b ≢ cell_number t i j = λ (q : cell_number t a b ≡ cell_number t i j).
         true≢false (sym (subst (λ (p : ℤ × ℤ). eq_by_cmp place_cmp (a, b) p ≡ true) (same_cell t i j a b has other q) ((eq_by_cmp_equiv place_total).refl (a, b))) ∙ is) in
-        whole.cells a b other ∙ ap Some (sym (get_or-set_other t.cells (cell_number t i j) (cell_number t a b) n (pos 0) apart))
+        shown.cells a b other in_it ∙ ap Some (sym (get_or-set_other t.cells (cell_number t i j) (cell_number t a b) n (pos 0) apart))
+
+    by_other : (a b : ℤ) → has_it a b ≡ false → (same : Bool) → eq_by_cmp place_cmp (a, b) (i, j) ≡ same → cond same (Some n) (cell_at h a b) ≡ None
+    by_other a b outside true is =
+        let place : ◌≡◌ {A = ℤ × ℤ} (a, b) (i, j) = place_only (a, b) (i, j) (is_tie (place_cmp (a, b) (i, j)) is) in
+        absurd (true≢false (sym covered ∙ (sym (ap (λ (p : ℤ × ℤ). has_it p.0 p.1) place) ∙ outside)))
+    by_other a b outside false is = shown.others a b outside
 
 -- a cell of a table set, in the state and in what is held
-pub write_whole : (hs : List Holding) (ts : List Table) (us : List (Vec ℕ Global)) (x : List ℕ) (i j n : ℤ) → AreWhole hs ts → listed_names us ≡ table_names ts → has_table_in us x ≡ true → has_cell (table_of ts x) i j ≡ true
-    → AreWhole (slice_set hs (number_in us x) (held.with_cell (table_at hs (number_in us x)) i j n)) (write_cell ts x i j n)
-write_whole hs ts [] x i j n whole named has cell = cc
-write_whole hs [] (u ∷ us) x i j n whole named has cell = cc
-write_whole [] (t ∷ ts) (u ∷ us) x i j n whole named has cell = absurd whole
-write_whole (h ∷ hs) (t ∷ ts) (u ∷ us) x i j n whole named has cell =
+pub write_shown : (region : Region) (hs : List Holding) (ts : List Table) (us : List (Vec ℕ Global)) (x : List ℕ) (i j n : ℤ) → AreShown region hs ts → listed_names us ≡ table_names ts → has_table_in us x ≡ true → has_cell (table_of ts x) i j ≡ true → region x i j ≡ true
+    → AreShown region (slice_set hs (number_in us x) (held.with_cell (table_at hs (number_in us x)) i j n)) (write_cell ts x i j n)
+write_shown region hs ts [] x i j n shown named has cell covered = cc
+write_shown region hs [] (u ∷ us) x i j n shown named has cell covered = cc
+write_shown region [] (t ∷ ts) (u ∷ us) x i j n shown named has cell covered = absurd shown
+write_shown region (h ∷ hs) (t ∷ ts) (u ∷ us) x i j n shown named has cell covered =
     let others : listed_names us ≡ table_names ts = cc in
-    go (λ rest there. write_whole hs ts us x i j n whole.1 others rest there) (bytes_eq u.items x) refl
+    go (λ rest there. write_shown region hs ts us x i j n shown.1 others rest there covered) (bytes_eq u.items x) refl
   where
     alike : u.items ≡ t.name
     alike = cc
 
-    go : (has_table_in us x ≡ true → has_cell (table_of ts x) i j ≡ true → AreWhole (slice_set hs (number_in us x) (held.with_cell (table_at hs (number_in us x)) i j n)) (write_cell ts x i j n))
-        → (b : Bool) → bytes_eq u.items x ≡ b → AreWhole (slice_set (h ∷ hs) (number_in (u ∷ us) x) (held.with_cell (table_at (h ∷ hs) (number_in (u ∷ us) x)) i j n)) (write_cell (t ∷ ts) x i j n)
+    go : (has_table_in us x ≡ true → has_cell (table_of ts x) i j ≡ true → AreShown region (slice_set hs (number_in us x) (held.with_cell (table_at hs (number_in us x)) i j n)) (write_cell ts x i j n))
+        → (b : Bool) → bytes_eq u.items x ≡ b → AreShown region (slice_set (h ∷ hs) (number_in (u ∷ us) x) (held.with_cell (table_at (h ∷ hs) (number_in (u ∷ us) x)) i j n)) (write_cell (t ∷ ts) x i j n)
     go behind true e =
         let f : bytes_eq t.name x ≡ true = rw alike at e in
         let there : has_cell t i j ≡ true = rw f at cell in
-        rw (e, f, write_cell) (whole_with h t i j n whole.0 there, whole.1)
+        let same : x ≡ t.name = sym ((bytes_eq-Decides t.name x).0 f) in
+        let in_it : region t.name i j ≡ true = subst (λ (y : List ℕ). region y i j ≡ true) same covered in
+        rw (e, f, write_cell) (shown_with (region t.name) h t i j n shown.0 there in_it, shown.1)
     go behind false e =
         let f : bytes_eq t.name x ≡ false = rw alike at e in
         let rest : has_table_in us x ≡ true = rw e at has in
         let there : has_cell (table_of ts x) i j ≡ true = rw f at cell in
-        rw (e, f, write_cell) (whole.0, behind rest there)
+        rw (e, f, write_cell) (shown.0, behind rest there)
 
 pub names_write : (ts : List Table) (x : List ℕ) (i j n : ℤ) → table_names (write_cell ts x i j n) ≡ table_names ts
 names_write [] x i j n = refl

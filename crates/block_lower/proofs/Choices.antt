@@ -30,7 +30,8 @@ use Rattle.block_lower.specs.Layout.{Activation}
 use Rattle.block_lower.specs.Code.{Computes, Opens, to}
 use Rattle.block_lower.specs.Names.{names_after, names_after_list}
 use Rattle.block_lower.proofs.Moves.{opened, calm, jumps}
-use Rattle.block_lower.proofs.Scene.{Scene, ShowsIn, Owed, Result, result, then, left, leave_then}
+use Rattle.block_lower.proofs.Results.{Result, result, then, left, leave_then}
+use Rattle.block_lower.proofs.Scene.{Scene, ShowsIn, Owed}
 use Rattle.block_lower.proofs.Showing.{as_many, shows_left}
 use Rattle.block_lower.proofs.Simple.{still_shows}
 use Rattle.block_lower.proofs.Values.{ExprLaw, computes}

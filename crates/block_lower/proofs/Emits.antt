@@ -10,7 +10,7 @@ use Rattle.tp_value.specs.declared.Table.{Table}
 use Rattle.loop_syntax.specs.declared.Name.{Name}
 use Rattle.loop_syntax.specs.declared.Stmt.TheVariants.{Emit}
 use Rattle.loop_meaning.specs.State as meaning
-use Rattle.loop_meaning.specs.State.{has_cell, print_table, row_lines, table_of}
+use Rattle.loop_meaning.specs.State.{Emits, has_cell, print_table, row_lines, table_of}
 use Rattle.loop_meaning.specs.Statements.{Setting, run}
 use Rattle.loop_meaning.specs.RowText.{row_text}
 use Rattle.tpal_syntax.specs.declared.instructions.Instr.{Instr}
@@ -21,14 +21,17 @@ use Rattle.tpal_machine.specs.Effect as effect
 use Rattle.tpal_machine.specs.Effect.{line_of, numbers_from, row_numbers, rows_text, table_lines, with_first, with_line}
 use Rattle.tpal_machine.specs.Reading.{table_at}
 use Rattle.tpal_machine.specs.Step.{advanced}
+use Rattle.expr_lower.specs.Scopes.{table_number}
 use Rattle.expr_lower.proofs.Standing.{next, behind}
 use Rattle.block_lower.specs.Code.{IsTable}
 use Rattle.block_lower.specs.Layout.{Activation}
-use Rattle.block_lower.proofs.Scene.{Scene, Owed, Result, result, then}
+use Rattle.block_lower.proofs.Results.{Result, result, then}
+use Rattle.block_lower.proofs.Scene.{Scene, Owed}
 use Rattle.block_lower.proofs.Showing.{shows_output}
 use Rattle.block_lower.proofs.TableSteps.{on_emit}
 use Rattle.block_lower.specs.Owing.{IsWholeOf}
-use Rattle.block_lower.proofs.Values.{whole}
+use Rattle.block_lower.proofs.Regions.{shown_whole}
+use Rattle.block_lower.proofs.Values.{shown}
 
 -- numbers that stand in a list, from a place on
 numbers_are : (value_of : ℕ → Option ℤ) (xs : List ℤ) (base n at : ℕ) → base + at + n ≤ length xs → ((c : ℕ) → c < at + n → value_of c ≡ Some (slice_index_or xs (base + c) (pos 0))) → numbers_from value_of at n ≡ Some (take n (drop (base + at) xs))
@@ -79,6 +82,9 @@ module _ (code : Listing) (heartbeat z : ℕ) (act : Activation) (set : Setting)
   emit_law place t table more end is post i st state shows stands =
       let meant : Table = table_of st.tables t.text.items in
       let text : List ℕ = row_lines meant.rows meant.cols meant.cells in
-      let held : IsWholeOf (table_at state.tables table) meant = subst (λ n. IsWholeOf (table_at state.tables n) meant) (sym is.is) (whole code heartbeat z act set.fuel S i names st state shows is.scope is.sees t.text.items is.inside) in
+      S.touches i (Emits t.text.items ∷ []) (k (print_table meant st)) state (tt, tt) (λ covered.
+      let held : IsWholeOf (table_at state.tables table) meant =
+      subst (λ n. IsWholeOf (table_at state.tables n) meant) (sym is.is)
+      (shown_whole (table_at state.tables (table_number is.scope t.text.items)) meant (S.region i t.text.items) (shown code heartbeat z act set.fuel S i names st state shows is.scope is.sees t.text.items is.inside) covered.0) in
       on_emit code heartbeat (S.owing i (k (print_table meant st))) state table text (next code state _ more end stands) (lines_are (table_at state.tables table) meant held)
-      (post i (print_table meant st) (effect.with_output (advanced state) text) (shows_output code heartbeat z act set.fuel S i shows text) (behind code state.block state.at _ more end stands))
+      (post i (print_table meant st) (effect.with_output (advanced state) text) (shows_output code heartbeat z act set.fuel S i shows text) (behind code state.block state.at _ more end stands)))

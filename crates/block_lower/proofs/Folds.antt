@@ -37,7 +37,8 @@ use Rattle.expr_lower.proofs.Registers.{register_set, register_other}
 use Rattle.expr_lower.proofs.Standing.{next, behind}
 use Rattle.block_lower.specs.Code.{Computes, Operand, number, computed, IsCell, alu_of, store, load}
 use Rattle.block_lower.specs.Layout.{Activation}
-use Rattle.block_lower.proofs.Scene.{Scene, ShowsIn, Owed, Result, result, then}
+use Rattle.block_lower.proofs.Results.{Result, result, then}
+use Rattle.block_lower.proofs.Scene.{Scene, ShowsIn, Owed}
 use Rattle.block_lower.proofs.Showing.{shows_words, shows_assigned}
 use Rattle.block_lower.proofs.Simple.{stores, still_shows}
 use Rattle.block_lower.proofs.Values.{ExprLaw, computes, operand_is, in_range}
@@ -58,7 +59,7 @@ operand_stays code act names e _ instrs more (computed c) words w = register_oth
 
 module _ (code : Listing) (heartbeat z : ℕ) (act : Activation) (set : Setting) (expr_law : ExprLaw code heartbeat) (S : Scene code heartbeat z) (names : List (List ℕ)) (lowest : S.lowest ≤ length names) (k : meaning.State → Result) where
   pub fold_law : (fixed : List ℕ) (x : Name) (e : Expr) (o : Op) (v : operands.Value) (cell : ℕ) (instrs more : List Instr) (end : Term) → operator_of set.reduces x.text.items ≡ Some o
-      → (c : IsCell code act names fixed x.text.items cell) → S.may c.level → Operand code act names e 0 v instrs (load 1 cell ∷ instr.Calc 1 1 (alu_of o) v ∷ store cell (value.Reg 1) ∷ more)
+      → (c : IsCell code act names fixed x.text.items cell) → S.may cell → Operand code act names e 0 v instrs (load 1 cell ∷ instr.Calc 1 1 (alu_of o) v ∷ store cell (value.Reg 1) ∷ more)
       → Owed code heartbeat z act set.fuel S names more end k → Owed code heartbeat z act set.fuel S names instrs end (λ st. then (result (run set (Fold x e) st)) k)
   fold_law fixed x e o v cell instrs more end is_op is_cell may c post i st state shows stands =
       subst (λ (p : Option Op). (S.owing i (then (result (given e st (λ n. done (record st { vars = folded p st.vars x.text.items n })))) k)).Holds state) (sym is_op)

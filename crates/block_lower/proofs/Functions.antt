@@ -33,7 +33,8 @@ use Rattle.block_lower.proofs.Called.{with_value, value_then, body_set}
 use Rattle.block_lower.proofs.Callees.{Returns, FunctionOwes, FunctionsOwe, CallsOwe}
 use Rattle.block_lower.proofs.Choices.{enters}
 use Rattle.block_lower.proofs.Law.{codes_law}
-use Rattle.block_lower.proofs.Scene.{Scene, ShowsIn, Owed, Fin, result, then}
+use Rattle.block_lower.proofs.Results.{fin, result, then}
+use Rattle.block_lower.proofs.Scene.{Scene, ShowsIn, Owed}
 use Rattle.block_lower.proofs.Showing.{shows_words}
 use Rattle.block_lower.proofs.Simple.{still_shows}
 use Rattle.block_lower.proofs.Values.{ExprLaw, computes}
@@ -42,9 +43,9 @@ module _ (code : Listing) (heartbeat z : ℕ) (act : Activation) (fuel : ℕ) (e
   -- behind the body of a function its result is left in register 0, and control returns
   gives_value : (f : Func) (label : ℕ) (is : IsFunction code act f label) → Owed code heartbeat z act fuel C (names_after_list (texts f.params.items) f.body.items) is.last (term.Jump (value.Reg 1)) (value_then f.result)
   gives_value f label is w st state shows stands =
-      computes code heartbeat z act fuel expr_law C w (names_after_list (texts f.params.items) f.body.items) st state shows f.result 0 is.last (load 1 return_cell ∷ instr.Sfree act.size ∷ []) (term.Jump (value.Reg 1)) is.value stands (λ n. done (with_value n st)) Fin
+      computes code heartbeat z act fuel expr_law C w (names_after_list (texts f.params.items) f.body.items) st state shows f.result 0 is.last (load 1 return_cell ∷ instr.Sfree act.size ∷ []) (term.Jump (value.Reg 1)) is.value stands (λ n. done (with_value n st)) fin
       (λ n fits words beat at keeps is_n here.
-      let K : Back code heartbeat = C.owing w (Fin (with_value n st)) in
+      let K : Back code heartbeat = C.owing w (fin (with_value n st)) in
       let one : machine.State = moved state words beat at in
       let shows_one : ShowsIn code heartbeat z act fuel C w (names_after_list (texts f.params.items) f.body.items) st one = still_shows code heartbeat z act fuel C w (names_after_list (texts f.params.items) f.body.items) st state 0 words beat at shows keeps in
       let back : Word = word.Label (returns.label w) in

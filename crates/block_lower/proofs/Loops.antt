@@ -1,9 +1,10 @@
 -- The laws of `loop`.
-use Rattle.std.proofs.Common.{◌≡◌, ◌≢◌, ℕ, zero, suc, ◌+◌, ◌<◌, ◌≤◌, Bool, true, false, List, [], ◌∷◌, ◌++◌, length, take, Option, Some, None, Ok, refl, sym, ap, subst, ◌∙◌, arith, Vec}
+use Rattle.std.proofs.Common.{◌≡◌, ◌≢◌, ℕ, zero, suc, ◌+◌, ◌<◌, ◌≤◌, Bool, true, false, List, [], ◌∷◌, ◌++◌, length, take, Option, Some, None, Ok, refl, sym, ap, subst, ◌∙◌, arith, Vec, ⊎_elim}
 use Rattle.std.specs.Prelude.{ℤ, pos, ◌+ℤ◌, int_lt, ⊤, slice_set}
 use Rattle.std.specs.declared.alloc.Global.{Global}
 use Rattle.std.specs.Int.{int_gap, w64}
 use Rattle.std.proofs.lemmas.Int.{int_wrap_fits}
+use Rattle.std.proofs.lemmas.Bool.{cases_lt}
 use Rattle.std.proofs.lemmas.List.{length-set}
 use Rattle.beat_count.specs.BeatState.{BeatState}
 use Rattle.beat_count.specs.Heartbeat.{counted}
@@ -14,11 +15,9 @@ use Rattle.loop_syntax.specs.declared.Name.{Name}
 use Rattle.loop_syntax.specs.declared.Expr.{Expr}
 use Rattle.loop_syntax.specs.declared.Stmt.{Stmt}
 use Rattle.loop_syntax.specs.declared.Stmt.TheVariants.{Loop}
-use Rattle.loop_meaning.specs.declared.value.Answer.TheVariants.{Number}
-use Rattle.loop_meaning.specs.Expressions.{eval}
 use Rattle.loop_meaning.specs.InRange.{InRange}
 use Rattle.loop_meaning.specs.State as meaning
-use Rattle.loop_meaning.specs.State.{Ran, after, declare, done, noted, tick}
+use Rattle.loop_meaning.specs.State.{Note, Ran, after, declare, done, noted, tick}
 use Rattle.loop_meaning.specs.Statements.{Setting, given, run, run_list, iterate, iteration}
 use Rattle.loop_meaning.proofs.Runs.{run_loop_is}
 use Rattle.tpal_syntax.specs.declared.instructions.Alu.TheVariants as alu
@@ -46,7 +45,9 @@ use Rattle.block_lower.specs.Layout.{value_cell, bound_cell, Activation}
 use Rattle.block_lower.proofs.Choices.{enters, leaving}
 use Rattle.block_lower.proofs.Gaps.{IsGap, gap_is, gap_next, gap_more, gap_none, next_in}
 use Rattle.block_lower.proofs.Moves.{opened, calm, jumps}
-use Rattle.block_lower.proofs.Scene.{Scene, Same, Shows, ShowsIn, Owed, Result, result, then, left, after_then}
+use Rattle.block_lower.proofs.Results.{Result, result, then, left, after_then, noting, noting_then}
+use Rattle.block_lower.proofs.Scene.{Scene, Same, Near, Shows, ShowsIn, Owed, runs_kept}
+use Rattle.block_lower.proofs.Activations.{clear_above}
 use Rattle.block_lower.proofs.Showing.{as_many, shows_words, shows_new, shows_declared, shows_ticked, shows_left}
 use Rattle.block_lower.proofs.Simple.{stores, still_shows}
 use Rattle.block_lower.proofs.Ticks.{ticks}
@@ -59,9 +60,33 @@ abbrev pub BoundHeld : ℕ → ℕ → Option ℤ → StackValue → Type 0
 BoundHeld z level None s = ⊤
 BoundHeld z level (Some j) s = word_at s (pos (z + bound_cell level)) ≡ Some (word.Int j)
 
-pub bound_kept : (z level : ℕ) (held : Option ℤ) (may : ℕ → Type 0) (other : ℕ) (s t : StackValue) → suc level ≤ other → Same z may other s t → BoundHeld z level held s → BoundHeld z level held t
-bound_kept z level None may other s t low same h = tt
-bound_kept z level (Some j) may other s t low same h = same.at (z + bound_cell level) (omega (arith, low)) (λ x m q. omega (arith, q)) ∙ h
+pub bound_kept : (z level : ℕ) (held : Option ℤ) (may : ℕ → Type 0) (other : ℕ) (s t : StackValue) → suc level ≤ other → ((c : ℕ) → may c → c ≢ bound_cell level) → Same z may other s t → BoundHeld z level held s → BoundHeld z level held t
+bound_kept z level None may other s t low never same h = tt
+bound_kept z level (Some j) may other s t low never same h = same.at (z + bound_cell level) (omega (arith, low)) (λ c m q. never c m (omega (arith, q))) ∙ h
+
+-- a handler that cuts a world leaves it too
+pub bound_near : (z : ℕ) (may : ℕ → Type 0) (lowest level : ℕ) (held : Option ℤ) (s t : StackValue) → lowest ≤ level → Near z may lowest s t → BoundHeld z level held s → BoundHeld z level held t
+bound_near z may lowest level None s t low near h = tt
+bound_near z may lowest level (Some j) s t low near h = near.above (z + bound_cell level) (omega (arith, low)) ∙ h
+
+-- what may change in a loop's body: neither the loop's variable nor its bound
+abbrev pub MayIn : ℕ → (ℕ → Type 0) → ℕ → Type 0
+MayIn level may c = (c ≢ value_cell level) × (c ≢ bound_cell level) × may c
+
+-- what is changed neither from one level on nor in the variables below is so from a higher one on
+pub nearer : (z : ℕ) (may : ℕ → Type 0) (lowest level : ℕ) (s t : StackValue) → lowest ≤ level → Near z may lowest s t → Near z (MayIn level may) (suc level) s t
+nearer z may lowest level s t low near = record {
+  low = near.low;
+  top = near.top;
+  levels = near.levels;
+  vars = λ x lt. ⊎_elim (λ (below : x < lowest). near.vars x below) (λ (above : lowest ≤ x). near.above (z + value_cell x) (omega (arith, above))) (cases_lt x lowest);
+  own = λ c m. near.own c m.2;
+  above = λ a from. near.above a (omega (arith, low, from));
+}
+
+-- what a loop's body keeps
+abbrev pub KeptIn : ℕ → ℕ → ℤ → Option ℤ → (StackValue → Type 0) → StackValue → Type 0
+KeptIn z level m held outer s = outer s × (word_at s (pos (z + value_cell level)) ≡ Some (word.Int m)) × BoundHeld z level held s
 
 -- a store to the variable's cell leaves the bound
 bound_stays : (z level : ℕ) (held : Option ℤ) (s : StackValue) (w : Word) → s.base ≤ z → BoundHeld z level held s → BoundHeld z level held (with_word s (pos (z + value_cell level)) w)
@@ -73,18 +98,34 @@ module _ (code : Listing) (heartbeat z : ℕ) where
   inside S level lowest m held = record {
     World = S.World;
     levels = S.levels;
+    fuel = S.fuel;
+    dispatch = S.dispatch;
     owing = S.owing;
+    diverted = S.diverted;
     marks = S.marks;
     goal = S.goal;
     before = S.before;
     since = S.since;
-    kept = λ w s. S.kept w s × (word_at s (pos (z + value_cell level)) ≡ Some (word.Int m)) × BoundHeld z level held s;
+    region = S.region;
+    kept = λ w s. KeptIn z level m held (S.kept w) s;
     lowest = suc level;
-    may = λ x. (level ≢ x) × S.may x;
+    may = MayIn level S.may;
+    cut = S.cut;
+    below = λ w. clear_above (S.marks w) (z + value_cell S.lowest) (z + value_cell (suc level)) (omega (arith, lowest)) (S.below w);
+    touches = S.touches;
+    points = S.points;
+    passes = S.passes;
+    handles = λ w more r st state marked diverted runs back cut. S.handles w more r st state marked diverted (runs_kept runs (S.kept w) runs.keeps.0) back
+        (λ k u gone near runs_u. cut k u gone (nearer z S.may S.lowest level state.stack u.stack lowest near)
+        (runs_kept runs_u (KeptIn z level m held (S.kept (S.cut w k st.output))) (
+          runs_u.keeps,
+          near.above (z + value_cell level) (omega (arith, lowest)) ∙ runs.keeps.1,
+          bound_near z S.may S.lowest level held state.stack u.stack lowest near runs.keeps.2,
+        )));
     stable = λ w other s t low same k. (
-      S.stable w other s t (omega (arith, lowest, low)) (record { base = same.base; size = same.size; marks = same.marks; at = λ a lt others. same.at a lt (λ x m. others x m.1) }) k.0,
-      same.at (z + value_cell level) (omega (arith, low)) (λ x m q. m.0 (omega (arith, q))) ∙ k.1,
-      bound_kept z level held (λ x. (level ≢ x) × S.may x) other s t low same k.2,
+      S.stable w other s t (omega (arith, lowest, low)) (record { base = same.base; at = λ a lt others. same.at a lt (λ c m. others c m.2) }) k.0,
+      same.at (z + value_cell level) (omega (arith, low)) (λ c m q. m.0 (omega (arith, q))) ∙ k.1,
+      bound_kept z level held (MayIn level S.may) other s t low (λ c m. m.1) same k.2,
     );
     stops = S.stops;
   }
@@ -95,12 +136,14 @@ module _ (code : Listing) (heartbeat z : ℕ) where
       size = h.size;
       base = h.base;
       limit = h.limit;
+      limited = h.limited;
       ticks = h.ticks;
       within = h.within;
       begun = h.begun;
       printed = h.printed;
       ends = h.ends;
       free = h.free;
+      unmet = h.unmet;
       marked = h.marked;
       named = h.named;
       few = h.few;
@@ -121,12 +164,14 @@ module _ (code : Listing) (heartbeat z : ℕ) where
       size = h.size;
       base = h.base;
       limit = h.limit;
+      limited = h.limited;
       ticks = h.ticks;
       within = h.within;
       begun = h.begun;
       printed = h.printed;
       ends = h.ends;
       free = h.free;
+      unmet = h.unmet;
       marked = h.marked;
       named = h.named;
       few = h.few;
@@ -159,7 +204,7 @@ module _ (code : Listing) (heartbeat z : ℕ) (act : Activation) (fuel : ℕ) (S
       words_by : Bool → List Word
       words_by b = slice_set state.registers 0 (word.Int (truth b))
 
-      shows_by : (b : Bool) → Shows code heartbeat z act fuel S i names st (words_by b) state.stack state.tables state.fuel state.output state.goal state.pending
+      shows_by : (b : Bool) → Shows code heartbeat z act fuel S i names st (words_by b) state.stack state.tables state.fuel state.output state.goal (state.pending, state.met)
       shows_by b = shows_words code heartbeat z act fuel S i shows (words_by b) (length-set state.registers 0 (word.Int (truth b))) (register_other state.registers 0 31 (word.Int (truth b)) (λ (q : 31 ≡ 0). absurd (omega (arith, q))))
 
       is_by : (b : Bool) → register (words_by b) 0 ≡ word.Int (truth b)
@@ -231,17 +276,22 @@ module _ (code : Listing) (heartbeat z : ℕ) (act : Activation) (fuel : ℕ) (S
 
 -- ---- the turns of a loop
 
+-- these notes needn't be told
+abbrev pub Passes : (code : Listing) (heartbeat z : ℕ) → Scene code heartbeat z → List Note → Type 0
+Passes code heartbeat z S notes = (i : S.World) (r : Result) (state : machine.State) → (S.owing i r).Holds state → (S.owing i (noting notes r)).Holds state
+
 module _ (code : Listing) (heartbeat z : ℕ) (act : Activation) (set : Setting) (S : Scene code heartbeat z) (names inner : List (List ℕ)) (lowest : S.lowest ≤ length names) (room : length names < act.most) (first : take (length names) inner ≡ names) (k : meaning.State → Result)
     (x : List ℕ) (body : List Stmt) (counter : ℕ) (small : counter < 24) (bound : operands.Value) (held : Option ℤ) (j : ℤ) (in_j : InRange j) (again exit : ℕ) (instrs reload more : List Instr) (last end : Term)
     (begins : Opens code again (instr.Tick ∷ instrs) last) (ends : Opens code exit more end)
     (post : Owed code heartbeat z act set.fuel S names more end k)
     (body_law : (m : ℤ) (f : meaning.State → Result) → Owed code heartbeat z act set.fuel (inside code heartbeat z S (length names) lowest m held) inner (step_up counter (length names) reload) (to exit) f
     → Owed code heartbeat z act set.fuel (inside code heartbeat z S (length names) lowest m held) (names ++ x ∷ []) instrs last (λ st. then (result (run_list set body st)) f))
+    (notes : List Note) (notes_pass : Passes code heartbeat z S notes)
     (reloads : (K : Back code heartbeat) (i : S.World) (st : meaning.State) (state : machine.State) (m : ℤ) → ShowsIn code heartbeat z act set.fuel S i names st state → BoundHeld z (length names) held state.stack → register state.registers counter ≡ word.Int m → Remains code state.block state.at reload (to exit)
     → ((words : List Word) (beat : BeatState) (at : ℕ) → ShowsIn code heartbeat z act set.fuel S i names st (moved state words beat at) → register words counter ≡ word.Int m → operand words bound ≡ word.Int j → Remains code state.block at (below_test counter bound again) (to exit) → K.Holds (moved state words beat at))
     → K.Holds state) where
   abbrev iterating : ℕ → ℤ → meaning.State → Ran
-  iterating n m = iterate set.fuel x (run_list set body) [] [] n m
+  iterating n m = iterate set.fuel x (run_list set body) notes notes n m
 
   -- what a task owes at the test, with so many turns to go
   abbrev AtTest : ℕ → Type 0
@@ -250,22 +300,23 @@ module _ (code : Listing) (heartbeat z : ℕ) (act : Activation) (set : Setting)
       → register state.registers counter ≡ word.Int m → operand state.registers bound ≡ word.Int j → word_at state.stack (pos (z + value_cell (length names))) ≡ Some (word.Int m) → BoundHeld z (length names) held state.stack
       → Remains code state.block state.at (below_test counter bound again) (to exit) → (S.owing i (then (result (iterating n m st)) k)).Holds state
 
-  -- one turn, and what follows it
-  pub a_turn : (n : ℕ) → AtTest n → (m : ℤ) (i : S.World) (st : meaning.State) → IsGap (suc n) m j → InRange m → (task : machine.State) → ShowsIn code heartbeat z act set.fuel S i names st task → task.block ≡ again → task.at ≡ 0
-      → word_at task.stack (pos (z + value_cell (length names))) ≡ Some (word.Int m) → BoundHeld z (length names) held task.stack → (S.owing i (then (result (iterating (suc n) m st)) k)).Holds task
+  -- one turn, where that is noted first, and what follows it
+  pub a_turn : (first_notes : List Note) → Passes code heartbeat z S first_notes → (n : ℕ) → AtTest n → (m : ℤ) (i : S.World) (st : meaning.State) → IsGap (suc n) m j → InRange m → (task : machine.State) → ShowsIn code heartbeat z act set.fuel S i names st task → task.block ≡ again → task.at ≡ 0
+      → word_at task.stack (pos (z + value_cell (length names))) ≡ Some (word.Int m) → BoundHeld z (length names) held task.stack → (S.owing i (then (result (iterate set.fuel x (run_list set body) notes first_notes (suc n) m st)) k)).Holds task
   unfolding iterate
-  a_turn n goes m i st gap in_m task shows_task at_label at_begin cell_is bound_held =
+  a_turn first_notes first_pass n goes m i st gap in_m task shows_task at_label at_begin cell_is bound_held =
       let begun : Remains code again 0 (instr.Tick ∷ instrs) last = opened code again (instr.Tick ∷ instrs) last begins in
       let here : Remains code task.block task.at (instr.Tick ∷ instrs) last = rw (at_label, at_begin) begun in
       let after_tick : machine.State = effect.with_tick (advanced task) in
       let later : meaning.State = record st { ticks = ticked set.fuel st.ticks } in
-      subst (λ (r : Result). (S.owing i r).Holds task) (sym (after_then (iteration set.fuel x (run_list set body) [] m st) (iterating n (m +ℤ pos 1)) k))
+      subst (λ (r : Result). (S.owing i r).Holds task) (sym (after_then (iteration set.fuel x (run_list set body) first_notes m st) (iterating n (m +ℤ pos 1)) k))
       (leaving code heartbeat z act set.fuel S i names st task (λ t. after (tick set.fuel t) G) st follows (as_many st.vars names shows_task.named)
       (ticks code heartbeat z act set.fuel S i names st task shows_task instrs last G (λ s. follows (left (length names) s)) here
       (λ below.
       let ticked_shows : ShowsIn code heartbeat z act set.fuel S i names later after_tick = shows_ticked code heartbeat z act set.fuel S i shows_task below in
       let with_variable : ShowsIn code heartbeat z act set.fuel S i (names ++ x ∷ []) (record later { vars = declare later.vars x m }) after_tick = shows_declared code heartbeat z act set.fuel S i ticked_shows x m room cell_is in_m in
-      body_law m (λ s. follows (left (length names) s))
+      first_noted i later after_tick
+      (body_law m (λ s. follows (left (length names) s))
       (λ w s done_task shows_done stands_done.
       let shows_s : ShowsIn code heartbeat z act set.fuel S w names (left (length names) s) done_task =
       shows_left code heartbeat z act set.fuel S w (shows_out code heartbeat z act set.fuel S (length names) lowest m held w inner s done_task shows_done) (length names) names first in
@@ -282,13 +333,19 @@ module _ (code : Listing) (heartbeat z : ℕ) (act : Activation) (set : Setting)
       goes (m +ℤ pos 1) w (left (length names) s) (moved up words_r beat_r at_r) shows_r (gap_next n m j gap) (next_in n m j gap in_m in_j) is_r bound_r cell_up bound_up left_r)))
       i (record later { vars = declare later.vars x m }) after_tick
       (shows_in code heartbeat z act set.fuel S (length names) lowest m held i (names ++ x ∷ []) (record later { vars = declare later.vars x m }) after_tick with_variable cell_is bound_held)
-      (behind code task.block task.at instr.Tick instrs last here))))
+      (behind code task.block task.at instr.Tick instrs last here)))))
     where
       follows : meaning.State → Result
       follows s = then (result (iterating n (m +ℤ pos 1) s)) k
 
       G : meaning.State → Ran
-      G t = noted [] (run_list set body (record t { vars = declare t.vars x m }))
+      G t = noted first_notes (run_list set body (record t { vars = declare t.vars x m }))
+
+      -- what is noted first needn't be told
+      first_noted : (w : S.World) (t : meaning.State) (u : machine.State) → (S.owing w (then (result (run_list set body (record t { vars = declare t.vars x m }))) (λ s. follows (left (length names) s)))).Holds u → (S.owing w (then (result (G t)) (λ s. follows (left (length names) s)))).Holds u
+      first_noted w t u holds =
+          subst (λ (r : Result). (S.owing w r).Holds u) (sym (noting_then first_notes (result (run_list set body (record t { vars = declare t.vars x m }))) (λ s. follows (left (length names) s))))
+          (first_pass w (then (result (run_list set body (record t { vars = declare t.vars x m }))) (λ s. follows (left (length names) s))) u holds)
 
   pub loop_at : (n : ℕ) → AtTest n
   unfolding iterate
@@ -300,7 +357,7 @@ module _ (code : Listing) (heartbeat z : ℕ) (act : Activation) (set : Setting)
   loop_at (suc n) m i st state shows gap in_m is_counter is_bound cell bound_is stands =
       let over : int_lt m j ≡ true = gap_more n m j gap in
       tests_below code heartbeat z act set.fuel S i names st state shows (then (result (iterating (suc n) m st)) k) counter bound again exit (instr.Tick ∷ instrs) more last end m j is_counter is_bound stands begins ends
-      (λ is words beat shows_it. a_turn n (loop_at n) m i st gap in_m (moved_to state words beat again 0) shows_it refl refl cell bound_is)
+      (λ is words beat shows_it. a_turn notes notes_pass n (loop_at n) m i st gap in_m (moved_to state words beat again 0) shows_it refl refl cell bound_is)
       (λ is words beat shows_it. cc)
 
 -- ---- the bounds
@@ -384,16 +441,15 @@ module _ (code : Listing) (heartbeat z : ℕ) (act : Activation) (set : Setting)
       (computes code heartbeat z act set.fuel expr_law S i names st state shows a 0 here (store (value_cell (length names)) (value.Reg 0) ∷ below_test 0 (value.Int n) again) (to exit) c stands
       (λ m. given b st (λ j. iterate set.fuel x.text.items (run_list set body.items) [] [] (int_gap m j) m st)) k
       (λ m in_m words beat at keeps is left_here.
-      let same : (eval st.vars st.tables b).answer ≡ Number n = literal_value st.vars st.tables b n is_literal in
       let one : machine.State = moved state words beat at in
       let shows_one : ShowsIn code heartbeat z act set.fuel S i names st one = still_shows code heartbeat z act set.fuel S i names st state 0 words beat at shows keeps in
       let K : Back code heartbeat = S.owing i (then (result (iterate set.fuel x.text.items (run_list set body.items) [] [] (int_gap m n) m st)) k) in
       let from : state.stack.base ≤ z + value_cell (length names) = omega (arith, shows_one.low) in
       let within : z + value_cell (length names) < state.stack.base + length state.stack.cells = omega (arith, shows_one.room, room) in
-      rw same
+      rw (literal_value st.vars st.tables b n is_literal)
       (stores code heartbeat z act set.fuel K one (value_cell (length names)) (value.Reg 0) (below_test 0 (value.Int n) again) (to exit) left_here shows_one.base shows_one.low shows_one.room (omega arith)
       (subst (λ (w : Word). K.Holds (effect.with_stack (advanced one) (with_word state.stack (pos (z + value_cell (length names))) w))) (sym is)
-      (loop_at code heartbeat z act set S names inner lowest room first k x.text.items body.items 0 (omega arith) (value.Int n) None n in_n again exit instrs (below_test 0 (value.Int n) again) more last end begins ends post body_law
+      (loop_at code heartbeat z act set S names inner lowest room first k x.text.items body.items 0 (omega arith) (value.Int n) None n in_n again exit instrs (below_test 0 (value.Int n) again) more last end begins ends post body_law [] (λ w r u holds. holds)
       (λ L w s task mm shows_s held_s is_s stands_s go. go task.registers task.beat task.at shows_s is_s refl stands_s)
       (int_gap m n) m i st (effect.with_stack (advanced one) (with_word state.stack (pos (z + value_cell (length names))) (word.Int m)))
       (shows_new code heartbeat z act set.fuel S i shows_one (value_cell (length names)) (word.Int m) (omega arith) lowest)
@@ -411,6 +467,6 @@ module _ (code : Listing) (heartbeat z : ℕ) (act : Activation) (set : Setting)
       subst (λ (r : Ran). (S.owing i (then (result r) k)).Holds state) (sym (run_loop_is set (Loop x a b body) x a b body st refl))
       (bounds code heartbeat z act set.fuel expr_law S names lowest room k a b here second (below_test 1 (value.Reg 0) again) (to exit) c d (λ m j. iterate set.fuel x.text.items (run_list set body.items) [] [] (int_gap m j) m) i st state shows stands
       (λ m j in_m in_j task shows_task is_m is_j cell bound left_here.
-      loop_at code heartbeat z act set S names inner lowest room first k x.text.items body.items 1 (omega arith) (value.Reg 0) (Some j) j in_j again exit instrs (load 0 (bound_cell (length names)) ∷ below_test 1 (value.Reg 0) again) more last end begins ends post (body_law j)
+      loop_at code heartbeat z act set S names inner lowest room first k x.text.items body.items 1 (omega arith) (value.Reg 0) (Some j) j in_j again exit instrs (load 0 (bound_cell (length names)) ∷ below_test 1 (value.Reg 0) again) more last end begins ends post (body_law j) [] (λ w r u holds. holds)
       (reloads_bound code heartbeat z act set.fuel S names j (below_test 1 (value.Reg 0) again) (to exit))
       (int_gap m j) m i st task shows_task (gap_is m j) in_m is_m is_j cell bound left_here))

@@ -51,11 +51,13 @@ use Rattle.block_lower.specs.Code.{Computes, store, load}
 use Rattle.block_lower.specs.Layout.{kept_cell, Activation}
 use Rattle.block_lower.specs.Main.{Makes, no_table, input_table, made_table, made_kept_table, table_name}
 use Rattle.block_lower.proofs.Cells.{Inside, inside}
-use Rattle.block_lower.proofs.Scene.{Scene, Shows, ShowsIn, Owed, Result, result, then}
+use Rattle.block_lower.proofs.Results.{Result, result, then}
+use Rattle.block_lower.proofs.Scene.{Scene, Shows, ShowsIn, Owed}
 use Rattle.block_lower.proofs.Showing.{shows_words, shows_new}
 use Rattle.block_lower.proofs.Simple.{stores_in, still_shows}
 use Rattle.block_lower.proofs.TableSteps.{on_make, make_traps}
 use Rattle.block_lower.specs.Owing.{IsTable, AreDeclared, AreNamed, IsWholeOf, AreHeld}
+use Rattle.block_lower.proofs.Regions.{AreShown, Region, everywhere, wholly_shown}
 use Rattle.block_lower.proofs.Tables.{AreWhole}
 use Rattle.block_lower.proofs.Values.{ExprLaw, computes}
 use Rattle.block_lower.proofs.Words.{word_same}
@@ -188,18 +190,20 @@ seeing act seen = record act { tables = seen }
 
 module _ (code : Listing) (heartbeat z : ℕ) (act : Activation) (fuel : ℕ) (S : Scene code heartbeat z) (i : S.World) (seen : List (List ℕ)) where
   -- one table more
-  shows_added : {names : List (List ℕ)} {st : meaning.State} {words : List Word} {stack : StackValue} {holdings : List Holding} {spent : FuelState} {output : List ℕ} {goal_now : Goal} {pending : Option Tie} → Shows code heartbeat z (seeing act seen) fuel S i names st words stack holdings spent output goal_now pending
-      → (x : List ℕ) (t : Table) (others : List Holding) → t.name ≡ x → AreWhole others (st.tables ++ t ∷ []) → TableInRange t → Shows code heartbeat z (seeing act (seen ++ x ∷ [])) fuel S i names (add_table t st) words stack others spent output goal_now pending
+  shows_added : {names : List (List ℕ)} {st : meaning.State} {words : List Word} {stack : StackValue} {holdings : List Holding} {spent : FuelState} {output : List ℕ} {goal_now : Goal} {ties : Option Tie × Option Tie} → Shows code heartbeat z (seeing act seen) fuel S i names st words stack holdings spent output goal_now ties
+      → (x : List ℕ) (t : Table) (others : List Holding) → t.name ≡ x → AreShown (S.region i) others (st.tables ++ t ∷ []) → TableInRange t → Shows code heartbeat z (seeing act (seen ++ x ∷ [])) fuel S i names (add_table t st) words stack others spent output goal_now ties
   shows_added {st = st} h x t others is held ranged = record {
     size = h.size;
     base = h.base;
     limit = h.limit;
+    limited = h.limited;
     ticks = h.ticks;
     within = h.within;
     begun = h.begun;
     printed = h.printed;
     ends = h.ends;
     free = h.free;
+    unmet = h.unmet;
     marked = h.marked;
     named = h.named;
     few = h.few;
@@ -215,7 +219,7 @@ module _ (code : Listing) (heartbeat z : ℕ) (act : Activation) (fuel : ℕ) (S
     keeps = h.keeps;
   }
 
-module _ (code : Listing) (heartbeat z : ℕ) (act : Activation) (fuel : ℕ) (expr_law : ExprLaw code heartbeat) (S : Scene code heartbeat z) (lowest : S.lowest ≤ 0) (roots : (i : S.World) → S.goal i ≡ goal.Root) (given_tables : List Table) where
+module _ (code : Listing) (heartbeat z : ℕ) (act : Activation) (fuel : ℕ) (expr_law : ExprLaw code heartbeat) (S : Scene code heartbeat z) (lowest : S.lowest ≤ 0) (roots : (i : S.World) → S.goal i ≡ goal.Root) (all : (i : S.World) → S.region i ≡ everywhere) (given_tables : List Table) where
   -- a task that has made the tables up to here
   pub record Making (i : S.World) (seen : List (List ℕ)) (cells : ℕ) (ds : List TableDecl) (st : meaning.State) (state : machine.State) : Type 0 where
     pub shows : ShowsIn code heartbeat z (seeing act seen) fuel S i [] st state
@@ -249,6 +253,10 @@ module _ (code : Listing) (heartbeat z : ℕ) (act : Activation) (fuel : ℕ) (e
     made = h.made;
   }
 
+  -- what is wholly held is held in the whole region
+  shown_all : (i : S.World) (hs : List Holding) (ts : List Table) → AreWhole hs ts → AreShown (S.region i) hs ts
+  shown_all i hs ts whole = subst (λ (region : Region). AreShown region hs ts) (sym (all i)) (wholly_shown hs ts whole)
+
   -- an input is there
   input_done : (x : Name) (ds : List TableDecl) (seen : List (List ℕ)) (cells : ℕ) (i : S.World) (st : meaning.State) (state : machine.State) → IsTableOf x.text.items (table_of given_tables x.text.items)
       → Making i seen cells (Input x ∷ ds) st state → Making i (seen ++ x.text.items ∷ []) cells ds (add_table (table_of given_tables x.text.items) st) state
@@ -262,7 +270,8 @@ module _ (code : Listing) (heartbeat z : ℕ) (act : Activation) (fuel : ℕ) (e
       by_rest [] left tables = absurd left
       by_rest (g ∷ gs) left tables = record {
         shows = shows_added code heartbeat z act fuel S i seen h.shows x.text.items (table_of given_tables x.text.items) state.tables is.named
-            (subst (λ hs. AreWhole hs (st.tables ++ table_of given_tables x.text.items ∷ [])) (sym tables) (whole_append h.before gs st.tables g (table_of given_tables x.text.items) h.as_tables h.held left.0)) is.is.ranged;
+            (shown_all i state.tables (st.tables ++ table_of given_tables x.text.items ∷ [])
+            (subst (λ hs. AreWhole hs (st.tables ++ table_of given_tables x.text.items ∷ [])) (sym tables) (whole_append h.before gs st.tables g (table_of given_tables x.text.items) h.as_tables h.held left.0))) is.is.ranged;
         before = h.before ++ g ∷ [];
         as_many = omega (arith, h.as_many, length-append h.before (g ∷ []), length-append seen (x.text.items ∷ []));
         as_tables = omega (arith, h.as_tables, length-append h.before (g ∷ []), length-append st.tables (table_of given_tables x.text.items ∷ []));
@@ -294,7 +303,8 @@ module _ (code : Listing) (heartbeat z : ℕ) (act : Activation) (fuel : ℕ) (e
           omega (arith, count_append h.before (zeros m n ∷ gs), count_append h.before (g ∷ gs), ap cell_count tables, h.count, none) in
           record {
             shows = shows_added code heartbeat z act fuel S i seen h.shows x.text.items t (slice_set state.tables (length seen) (zeros m n)) refl
-                (subst (λ hs. AreWhole hs (st.tables ++ t ∷ [])) (sym set) (whole_append h.before gs st.tables (zeros m n) t h.as_tables h.held (zeros_whole x m n))) (zero_in_range x m n in_m in_n);
+                (shown_all i (slice_set state.tables (length seen) (zeros m n)) (st.tables ++ t ∷ [])
+                (subst (λ hs. AreWhole hs (st.tables ++ t ∷ [])) (sym set) (whole_append h.before gs st.tables (zeros m n) t h.as_tables h.held (zeros_whole x m n)))) (zero_in_range x m n in_m in_n);
             before = h.before ++ zeros m n ∷ [];
             as_many = omega (arith, h.as_many, length-append h.before (zeros m n ∷ []), length-append seen (x.text.items ∷ []));
             as_tables = omega (arith, h.as_tables, length-append h.before (zeros m n ∷ []), length-append st.tables (t ∷ []));

@@ -14,12 +14,11 @@ use Rattle.tp_value.specs.declared.TrapKind.TheVariants.{Wide}
 use Rattle.stack_marks.specs.Stacks.{word_at}
 use Rattle.loop_syntax.specs.declared.ParLoop.{ParLoop}
 use Rattle.loop_syntax.specs.declared.Stmt.TheVariants.{Par}
-use Rattle.loop_meaning.specs.Ends.{EndAlike}
 use Rattle.loop_meaning.specs.InRange.{InRange}
 use Rattle.loop_meaning.specs.State as meaning
-use Rattle.loop_meaning.specs.State.{Ran, done, trapped}
-use Rattle.loop_meaning.specs.Statements.{Setting, iterate, run, run_list, too_wide, unless_wide}
-use Rattle.loop_meaning.proofs.Runs.{run_par_is}
+use Rattle.loop_meaning.specs.State.{Chance, Ran, done, trapped}
+use Rattle.loop_meaning.specs.Statements.{Setting, given_two, iterate, run, run_list, too_wide, unless_wide}
+use Rattle.loop_meaning.proofs.Runs.{vec_list}
 use Rattle.tpal_syntax.specs.declared.instructions.Alu.{Alu}
 use Rattle.tpal_syntax.specs.declared.instructions.Alu.TheVariants as alu
 use Rattle.tpal_syntax.specs.declared.instructions.Instr.{Instr}
@@ -46,7 +45,8 @@ use Rattle.block_lower.proofs.Choices.{enters}
 use Rattle.block_lower.proofs.Gaps.{IsGap, gap_is, gap_none, gap_more}
 use Rattle.block_lower.proofs.Loops.{inside, a_turn, bounds, loop_at, reloads_bound}
 use Rattle.block_lower.proofs.Moves.{opened, calm, jumps, traps}
-use Rattle.block_lower.proofs.Scene.{Scene, ShowsIn, Owed, Result, Out, result_by, result, then}
+use Rattle.block_lower.proofs.Results.{Result, out, result, then}
+use Rattle.block_lower.proofs.Scene.{Scene, ShowsIn, Owed}
 use Rattle.block_lower.proofs.Showing.{shows_words}
 use Rattle.block_lower.proofs.Values.{ExprLaw}
 
@@ -91,14 +91,15 @@ wide_second n small wide passes = by_size (nat_lt n 9223372036854775808) refl
         let above : 9223372036854775808 ≤ n = grind (arith, nat_tests) in
         absurd (true≢false (sym (long_is n small above) ∙ passes))
 
--- ---- how a run ends, whatever it notes
+-- ---- the run
 
-alike_result : {r q : Ran} → EndAlike r q → result r ≡ result q
-alike_result {r} {q} alike = ap (λ x. result_by x r.state) alike.stop ∙ ap (λ s. result_by q.stop s) alike.state
+run_par : (set : Setting) (l : ParLoop) (st : meaning.State) → run set (Par l) st ≡ given_two l.from l.to st (λ i j. unless_wide (too_wide i j) l.place (iterate set.fuel l.var.text.items (run_list (record set { reduces = l.reduces.items }) l.body.items) (Chance ∷ []) [] (int_gap i j) i) st)
+run_par set l st =
+    ap (λ f. given_two l.from l.to st (λ i j. unless_wide (too_wide i j) l.place (iterate set.fuel l.var.text.items f (Chance ∷ []) [] (int_gap i j) i) st)) (vec_list (record set { reduces = l.reduces.items }) l.body)
 
-none_run : (fuel : ℕ) (x : List ℕ) (body : meaning.State → Ran) (place : Place) (m j : ℤ) (st : meaning.State) → int_gap m j ≡ 0 → unless_wide (too_wide m j) place (iterate fuel x body [] [] (int_gap m j) m) st ≡ done st
+none_run : (fuel : ℕ) (x : List ℕ) (body : meaning.State → Ran) (place : Place) (m j : ℤ) (st : meaning.State) → int_gap m j ≡ 0 → unless_wide (too_wide m j) place (iterate fuel x body (Chance ∷ []) [] (int_gap m j) m) st ≡ done st
 unfolding iterate
-none_run fuel x body place m j st none = ap (λ n. unless_wide (nat_lt MAX_PAR_LENGTH n) place (iterate fuel x body [] [] n m) st) none
+none_run fuel x body place m j st none = ap (λ n. unless_wide (nat_lt MAX_PAR_LENGTH n) place (iterate fuel x body (Chance ∷ []) [] n m) st) none
 
 -- ---- tests in a register
 
@@ -136,7 +137,7 @@ module _ (code : Listing) (heartbeat z : ℕ) (act : Activation) (fuel : ℕ) (S
   measures : (r : Result) (check wide again : ℕ) (place : Place) (instrs : List Instr) (last : Term) (n : ℕ) (m j : ℤ) → InRange m → InRange j → j ≡ m +ℤ pos n
       → Opens code check (wide_test wide again) (to wide) → AreAt code wide (trap_block wide Wide place ∷ []) → Opens code again instrs last
       → (task : machine.State) → Showing task → task.block ≡ check → task.at ≡ 0 → register task.registers 1 ≡ word.Int m → register task.registers 0 ≡ word.Int j
-      → (nat_lt MAX_PAR_LENGTH n ≡ true → r ≡ Out (Trap Wide place) st.ticks st.output)
+      → (nat_lt MAX_PAR_LENGTH n ≡ true → r ≡ out (Trap Wide place) st)
       → (nat_lt MAX_PAR_LENGTH n ≡ false → (other : machine.State) → Showing other → other.stack ≡ task.stack → other.block ≡ again → other.at ≡ 0 → register other.registers 1 ≡ word.Int m → register other.registers 0 ≡ word.Int j → (S.owing i r).Holds other)
       → (S.owing i r).Holds task
   measures r check wide again place instrs last n m j in_m in_j is_j tests trap begins task shows at_label at_begin is_first is_second wide_go narrow_go =
@@ -178,7 +179,7 @@ module _ (code : Listing) (heartbeat z : ℕ) (act : Activation) (fuel : ℕ) (S
       calm_wide = ap (λ o. is_ready (note_of o)) trap.0
 
       -- a task at the trap block
-      traps_at : r ≡ Out (Trap Wide place) st.ticks st.output → (other : machine.State) → Showing other → K.Holds (at_block wide other)
+      traps_at : r ≡ out (Trap Wide place) st → (other : machine.State) → Showing other → K.Holds (at_block wide other)
       traps_at is other shows_other =
           subst (λ (q : Result). (S.owing i q).Holds (at_block wide other)) (sym is)
           (S.stops i (Trap Wide place) st (at_block wide other) (advanced (at_block wide other)) tt shows_other.ticks shows_other.printed shows_other.ends
@@ -229,7 +230,7 @@ module _ (code : Listing) (heartbeat z : ℕ) (act : Activation) (set : Setting)
       → Owed code heartbeat z act set.fuel (inside code heartbeat z S (length names) lowest m (Some j)) (names ++ l.var.text.items ∷ []) instrs last (λ st. then (result (run_list (record set { reduces = l.reduces.items }) l.body.items st)) f))
       → Owed code heartbeat z act set.fuel S names here (to exit) (λ st. then (result (run set (Par l) st)) k)
   par_law l check wide again exit here second instrs more last end c d tests trap begins ends post body_law i st state shows stands =
-      subst (λ (r : Result). (S.owing i (then r k)).Holds state) (sym (alike_result (run_par_is set (Par l) l st refl)))
+      subst (λ (r : Ran). (S.owing i (then (result r) k)).Holds state) (sym (run_par set l st))
       (bounds code heartbeat z act set.fuel expr_law S names lowest room k l.from l.to here second (instr.Calc 2 1 alu.Lt (value.Reg 0) ∷ instr.IfJump 2 check ∷ []) (to exit) c d
       (λ m j. unless_wide (too_wide m j) l.place (iterating m j)) i st state shows stands at_test)
     where
@@ -237,7 +238,7 @@ module _ (code : Listing) (heartbeat z : ℕ) (act : Activation) (set : Setting)
       inner_set = record set { reduces = l.reduces.items }
 
       iterating : ℤ → ℤ → meaning.State → Ran
-      iterating m j = iterate set.fuel l.var.text.items (run_list inner_set l.body.items) [] [] (int_gap m j) m
+      iterating m j = iterate set.fuel l.var.text.items (run_list inner_set l.body.items) (Chance ∷ []) [] (int_gap m j) m
 
       at_test : (m j : ℤ) → InRange m → InRange j → (task : machine.State) → ShowsIn code heartbeat z act set.fuel S i names st task → register task.registers 1 ≡ word.Int m → register task.registers 0 ≡ word.Int j
           → word_at task.stack (pos (z + value_cell (length names))) ≡ Some (word.Int m) → word_at task.stack (pos (z + bound_cell (length names))) ≡ Some (word.Int j) → Remains code task.block task.at (instr.Calc 2 1 alu.Lt (value.Reg 0) ∷ instr.IfJump 2 check ∷ []) (to exit)
@@ -274,14 +275,14 @@ module _ (code : Listing) (heartbeat z : ℕ) (act : Activation) (set : Setting)
             where
               begins_loop : IsGap (suc n) m j → nat_lt MAX_PAR_LENGTH (suc n) ≡ false → (other : machine.State) → ShowsIn code heartbeat z act set.fuel S i names st other → other.stack ≡ task.stack → other.block ≡ again → other.at ≡ 0 → register other.registers 1 ≡ word.Int m → register other.registers 0 ≡ word.Int j → K.Holds other
               begins_loop gap narrow other shows_other same at_label at_begin first_is second_is =
-                  let runs : unless_wide (too_wide m j) l.place (iterating m j) st ≡ iterate set.fuel l.var.text.items (run_list inner_set l.body.items) [] [] (suc n) m st =
-                  ap (λ g. unless_wide (nat_lt MAX_PAR_LENGTH g) l.place (iterate set.fuel l.var.text.items (run_list inner_set l.body.items) [] [] g m) st) some
-                  ∙ ap (λ b. unless_wide b l.place (iterate set.fuel l.var.text.items (run_list inner_set l.body.items) [] [] (suc n) m) st) narrow in
+                  let runs : unless_wide (too_wide m j) l.place (iterating m j) st ≡ iterate set.fuel l.var.text.items (run_list inner_set l.body.items) (Chance ∷ []) [] (suc n) m st =
+                  ap (λ g. unless_wide (nat_lt MAX_PAR_LENGTH g) l.place (iterate set.fuel l.var.text.items (run_list inner_set l.body.items) (Chance ∷ []) [] g m) st) some
+                  ∙ ap (λ b. unless_wide b l.place (iterate set.fuel l.var.text.items (run_list inner_set l.body.items) (Chance ∷ []) [] (suc n) m) st) narrow in
                   subst (λ (r : Ran). (S.owing i (then (result r) k)).Holds other) (sym runs)
-                  (a_turn code heartbeat z act inner_set S names inner lowest room first k l.var.text.items l.body.items 1 (omega arith) (value.Reg 0) (Some j) j in_j again exit instrs (load 0 (bound_cell (length names)) ∷ below_test 1 (value.Reg 0) again) more last end begins ends post (body_law j)
+                  (a_turn code heartbeat z act inner_set S names inner lowest room first k l.var.text.items l.body.items 1 (omega arith) (value.Reg 0) (Some j) j in_j again exit instrs (load 0 (bound_cell (length names)) ∷ below_test 1 (value.Reg 0) again) more last end begins ends post (body_law j) (Chance ∷ []) S.passes
                   (reloads_bound code heartbeat z act set.fuel S names j (below_test 1 (value.Reg 0) again) (to exit))
-                  n
-                  (loop_at code heartbeat z act inner_set S names inner lowest room first k l.var.text.items l.body.items 1 (omega arith) (value.Reg 0) (Some j) j in_j again exit instrs (load 0 (bound_cell (length names)) ∷ below_test 1 (value.Reg 0) again) more last end begins ends post (body_law j)
+                  [] (λ w r u holds. holds) n
+                  (loop_at code heartbeat z act inner_set S names inner lowest room first k l.var.text.items l.body.items 1 (omega arith) (value.Reg 0) (Some j) j in_j again exit instrs (load 0 (bound_cell (length names)) ∷ below_test 1 (value.Reg 0) again) more last end begins ends post (body_law j) (Chance ∷ []) S.passes
                   (reloads_bound code heartbeat z act set.fuel S names j (below_test 1 (value.Reg 0) again) (to exit)) n)
                   m i st gap in_m other shows_other at_label at_begin
                   (ap (λ s. word_at s (pos (z + value_cell (length names)))) same ∙ cell) (ap (λ s. word_at s (pos (z + bound_cell (length names)))) same ∙ bound))

@@ -36,13 +36,14 @@ use Rattle.expr_lower.proofs.Standing.{next, behind}
 use Rattle.block_lower.specs.Code as code_of
 use Rattle.block_lower.specs.Code.{Computes, IsTable, put_tested, store, load}
 use Rattle.block_lower.specs.Layout.{kept_cell, Activation}
-use Rattle.block_lower.proofs.Cells.{write_whole, names_write, write_in_range}
+use Rattle.block_lower.proofs.Cells.{write_shown, names_write, write_in_range}
 use Rattle.block_lower.proofs.Moves.{traps}
-use Rattle.block_lower.proofs.Scene.{Scene, ShowsIn, Owed, Result, result, then}
+use Rattle.block_lower.proofs.Results.{Result, result, then}
+use Rattle.block_lower.proofs.Scene.{Scene, ShowsIn, Owed}
 use Rattle.block_lower.proofs.Showing.{shows_words, shows_new, shows_tables}
 use Rattle.block_lower.proofs.Simple.{stores_in, still_shows}
 use Rattle.block_lower.proofs.TableSteps.{on_put}
-use Rattle.block_lower.proofs.Values.{ExprLaw, computes, whole, holds_with}
+use Rattle.block_lower.proofs.Values.{ExprLaw, computes, shown, holds_with}
 use Rattle.block_lower.proofs.Words.{word_same, word_other}
 
 -- ---- a cell set, by the tests
@@ -88,15 +89,16 @@ module _ (code : Listing) (heartbeat z : ℕ) (act : Activation) (fuel : ℕ) (S
           let task : machine.State = moved state words beat at in
           let shows_task : ShowsIn code heartbeat z act fuel S i names st task = still_shows code heartbeat z act fuel S i names st state test words beat at shows keeps in
           subst (λ (r : Ran). (S.owing i (then (result r) k)).Holds task) (sym (put_in t a b n st is_so))
-          (on_put code heartbeat (S.owing i (k (put_state t a b n st))) task at_number row col number a b n _ (next code task _ more end left)
+          (S.touches i (Writes t.text.items a b ∷ []) (k (put_state t a b n st)) task (tt, tt) (λ covered.
+          on_put code heartbeat (S.owing i (k (put_state t a b n st))) task at_number row col number a b n _ (next code task _ more end left)
           (keeps.below row row_low ∙ row_in) (keeps.below col col_low ∙ col_in) (keeps.below number number_low ∙ number_in)
-          ((whole code heartbeat z act fuel S i names st state shows is.scope is.sees t.text.items is.inside).cells a b is_so)
+          ((shown code heartbeat z act fuel S i names st state shows is.scope is.sees t.text.items is.inside).cells a b is_so covered.0)
           (post i (put_state t a b n st) (effect.with_table (advanced task) at_number (held.with_cell (table_at state.tables at_number) a b n))
           (shows_tables code heartbeat z act fuel S i shows_task (write_cell st.tables t.text.items a b n) (slice_set state.tables at_number (held.with_cell (table_at state.tables at_number) a b n))
           (names_write st.tables t.text.items a b n)
-          (write_whole state.tables st.tables is.scope.tables.items t.text.items a b n shows.held (is.sees.listed ∙ sym shows.tabled) is.inside is_so)
+          (write_shown (S.region i) state.tables st.tables is.scope.tables.items t.text.items a b n shows.held (is.sees.listed ∙ sym shows.tabled) is.inside is_so covered.0)
           (write_in_range st.tables t.text.items a b n in_n shows.ranged))
-          (behind code state.block at _ more end left)))
+          (behind code state.block at _ more end left))))
 
 module _ (code : Listing) (heartbeat z : ℕ) (act : Activation) (set : Setting) (expr_law : ExprLaw code heartbeat) (S : Scene code heartbeat z) (names : List (List ℕ)) (lowest : S.lowest ≤ length names) (k : meaning.State → Result) where
   pub put_law : (t : Name) (a b e : Expr) (table trap : ℕ) (instrs second third more : List Instr) (end : Term) → IsTable code act names t.text.items table

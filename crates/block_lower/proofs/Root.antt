@@ -1,6 +1,7 @@
 -- The first task of a code that is the code of a program owes the meaning where nothing is diverted.
 use Rattle.std.proofs.Common.{◌≡◌, ℕ, suc, ◌+◌, ◌<◌, false, List, [], ◌∷◌, length, map, refl, sym, ap, subst, ◌∙◌, arith}
 use Rattle.std.specs.Prelude.{pos, ⊤}
+use Rattle.std.specs.List.{AllByRecursion}
 use Rattle.std.proofs.lemmas.List.{length-replicate}
 use Rattle.std.proofs.lemmas.List.Elements.{All-nil}
 use Rattle.slices.specs.Holding.{Holding}
@@ -18,7 +19,7 @@ use Rattle.loop_meaning.specs.Calls.{setting}
 use Rattle.loop_meaning.specs.Meaning as whole
 use Rattle.loop_meaning.specs.Meaning.{input_cells, make_tables, whole_run, outcome_of, meaning}
 use Rattle.loop_meaning.specs.State as source
-use Rattle.loop_meaning.specs.State.{Ran}
+use Rattle.loop_meaning.specs.State.{Note, Reads, Writes, Emits, Chance, Ran}
 use Rattle.loop_meaning.specs.Statements.{run_list}
 use Rattle.tpal_syntax.specs.declared.blocks.CodeTable.{CodeTable}
 use Rattle.tpal_syntax.specs.declared.instructions.Instr.TheVariants as instr
@@ -49,16 +50,21 @@ use Rattle.block_lower.proofs.Functions.{calls_owe}
 use Rattle.block_lower.proofs.Law.{codes_law}
 use Rattle.block_lower.proofs.Makes.{Making, AreGiven, count_held, makes_law, seeing}
 use Rattle.block_lower.proofs.Moves.{opened}
-use Rattle.block_lower.proofs.Scene.{Scene, Owed, Result, Fin, Out, after_then, result, result_by, then}
+use Rattle.block_lower.proofs.Regions.{Covers, everywhere}
+use Rattle.block_lower.proofs.Results.{End, Result, Fin, Out, after_then, end_by, fin, result, then, then_end}
+use Rattle.block_lower.proofs.Scene.{Scene, Owed}
 use Rattle.block_lower.proofs.Simple.{stores_in}
 use Rattle.block_lower.proofs.Values.{ExprLaw}
 use Rattle.block_lower.proofs.Words.{word_same, words_as_many}
 
-abbrev outcome_by : Result → Outcome
-outcome_by (Fin s) = record { stop = Done; output = s.output; ticks = s.ticks }
-outcome_by (Out stop ticks output) = record { stop = stop; output = output; ticks = ticks }
+abbrev outcome_of_end : End → Outcome
+outcome_of_end (Fin s) = record { stop = Done; output = s.output; ticks = s.ticks }
+outcome_of_end (Out stop ticks output) = record { stop = stop; output = output; ticks = ticks }
 
-same_by : (x : Stop) (r : Ran) → r.stop ≡ x → outcome_by (then (result_by x r.state) Fin) ≡ outcome_of r
+abbrev outcome_by : Result → Outcome
+outcome_by r = outcome_of_end r.end
+
+same_by : (x : Stop) (r : Ran) → r.stop ≡ x → outcome_by (then_end r.notes (end_by x r.state) fin) ≡ outcome_of r
 same_by Done r is = ap (λ (x : Stop). record { stop = x; output = r.state.output; ticks = r.state.ticks }) (sym is)
 same_by (Trap kind place) r is = ap (λ (x : Stop). record { stop = x; output = r.state.output; ticks = r.state.ticks }) (sym is)
 same_by NoFuel r is = ap (λ (x : Stop). record { stop = x; output = r.state.output; ticks = r.state.ticks }) (sym is)
@@ -80,31 +86,48 @@ as_many_held (d ∷ ds) (t ∷ ts) given [] declared held = absurd held
 as_many_held (Input x ∷ ds) (t ∷ ts) given (h ∷ hs) declared held = ap suc (as_many_held ds ts given hs declared.1 held.1)
 as_many_held (Made x a b ∷ ds) (t ∷ ts) given (h ∷ hs) declared held = ap suc (as_many_held ds ts given hs declared.1 held.2)
 
-module _ (code : Listing) (heartbeat : ℕ) where
+module _ (code : Listing) (heartbeat fuel : ℕ) where
+  covers_all : (ns : List Note) → AllByRecursion (Covers everywhere) ns
+  covers_all [] = tt
+  covers_all (Reads t i j ∷ ns) = (refl, covers_all ns)
+  covers_all (Writes t i j ∷ ns) = (refl, covers_all ns)
+  covers_all (Emits t ∷ ns) = (λ i j. refl, covers_all ns)
+  covers_all (Chance ∷ ns) = (tt, covers_all ns)
+
   -- nothing goes on round main
   abbrev root : Scene code heartbeat 0
   root = record {
     World = ⊤;
     levels = MAX_CALL_DEPTH;
+    fuel = fuel;
+    dispatch = 0;
     owing = λ i r. owing_serially code heartbeat 0 (ending.Root (outcome_by r));
+    diverted = λ i r state. ⊥;
     marks = λ i. [];
     goal = λ i. goal.Root;
     before = λ i. [];
     since = λ i. 0;
+    region = λ i. everywhere;
     kept = λ i s. ⊤;
     lowest = 0;
     may = λ x. ⊤;
+    cut = λ i k printed. i;
+    below = λ i. refl;
+    touches = λ i ns r state quiet holds. holds (covers_all ns);
+    points = λ i ns r state after one at calm loud holds. serial.goes 0 0 state after (ending.Root (outcome_by r)) (omega arith) calm holds;
+    passes = λ i r state holds. holds;
+    handles = λ i more r st state marked diverted runs back cut. absurd (marked refl);
     stable = λ i level s t low same kept. tt;
     stops = λ i stop st state last early ticks output root_goal ends. serial.ends state (ending.Root (record { stop = stop; output = st.output; ticks = st.ticks })) (ends false ∙ ap Ends (ended_is code stop st last root_goal ticks output));
   }
 
   -- behind main the run ends
-  at_halt : (act : Activation) (fuel : ℕ) (names : List (List ℕ)) → Owed code heartbeat 0 act fuel root names [] term.Halt Fin
-  at_halt act fuel names i st state shows stands =
+  at_halt : (act : Activation) (names : List (List ℕ)) → Owed code heartbeat 0 act fuel root names [] term.Halt fin
+  at_halt act names i st state shows stands =
       serial.ends state (ending.Root (record { stop = Done; output = st.output; ticks = st.ticks }))
       (halts code heartbeat state (at_end code state term.Halt stands) shows.ends shows.free false ∙ ap Ends (ended_is code Done st (advanced state) shows.ends shows.ticks shows.printed))
 
-  module _ (expr_law : ExprLaw code heartbeat) (program : Program) (given : List Table) (holdings : List Holding) (fuel : ℕ) (is : IsProgram code program) (there : AreGiven program.tables.items given) (holds : AreHeld program.tables.items given holdings) where
+  module _ (expr_law : ExprLaw code heartbeat) (program : Program) (given : List Table) (holdings : List Holding) (is : IsProgram code program) (there : AreGiven program.tables.items given) (holds : AreHeld program.tables.items given holdings) where
     abbrev act : Activation
     act = is.act
 
@@ -113,7 +136,7 @@ module _ (code : Listing) (heartbeat : ℕ) where
 
     -- what main gives, where the tables are made
     main_gives : source.State → Result
-    main_gives s = then (result (run_list (setting program fuel 0 []) program.main.items s)) Fin
+    main_gives s = then (result (run_list (setting program fuel 0 []) program.main.items s)) fin
 
     K : Back code heartbeat
     K = root.owing tt (then (result (make_tables given (input_cells ds given) ds whole.first_state)) main_gives)
@@ -146,19 +169,21 @@ module _ (code : Listing) (heartbeat : ℕ) where
     inside : 0 + levels_cell < stack.base + length stack.cells
     inside = omega (arith, size_is, is.has_room.room)
 
-    making : Making code heartbeat 0 act fuel expr_law root (omega arith) (λ i. refl) given tt [] (input_cells ds given) ds whole.first_state with_levels
+    making : Making code heartbeat 0 act fuel expr_law root (omega arith) (λ i. refl) (λ i. refl) given tt [] (input_cells ds given) ds whole.first_state with_levels
     unfolding with_levels first stack zeroth
     making = record {
       shows = record {
         size = refl;
         base = refl;
         limit = refl;
+        limited = refl;
         ticks = refl;
         within = omega arith;
         begun = omega arith;
         printed = refl;
         ends = refl;
         free = refl;
+        unmet = refl;
         marked = refl;
         named = refl;
         few = omega arith;
@@ -189,21 +214,21 @@ module _ (code : Listing) (heartbeat : ℕ) where
     unfolding main_gives
     main_owed =
         subst (λ ts. Owed code heartbeat 0 (seeing act ts) fuel root [] is.instrs is.end main_gives) is.tables
-        (codes_law code heartbeat 0 act program.funcs.items fuel MAX_CALL_DEPTH expr_law (calls_owe code heartbeat fuel expr_law act.tables act.functions program.funcs.items is.functions MAX_CALL_DEPTH (omega arith)) (main_has_place act is.has_room) is.statements root refl (omega arith) (λ x free. tt) Fin (at_halt act fuel (names_after_list [] program.main.items)))
+        (codes_law code heartbeat 0 act program.funcs.items fuel MAX_CALL_DEPTH expr_law (calls_owe code heartbeat fuel expr_law act.tables act.functions program.funcs.items is.functions MAX_CALL_DEPTH (omega arith)) (main_has_place act is.has_room) is.statements root refl (omega arith) (λ x free. tt) fin (at_halt act (names_after_list [] program.main.items)))
 
     all_made : K.Holds zeroth
     unfolding K with_levels first stack zeroth
     all_made =
         on_salloc code heartbeat K zeroth act.size (next code zeroth _ _ is.end here) (omega (arith, is.has_room.fits))
         (stores_in code heartbeat 0 act fuel K first levels_cell (value.Int (pos MAX_CALL_DEPTH)) is.makes is.end second refl (omega arith) inside
-        (makes_law code heartbeat 0 act fuel expr_law root (omega arith) (λ i. refl) given is.made is.end [] code.tables refl refl is.declared there main_gives main_owed
+        (makes_law code heartbeat 0 act fuel expr_law root (omega arith) (λ i. refl) (λ i. refl) given is.made is.end [] code.tables refl refl is.declared there main_gives main_owed
         (input_cells ds given) tt whole.first_state with_levels making (behind code 0 1 _ is.makes is.end second)))
 
     -- the end is that of the whole run
     end_is : outcome_by (then (result (make_tables given (input_cells ds given) ds whole.first_state)) main_gives) ≡ meaning program given fuel
     unfolding meaning whole_run main_gives
     end_is =
-        ap outcome_by (sym (after_then (make_tables given (input_cells ds given) ds whole.first_state) (run_list (setting program fuel 0 []) program.main.items) Fin))
+        ap outcome_by (sym (after_then (make_tables given (input_cells ds given) ds whole.first_state) (run_list (setting program fuel 0 []) program.main.items) fin))
         ∙ same_by (whole_run program given fuel).stop (whole_run program given fuel) refl
 
     pub program_bound : BoundSerially code heartbeat 0 (first_state holdings fuel) (ending.Root (meaning program given fuel))
@@ -216,5 +241,5 @@ pub owes_meaning : (code : Listing) (heartbeat : ℕ) (expr_law : ExprLaw code h
 owes_meaning code heartbeat expr_law program given holdings fuel is there holds belongs = record {
   belongs = belongs;
   waits_not = refl;
-  bound = program_bound code heartbeat expr_law program given holdings fuel is there holds;
+  bound = program_bound code heartbeat fuel expr_law program given holdings is there holds;
 }

@@ -20,8 +20,10 @@ use Rattle.loop_meaning.specs.State as meaning
 use Rattle.loop_meaning.specs.State.{assign, declare}
 use Rattle.block_lower.specs.Code.{IsCell}
 use Rattle.block_lower.specs.Layout.{levels_cell, value_cell, Activation}
-use Rattle.block_lower.proofs.Scene.{Scene, Shows, left}
-use Rattle.block_lower.proofs.Tables.{AreWhole, table_names}
+use Rattle.block_lower.proofs.Results.{left}
+use Rattle.block_lower.proofs.Scene.{Scene, Shows}
+use Rattle.block_lower.proofs.Regions.{AreShown}
+use Rattle.block_lower.proofs.Tables.{table_names}
 use Rattle.block_lower.proofs.Variables.{var_names, held_same, held_declare, held_assign, held_take, names_declare, names_assign, names_take}
 use Rattle.block_lower.proofs.Words.{word_same, word_other, words_as_many}
 
@@ -33,22 +35,24 @@ pub as_many : (vs : List Variable) (names : List (List ℕ)) → var_names vs �
 as_many vs names named = as_many_names vs ∙ ap length named
 
 module _ (code : Listing) (heartbeat z : ℕ) (act : Activation) (fuel : ℕ) (S : Scene code heartbeat z) (i : S.World) where
-  abbrev Shown : List (List ℕ) → meaning.State → List Word → StackValue → List Holding → FuelState → List ℕ → Goal → Option Tie → Type 0
-  Shown names st words stack holdings spent output goal pending = Shows code heartbeat z act fuel S i names st words stack holdings spent output goal pending
+  abbrev Shown : List (List ℕ) → meaning.State → List Word → StackValue → List Holding → FuelState → List ℕ → Goal → Option Tie × Option Tie → Type 0
+  Shown names st words stack holdings spent output goal ties = Shows code heartbeat z act fuel S i names st words stack holdings spent output goal ties
 
   -- other registers
-  pub shows_words : {names : List (List ℕ)} {st : meaning.State} {words : List Word} {stack : StackValue} {holdings : List Holding} {spent : FuelState} {output : List ℕ} {goal : Goal} {pending : Option Tie} → Shown names st words stack holdings spent output goal pending
-      → (other : List Word) → length other ≡ length words → register other 31 ≡ register words 31 → Shown names st other stack holdings spent output goal pending
+  pub shows_words : {names : List (List ℕ)} {st : meaning.State} {words : List Word} {stack : StackValue} {holdings : List Holding} {spent : FuelState} {output : List ℕ} {goal : Goal} {ties : Option Tie × Option Tie} → Shown names st words stack holdings spent output goal ties
+      → (other : List Word) → length other ≡ length words → register other 31 ≡ register words 31 → Shown names st other stack holdings spent output goal ties
   shows_words h other size same = record {
     size = size ∙ h.size;
     base = same ∙ h.base;
     limit = h.limit;
+    limited = h.limited;
     ticks = h.ticks;
     within = h.within;
     begun = h.begun;
     printed = h.printed;
     ends = h.ends;
     free = h.free;
+    unmet = h.unmet;
     marked = h.marked;
     named = h.named;
     few = h.few;
@@ -65,8 +69,8 @@ module _ (code : Listing) (heartbeat z : ℕ) (act : Activation) (fuel : ℕ) (S
   }
 
   -- a word in a cell above those of the variables
-  pub shows_new : {names : List (List ℕ)} {st : meaning.State} {words : List Word} {stack : StackValue} {holdings : List Holding} {spent : FuelState} {output : List ℕ} {goal : Goal} {pending : Option Tie} → Shown names st words stack holdings spent output goal pending
-      → (cell : ℕ) (w : Word) → value_cell (length names) ≤ cell → S.lowest ≤ length names → Shown names st words (with_word stack (pos (z + cell)) w) holdings spent output goal pending
+  pub shows_new : {names : List (List ℕ)} {st : meaning.State} {words : List Word} {stack : StackValue} {holdings : List Holding} {spent : FuelState} {output : List ℕ} {goal : Goal} {ties : Option Tie × Option Tie} → Shown names st words stack holdings spent output goal ties
+      → (cell : ℕ) (w : Word) → value_cell (length names) ≤ cell → S.lowest ≤ length names → Shown names st words (with_word stack (pos (z + cell)) w) holdings spent output goal ties
   shows_new {names} {st} {stack = stack} h cell w above lowest =
       let from : stack.base ≤ z + cell = omega (arith, h.low) in
       let many : length st.vars ≡ length names = as_many st.vars names h.named in
@@ -74,12 +78,14 @@ module _ (code : Listing) (heartbeat z : ℕ) (act : Activation) (fuel : ℕ) (S
         size = h.size;
         base = h.base;
         limit = h.limit;
+        limited = h.limited;
         ticks = h.ticks;
         within = h.within;
         begun = h.begun;
         printed = h.printed;
         ends = h.ends;
         free = h.free;
+        unmet = h.unmet;
         marked = h.marked;
         named = h.named;
         few = h.few;
@@ -94,27 +100,27 @@ module _ (code : Listing) (heartbeat z : ℕ) (act : Activation) (fuel : ℕ) (S
         vars = held_same stack (with_word stack (pos (z + cell)) w) z 0 st.vars (λ x low high. word_other stack (z + cell) (z + value_cell x) w from (λ (q : z + value_cell x ≡ z + cell). absurd (omega (arith, q, high, many, above)))) h.vars;
         keeps = S.stable i (length names) stack (with_word stack (pos (z + cell)) w) lowest (record {
           base = refl;
-          size = words_as_many stack (z + cell) w;
-          marks = refl;
           at = λ a lt others. word_other stack (z + cell) a w from (λ (q : a ≡ z + cell). absurd (omega (arith, q, lt, above)));
         }) h.keeps;
       }
 
   -- one more variable, whose number is in its cell
-  pub shows_declared : {names : List (List ℕ)} {st : meaning.State} {words : List Word} {stack : StackValue} {holdings : List Holding} {spent : FuelState} {output : List ℕ} {goal : Goal} {pending : Option Tie} → Shown names st words stack holdings spent output goal pending
-      → (x : List ℕ) (n : ℤ) → length names < act.most → word_at stack (pos (z + value_cell (length names))) ≡ Some (Int n) → InRange n → Shown (names ++ x ∷ []) (record st { vars = declare st.vars x n }) words stack holdings spent output goal pending
+  pub shows_declared : {names : List (List ℕ)} {st : meaning.State} {words : List Word} {stack : StackValue} {holdings : List Holding} {spent : FuelState} {output : List ℕ} {goal : Goal} {ties : Option Tie × Option Tie} → Shown names st words stack holdings spent output goal ties
+      → (x : List ℕ) (n : ℤ) → length names < act.most → word_at stack (pos (z + value_cell (length names))) ≡ Some (Int n) → InRange n → Shown (names ++ x ∷ []) (record st { vars = declare st.vars x n }) words stack holdings spent output goal ties
   shows_declared {names} {st} {stack = stack} h x n below is fits =
       let many : 0 + length st.vars ≡ length names = omega (arith, as_many st.vars names h.named) in
       record {
         size = h.size;
         base = h.base;
         limit = h.limit;
+        limited = h.limited;
         ticks = h.ticks;
         within = h.within;
         begun = h.begun;
         printed = h.printed;
         ends = h.ends;
         free = h.free;
+        unmet = h.unmet;
         marked = h.marked;
         named = names_declare st.vars x n ∙ ap (λ ns. ns ++ x ∷ []) h.named;
         few = omega (arith, length-append names (x ∷ []));
@@ -131,8 +137,8 @@ module _ (code : Listing) (heartbeat z : ℕ) (act : Activation) (fuel : ℕ) (S
       }
 
   -- a variable assigned
-  pub shows_assigned : {names : List (List ℕ)} {st : meaning.State} {words : List Word} {stack : StackValue} {holdings : List Holding} {spent : FuelState} {output : List ℕ} {goal : Goal} {pending : Option Tie} → Shown names st words stack holdings spent output goal pending
-      → (fixed : List ℕ) (x : List ℕ) (cell : ℕ) (n : ℤ) (c : IsCell code act names fixed x cell) → S.may c.level → S.lowest ≤ length names → InRange n → Shown names (record st { vars = assign st.vars x n }) words (with_word stack (pos (z + cell)) (Int n)) holdings spent output goal pending
+  pub shows_assigned : {names : List (List ℕ)} {st : meaning.State} {words : List Word} {stack : StackValue} {holdings : List Holding} {spent : FuelState} {output : List ℕ} {goal : Goal} {ties : Option Tie × Option Tie} → Shown names st words stack holdings spent output goal ties
+      → (fixed : List ℕ) (x : List ℕ) (cell : ℕ) (n : ℤ) (c : IsCell code act names fixed x cell) → S.may cell → S.lowest ≤ length names → InRange n → Shown names (record st { vars = assign st.vars x n }) words (with_word stack (pos (z + cell)) (Int n)) holdings spent output goal ties
   shows_assigned {names} {st} {stack = stack} h fixed x cell n c may lowest fits =
       let from : stack.base ≤ z + cell = omega (arith, h.low) in
       let inside : z + cell < stack.base + length stack.cells = omega (arith, h.room, c.at_level, c.below) in
@@ -141,12 +147,14 @@ module _ (code : Listing) (heartbeat z : ℕ) (act : Activation) (fuel : ℕ) (S
         size = h.size;
         base = h.base;
         limit = h.limit;
+        limited = h.limited;
         ticks = h.ticks;
         within = h.within;
         begun = h.begun;
         printed = h.printed;
         ends = h.ends;
         free = h.free;
+        unmet = h.unmet;
         marked = h.marked;
         named = names_assign st.vars x n ∙ h.named;
         few = h.few;
@@ -162,15 +170,13 @@ module _ (code : Listing) (heartbeat z : ℕ) (act : Activation) (fuel : ℕ) (S
             (λ a ne. word_other stack (z + cell) a (Int n) from (λ (q : a ≡ z + cell). ne (q ∙ ap (λ k. z + k) c.is))) h.vars;
         keeps = S.stable i (length names) stack (with_word stack (pos (z + cell)) (Int n)) lowest (record {
           base = refl;
-          size = words_as_many stack (z + cell) (Int n);
-          marks = refl;
-          at = λ a lt others. word_other stack (z + cell) a (Int n) from (λ (q : a ≡ z + cell). others c.level may (q ∙ ap (λ k. z + k) c.at_level));
+          at = λ a lt others. word_other stack (z + cell) a (Int n) from (λ (q : a ≡ z + cell). others cell may q);
         }) h.keeps;
       }
 
   -- one tick more
-  pub shows_ticked : {names : List (List ℕ)} {st : meaning.State} {words : List Word} {stack : StackValue} {holdings : List Holding} {spent : FuelState} {output : List ℕ} {goal : Goal} {pending : Option Tie} → Shown names st words stack holdings spent output goal pending
-      → st.ticks < fuel → Shown names (record st { ticks = ticked fuel st.ticks }) words stack holdings (record spent { ticks = ticked spent.limit spent.ticks }) output goal pending
+  pub shows_ticked : {names : List (List ℕ)} {st : meaning.State} {words : List Word} {stack : StackValue} {holdings : List Holding} {spent : FuelState} {output : List ℕ} {goal : Goal} {ties : Option Tie × Option Tie} → Shown names st words stack holdings spent output goal ties
+      → st.ticks < fuel → Shown names (record st { ticks = ticked fuel st.ticks }) words stack holdings (record spent { ticks = ticked spent.limit spent.ticks }) output goal ties
   shows_ticked {names} {st} {stack = stack} {spent} h below =
       let test : is_tick_allowed fuel st.ticks ≡ true = grind (arith, nat_tests) in
       let next : ticked fuel st.ticks ≡ st.ticks + 1 = rw test refl in
@@ -178,12 +184,14 @@ module _ (code : Listing) (heartbeat z : ℕ) (act : Activation) (fuel : ℕ) (S
         size = h.size;
         base = h.base;
         limit = h.limit;
+        limited = h.limited;
         ticks = rw (h.limit, h.ticks) refl;
         within = omega (arith, next);
         begun = omega (arith, next, h.begun);
         printed = h.printed;
         ends = h.ends;
         free = h.free;
+        unmet = h.unmet;
         marked = h.marked;
         named = h.named;
         few = h.few;
@@ -200,18 +208,20 @@ module _ (code : Listing) (heartbeat z : ℕ) (act : Activation) (fuel : ℕ) (S
       }
 
   -- more output
-  pub shows_output : {names : List (List ℕ)} {st : meaning.State} {words : List Word} {stack : StackValue} {holdings : List Holding} {spent : FuelState} {output : List ℕ} {goal : Goal} {pending : Option Tie} → Shown names st words stack holdings spent output goal pending
-      → (text : List ℕ) → Shown names (record st { output = st.output ++ text }) words stack holdings spent (output ++ text) goal pending
+  pub shows_output : {names : List (List ℕ)} {st : meaning.State} {words : List Word} {stack : StackValue} {holdings : List Holding} {spent : FuelState} {output : List ℕ} {goal : Goal} {ties : Option Tie × Option Tie} → Shown names st words stack holdings spent output goal ties
+      → (text : List ℕ) → Shown names (record st { output = st.output ++ text }) words stack holdings spent (output ++ text) goal ties
   shows_output {output = output} h text = record {
     size = h.size;
     base = h.base;
     limit = h.limit;
+    limited = h.limited;
     ticks = h.ticks;
     within = h.within;
     begun = h.begun;
     printed = ap (λ bs. bs ++ text) h.printed ∙ append_assoc (S.before i) output text;
     ends = h.ends;
     free = h.free;
+    unmet = h.unmet;
     marked = h.marked;
     named = h.named;
     few = h.few;
@@ -228,18 +238,20 @@ module _ (code : Listing) (heartbeat z : ℕ) (act : Activation) (fuel : ℕ) (S
   }
 
   -- other tables of these names
-  pub shows_tables : {names : List (List ℕ)} {st : meaning.State} {words : List Word} {stack : StackValue} {holdings : List Holding} {spent : FuelState} {output : List ℕ} {goal : Goal} {pending : Option Tie} → Shown names st words stack holdings spent output goal pending
-      → (ts : List Table) (hs : List Holding) → table_names ts ≡ table_names st.tables → AreWhole hs ts → All TableInRange ts → Shown names (record st { tables = ts }) words stack hs spent output goal pending
+  pub shows_tables : {names : List (List ℕ)} {st : meaning.State} {words : List Word} {stack : StackValue} {holdings : List Holding} {spent : FuelState} {output : List ℕ} {goal : Goal} {ties : Option Tie × Option Tie} → Shown names st words stack holdings spent output goal ties
+      → (ts : List Table) (hs : List Holding) → table_names ts ≡ table_names st.tables → AreShown (S.region i) hs ts → All TableInRange ts → Shown names (record st { tables = ts }) words stack hs spent output goal ties
   shows_tables h ts hs named held ranged = record {
     size = h.size;
     base = h.base;
     limit = h.limit;
+    limited = h.limited;
     ticks = h.ticks;
     within = h.within;
     begun = h.begun;
     printed = h.printed;
     ends = h.ends;
     free = h.free;
+    unmet = h.unmet;
     marked = h.marked;
     named = h.named;
     few = h.few;
@@ -256,18 +268,20 @@ module _ (code : Listing) (heartbeat z : ℕ) (act : Activation) (fuel : ℕ) (S
   }
 
   -- the first variables alone
-  pub shows_left : {names : List (List ℕ)} {st : meaning.State} {words : List Word} {stack : StackValue} {holdings : List Holding} {spent : FuelState} {output : List ℕ} {goal : Goal} {pending : Option Tie} → Shown names st words stack holdings spent output goal pending
-      → (n : ℕ) (fewer : List (List ℕ)) → take n names ≡ fewer → Shown fewer (left n st) words stack holdings spent output goal pending
+  pub shows_left : {names : List (List ℕ)} {st : meaning.State} {words : List Word} {stack : StackValue} {holdings : List Holding} {spent : FuelState} {output : List ℕ} {goal : Goal} {ties : Option Tie × Option Tie} → Shown names st words stack holdings spent output goal ties
+      → (n : ℕ) (fewer : List (List ℕ)) → take n names ≡ fewer → Shown fewer (left n st) words stack holdings spent output goal ties
   shows_left {names} {st} {stack = stack} h n fewer is = record {
     size = h.size;
     base = h.base;
     limit = h.limit;
+    limited = h.limited;
     ticks = h.ticks;
     within = h.within;
     begun = h.begun;
     printed = h.printed;
     ends = h.ends;
     free = h.free;
+    unmet = h.unmet;
     marked = h.marked;
     named = names_take n st.vars ∙ ap (λ ns. take n ns) h.named ∙ is;
     few = omega (arith, ap length is, length-take n names, h.few);

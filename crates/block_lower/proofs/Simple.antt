@@ -28,7 +28,8 @@ use Rattle.expr_lower.specs.Standing.{Remains}
 use Rattle.expr_lower.proofs.Standing.{next, behind}
 use Rattle.block_lower.specs.Code.{Computes, Operand, IsCell, store}
 use Rattle.block_lower.specs.Layout.{value_cell, Activation}
-use Rattle.block_lower.proofs.Scene.{Scene, ShowsIn, Owed, Result, result, then}
+use Rattle.block_lower.proofs.Results.{Result, result, then}
+use Rattle.block_lower.proofs.Scene.{Scene, ShowsIn, Owed}
 use Rattle.block_lower.proofs.Showing.{shows_words, shows_new, shows_declared, shows_assigned, shows_output}
 use Rattle.block_lower.proofs.Values.{ExprLaw, computes, operand_is}
 use Rattle.block_lower.proofs.Words.{word_there, word_same}
@@ -68,7 +69,7 @@ module _ (code : Listing) (heartbeat z : ℕ) (act : Activation) (set : Setting)
       (shows_declared code heartbeat z act set.fuel S i (shows_new code heartbeat z act set.fuel S i after_value (value_cell (length names)) (operand words v) (omega arith) lowest) x.text.items n room (word_same state.stack (z + value_cell (length names)) (operand words v) from inside ∙ ap Some is) fits)
       (behind code state.block at (store (value_cell (length names)) v) more end here)))
 
-  pub set_law : (fixed : List ℕ) (x : Name) (e : Expr) (v : operands.Value) (cell : ℕ) (instrs more : List Instr) (end : Term) → (c : IsCell code act names fixed x.text.items cell) → S.may c.level → Operand code act names e 0 v instrs (store cell v ∷ more)
+  pub set_law : (fixed : List ℕ) (x : Name) (e : Expr) (v : operands.Value) (cell : ℕ) (instrs more : List Instr) (end : Term) → (c : IsCell code act names fixed x.text.items cell) → S.may cell → Operand code act names e 0 v instrs (store cell v ∷ more)
       → Owed code heartbeat z act set.fuel S names more end k → Owed code heartbeat z act set.fuel S names instrs end (λ st. then (result (run set (Set x e) st)) k)
   set_law fixed x e v cell instrs more end is_cell may c post i st state shows stands =
       operand_is code heartbeat z act set.fuel expr_law S i names st state shows e 0 v instrs (store cell v ∷ more) end c stands (λ n. done (set_var x n st)) k

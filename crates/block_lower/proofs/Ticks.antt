@@ -26,7 +26,8 @@ use Rattle.block_lower.specs.Layout.{Activation}
 use Rattle.block_lower.specs.Code.{Computes, Opens, to}
 use Rattle.block_lower.proofs.Choices.{enters, leaving, chooses}
 use Rattle.block_lower.proofs.Moves.{opened, calm, spends}
-use Rattle.block_lower.proofs.Scene.{Scene, ShowsIn, Owed, Result, result, then, left, after_then}
+use Rattle.block_lower.proofs.Results.{Result, result, then, left, after_then}
+use Rattle.block_lower.proofs.Scene.{Scene, ShowsIn, Owed, runs_since}
 use Rattle.block_lower.proofs.Showing.{as_many, shows_left, shows_ticked}
 use Rattle.block_lower.proofs.Simple.{still_shows}
 use Rattle.block_lower.proofs.Values.{ExprLaw, computes}
@@ -62,16 +63,27 @@ module _ (code : Listing) (heartbeat z : ℕ) where
   later_in S n = record {
     World = S.World;
     levels = S.levels;
+    fuel = S.fuel;
+    dispatch = S.dispatch;
     owing = S.owing;
+    diverted = S.diverted;
     marks = S.marks;
     goal = S.goal;
     before = S.before;
     since = λ i. max (S.since i) n;
+    region = S.region;
     kept = S.kept;
     lowest = S.lowest;
     may = S.may;
+    cut = S.cut;
     stable = S.stable;
+    below = S.below;
     stops = S.stops;
+    touches = S.touches;
+    points = S.points;
+    passes = S.passes;
+    handles = λ i more r st state marked diverted runs back cut. S.handles i more r st state marked diverted (runs_since runs (S.since i) (omega (arith, runs.begun))) back
+        (λ k u gone near runs_u. cut k u gone near (runs_since runs_u (max (S.since (S.cut i k st.output)) n) (omega (arith, runs.begun, runs_u.begun))));
   }
 
   pub shows_later : (act : Activation) (fuel : ℕ) (S : Scene code heartbeat z) (i : S.World) (names : List (List ℕ)) (st : meaning.State) (state : machine.State) (n : ℕ) → n ≤ st.ticks → ShowsIn code heartbeat z act fuel S i names st state → ShowsIn code heartbeat z act fuel (later_in S n) i names st state
@@ -79,12 +91,14 @@ module _ (code : Listing) (heartbeat z : ℕ) where
     size = h.size;
     base = h.base;
     limit = h.limit;
+    limited = h.limited;
     ticks = h.ticks;
     within = h.within;
     begun = omega (arith, h.begun);
     printed = h.printed;
     ends = h.ends;
     free = h.free;
+    unmet = h.unmet;
     marked = h.marked;
     named = h.named;
     few = h.few;
@@ -105,12 +119,14 @@ module _ (code : Listing) (heartbeat z : ℕ) where
     size = h.size;
     base = h.base;
     limit = h.limit;
+    limited = h.limited;
     ticks = h.ticks;
     within = h.within;
     begun = omega (arith, h.begun);
     printed = h.printed;
     ends = h.ends;
     free = h.free;
+    unmet = h.unmet;
     marked = h.marked;
     named = h.named;
     few = h.few;
