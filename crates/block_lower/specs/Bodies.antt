@@ -1,6 +1,7 @@
 -- What the code of main's statements, or of a function's, stands on.
 use Rattle.std.specs.Prelude.{ℕ, ◌+◌, ◌≤◌, List, [], ◌∷◌}
-use Rattle.tp_value.specs.declared.limits.TheConstants.{MAX_DECLARED_VARIABLES, MAX_ACTIVATION_CELLS}
+use Rattle.tp_value.specs.declared.limits.TheConstants.{MAX_DECLARED_VARIABLES}
+use Rattle.tp_value.specs.declared.limits.TheConstants.{MAX_ACTIVATION_CELLS}
 use Rattle.block_lower.specs.declared.body.Body.{Body}
 use Rattle.block_lower.specs.declared.body.Callee.{Callee}
 use Rattle.block_lower.specs.Layout.{value_cell, Entry, Activation}
@@ -14,7 +15,8 @@ entries (c ∷ cs) = entry c ∷ entries cs
 
 -- the activation of a body, where these are the tables
 abbrev pub activation : Body → List (List ℕ) → Activation
-activation on tables = record { tables = tables; functions = entries on.callees.items; most = on.most; size = on.size }
+activation on tables =
+    record { tables = tables; functions = entries on.callees.items; most = on.most; size = on.size }
 
 -- behind the cells of its variables, the activation of a body has room for so many values
 pub record HasRoomFor (on : Body) (n : ℕ) : Type 0 where

@@ -1,6 +1,8 @@
--- Which code is the code of a statement. It is said of what remains of a block: the code of a statement
--- leads from some instructions with an end to others with an end, which are the code of what follows.
-use Rattle.std.specs.Prelude.{◌≡◌, ◌≢◌, ℕ, zero, suc, ◌+◌, ◌<◌, ◌≤◌, ℤ, pos, List, [], ◌∷◌, ◌++◌, length, Some, None, Vec}
+-- Which code is the code of a statement. It is said of what remains of a block: the code of a
+-- statement leads from some instructions with an end to others with an end, which are the code of
+-- what follows.
+use Rattle.std.specs.Prelude.{◌≡◌, ◌≢◌, ℕ, zero, suc, ◌+◌, ◌<◌, ◌≤◌, ℤ, pos, List, [], ◌∷◌, ◌++◌}
+use Rattle.std.specs.Prelude.{length, Some, None, Vec}
 use Rattle.std.specs.List.{AllByRecursion}
 use Rattle.std.specs.declared.alloc.Global.{Global}
 use Rattle.loop_syntax.specs.declared.Name.{Name}
@@ -9,7 +11,8 @@ use Rattle.loop_syntax.specs.declared.Stmt.{Stmt}
 use Rattle.loop_syntax.specs.declared.ParLoop.{ParLoop}
 use Rattle.loop_syntax.specs.declared.App.{App}
 use Rattle.loop_syntax.specs.declared.Reduce.{Reduce}
-use Rattle.loop_syntax.specs.declared.Stmt.TheVariants.{Let, Set, Put, If, While, Loop, Par, Fold, Call, Both, Print, Emit}
+use Rattle.loop_syntax.specs.declared.Stmt.TheVariants.{Let, Set, Put, If, While, Loop, Par, Fold}
+use Rattle.loop_syntax.specs.declared.Stmt.TheVariants.{Call, Both, Print, Emit}
 use Rattle.loop_rules.specs.Limits.{height}
 use Rattle.loop_rules.specs.Names.{operator_of}
 use Rattle.loop_meaning.specs.InRange.{InRange, ExprInRange}
@@ -20,7 +23,8 @@ use Rattle.tp_value.specs.declared.Place.{Place}
 use Rattle.tp_value.specs.declared.TrapKind.TheVariants.{Index, Wide, Deep}
 use Rattle.tpal_syntax.specs.declared.blocks.Block.{Block}
 use Rattle.tpal_syntax.specs.declared.instructions.Alu.{Alu}
-use Rattle.tpal_syntax.specs.declared.instructions.Alu.TheVariants.{Lt, Le, Add, Sub, Mul, Min, Max, Affine}
+use Rattle.tpal_syntax.specs.declared.instructions.Alu.TheVariants.{Lt, Le, Add, Sub, Mul, Min, Max}
+use Rattle.tpal_syntax.specs.declared.instructions.Alu.TheVariants.{Affine}
 use Rattle.tpal_syntax.specs.declared.instructions.Instr.{Instr}
 use Rattle.tpal_syntax.specs.declared.instructions.Instr.TheVariants as instr
 use Rattle.tpal_syntax.specs.declared.instructions.Term.{Term}
@@ -34,7 +38,8 @@ use Rattle.expr_lower.specs.declared.scope.Scope.{Scope}
 use Rattle.expr_lower.specs.Bodies.{body_of, traps_of, trap_block, literal, range_tests}
 use Rattle.expr_lower.specs.Scopes.{IsIn, HasVariable, HasTable, offset_of, table_number}
 use Rattle.expr_lower.specs.Standing.{AreAt}
-use Rattle.block_lower.specs.Layout.{return_cell, levels_cell, value_cell, bound_cell, kept_cell, Entry, entry_of, Activation}
+use Rattle.block_lower.specs.Layout.{return_cell, levels_cell, value_cell, bound_cell, kept_cell}
+use Rattle.block_lower.specs.Layout.{Entry, entry_of, Activation}
 use Rattle.block_lower.specs.Names.{Sees, names_after}
 
 -- the block at a label is not promotion-ready, and has these instructions and this end
@@ -62,7 +67,8 @@ below_test counter bound again = instr.Calc 0 counter Lt bound ∷ instr.IfJump 
 -- the next number of a loop, in a register and in its variable's cell
 abbrev pub step_up : ℕ → ℕ → List Instr → List Instr
 step_up counter level more =
-    load counter (value_cell level) ∷ instr.Calc counter counter Add (value.Int (pos 1)) ∷ store (value_cell level) (value.Reg counter) ∷ more
+    load counter (value_cell level) ∷ instr.Calc counter counter Add (value.Int (pos 1))
+    ∷ store (value_cell level) (value.Reg counter) ∷ more
 
 -- the operator that folds
 abbrev pub alu_of : Op → Alu
@@ -72,25 +78,31 @@ alu_of op.Min = Min
 alu_of op.Max = Max
 alu_of op.Affine = Affine
 
--- a cell of a table is set where it is one: the row, the column and the number are in three registers, and
--- another one is for the tests
+-- a cell of a table is set where it is one: the row, the column and the number are in three
+-- registers, and another one is for the tests
 abbrev pub put_tested : ℕ → ℕ → ℕ → ℕ → ℕ → ℕ → List Instr → List Instr
-put_tested table row col number test trap more = range_tests table row col test trap ++ instr.Put table row col number ∷ more
+put_tested table row col number test trap more =
+    range_tests table row col test trap ++ instr.Put table row col number ∷ more
 
--- The test of a `par` whose first number is in register 1 and whose bound, above it, is in register 0: their
--- difference is negative where it is above the numbers of 64 bits.
+-- The test of a `par` whose first number is in register 1 and whose bound, above it, is in register
+-- 0: their difference is negative where it is above the numbers of 64 bits.
 abbrev pub wide_test : ℕ → ℕ → List Instr
 wide_test wide again =
-    instr.Calc 2 0 Sub (value.Reg 1) ∷ instr.Calc 3 2 Lt (value.Int (pos 0)) ∷ instr.IfJump 3 wide ∷ instr.Calc 3 2 Le (value.Int (pos MAX_PAR_LENGTH)) ∷ instr.IfJump 3 again ∷ []
+    instr.Calc 2 0 Sub (value.Reg 1) ∷ instr.Calc 3 2 Lt (value.Int (pos 0)) ∷ instr.IfJump 3 wide
+    ∷ instr.Calc 3 2 Le (value.Int (pos MAX_PAR_LENGTH)) ∷ instr.IfJump 3 again ∷ []
 
--- the end of a call, where the arguments stand in the new activation: a tick, and a trap where no level is left
+-- the end of a call, where the arguments stand in the new activation: a tick, and a trap where no
+-- level is left
 abbrev pub call_test : ℕ → Place → List Instr
-call_test go place = instr.Tick ∷ load 0 levels_cell ∷ instr.IfJump 0 go ∷ instr.Trap Deep place ∷ []
+call_test go place =
+    instr.Tick ∷ load 0 levels_cell ∷ instr.IfJump 0 go ∷ instr.Trap Deep place ∷ []
 
 -- the callee's levels and its label to return to; its activation is the one that runs
 abbrev pub call_entry : ℕ → ℕ → List Instr
 call_entry size back =
-    instr.Calc 0 0 Sub (value.Int (pos 1)) ∷ store (size + levels_cell) (value.Reg 0) ∷ store (size + return_cell) (value.Label back) ∷ instr.Calc 31 31 Add (value.Int (pos size)) ∷ []
+    instr.Calc 0 0 Sub (value.Int (pos 1)) ∷ store (size + levels_cell) (value.Reg 0)
+    ∷ store (size + return_cell) (value.Label back)
+    ∷ instr.Calc 31 31 Add (value.Int (pos size)) ∷ []
 
 -- behind a call the caller's activation runs again
 abbrev pub call_exit : ℕ → List Instr → List Instr
@@ -99,20 +111,27 @@ call_exit size more = instr.Calc 31 31 Sub (value.Int (pos size)) ∷ more
 -- The code of the statements of main, or of a function, that stands on this.
 module _ (code : Listing) (act : Activation) where
   -- the code of an expression, which leaves its value in register `to`, and what stands behind it
-  pub record Computes (names : List (List ℕ)) (e : Expr) (r : ℕ) (instrs more : List Instr) : Type 0 where
-    pub scope : Scope
-    pub sees : Sees scope names act.tables
-    pub inside : IsIn scope e
-    pub low : r + height e ≤ 24
-    pub ranged : ExprInRange e
-    pub first : ℕ
-    pub body : instrs ≡ body_of scope first e r ++ more
-    pub traps : AreAt code first (traps_of first e)
+  pub record Computes (names : List (List ℕ)) (e : Expr) (r : ℕ) (instrs more : List Instr) : Type 0
+    where
+      pub scope : Scope
+      pub sees : Sees scope names act.tables
+      pub inside : IsIn scope e
+      pub low : r + height e ≤ 24
+      pub ranged : ExprInRange e
+      pub first : ℕ
+      pub body : instrs ≡ body_of scope first e r ++ more
+      pub traps : AreAt code first (traps_of first e)
 
   -- the code of an operand: none for a literal, else that of an expression
-  pub data Operand (names : List (List ℕ)) (e : Expr) (r : ℕ) : Value → List Instr → List Instr → Type 0 where
-    number : {n : ℤ} {more : List Instr} → literal e ≡ Some n → InRange n → Operand names e r (value.Int n) more more
-    computed : {instrs more : List Instr} → Computes names e r instrs more → Operand names e r (value.Reg r) instrs more
+  pub data Operand (names : List (List ℕ)) (e : Expr) (r : ℕ) : Value → List Instr → List Instr
+      → Type 0 where
+    number : {n : ℤ} {more : List Instr}
+        → literal e ≡ Some n
+        → InRange n
+        → Operand names e r (value.Int n) more more
+    computed : {instrs more : List Instr}
+        → Computes names e r instrs more
+        → Operand names e r (value.Reg r) instrs more
 
   -- the cell of a variable that is none of those at the fixed levels
   pub record IsCell (names : List (List ℕ)) (fixed : List ℕ) (x : List ℕ) (cell : ℕ) : Type 0 where
@@ -136,8 +155,10 @@ module _ (code : Listing) (act : Activation) where
   abbrev pub Keeps : ℕ → Type 0
   Keeps n = kept_cell act n ≤ act.size
 
-  -- the code of arguments, from the one with a number on, which leaves the value of each in its cell
-  pub data Arguments (names : List (List ℕ)) (cell : ℕ → ℕ) : ℕ → List Expr → List Instr → List Instr → Type 0 where
+  -- the code of arguments, from the one with a number on, which leaves the value of each in its
+  -- cell
+  pub data Arguments (names : List (List ℕ)) (cell : ℕ → ℕ) : ℕ → List Expr → List Instr
+      → List Instr → Type 0 where
     no_argument : {i : ℕ} {instrs : List Instr} → Arguments names cell i [] instrs instrs
     one_argument : {i : ℕ} {e : Expr} {es : List Expr} {v : Value} {instrs second more : List Instr}
         → Operand names e 0 v instrs (store (cell i) v ∷ second)
@@ -151,11 +172,13 @@ module _ (code : Listing) (act : Activation) where
   -- kept numbers, from the first on, become arguments
   abbrev pub passed : ℕ → ℕ → List Instr → List Instr
   passed zero i more = more
-  passed (suc n) i more = load 0 (kept_cell act i) ∷ store (parameter_cell i) (value.Reg 0) ∷ passed n (suc i) more
+  passed (suc n) i more =
+      load 0 (kept_cell act i) ∷ store (parameter_cell i) (value.Reg 0) ∷ passed n (suc i) more
 
-  -- a call of a function, whose arguments stand in its activation, from a tick on; behind it stands what
-  -- follows at its label
-  pub record Calls (place : Place) (entry : Entry) (instrs : List Instr) (end : Term) (back : List Instr) (last : Term) : Type 0 where
+  -- a call of a function, whose arguments stand in its activation, from a tick on; behind it stands
+  -- what follows at its label
+  pub record Calls (place : Place) (entry : Entry) (instrs : List Instr) (end : Term)
+      (back : List Instr) (last : Term) : Type 0 where
     pub go : ℕ
     pub return : ℕ
     pub test : instrs ≡ call_test go place
@@ -164,121 +187,179 @@ module _ (code : Listing) (act : Activation) where
     pub behind : Opens code return (call_exit act.size back) last
 
   mutual
-    -- The code of a statement, where the nearest `par` round it reduces these, these variables are visible and
-    -- those at the fixed levels are the variables of loops: from some instructions and an end to others.
-    pub data Code : List Reduce → List (List ℕ) → List ℕ → Stmt → List Instr → Term → List Instr → Term → Type 0 where
-      let_code : {reduces : List Reduce} {names : List (List ℕ)} {fixed : List ℕ} {x : Name} {e : Expr} {v : Value} {instrs more : List Instr} {end : Term}
+    -- The code of a statement, where the nearest `par` round it reduces these, these variables are
+    -- visible and those at the fixed levels are the variables of loops: from some instructions and
+    -- an end to others.
+    pub data Code : List Reduce → List (List ℕ) → List ℕ → Stmt → List Instr → Term → List Instr
+        → Term → Type 0 where
+      let_code : {reduces : List Reduce} {names : List (List ℕ)} {fixed : List ℕ} {x : Name}
+          {e : Expr} {v : Value} {instrs more : List Instr} {end : Term}
           → length names < act.most
           → Operand names e 0 v instrs (store (value_cell (length names)) v ∷ more)
           → Code reduces names fixed (Let x e) instrs end more end
-      set_code : {reduces : List Reduce} {names : List (List ℕ)} {fixed : List ℕ} {x : Name} {e : Expr} {v : Value} {cell : ℕ} {instrs more : List Instr} {end : Term}
+      set_code : {reduces : List Reduce} {names : List (List ℕ)} {fixed : List ℕ} {x : Name}
+          {e : Expr} {v : Value} {cell : ℕ} {instrs more : List Instr} {end : Term}
           → IsCell names fixed x.text.items cell
           → Operand names e 0 v instrs (store cell v ∷ more)
           → Code reduces names fixed (Set x e) instrs end more end
-      put_code : {reduces : List Reduce} {names : List (List ℕ)} {fixed : List ℕ} {t : Name} {a b e : Expr} {table trap : ℕ} {instrs second third more : List Instr} {end : Term}
+      put_code : {reduces : List Reduce} {names : List (List ℕ)} {fixed : List ℕ} {t : Name}
+          {a b e : Expr} {table trap : ℕ} {instrs second third more : List Instr} {end : Term}
           → IsTable names t.text.items table
           → Computes names a 0 instrs second
           → Computes names b 1 second third
           → Computes names e 2 third (put_tested table 0 1 2 3 trap more)
           → AreAt code trap (trap_block trap Index t.place ∷ [])
           → Code reduces names fixed (Put t a b e) instrs end more end
-      put_kept_code : {reduces : List Reduce} {names : List (List ℕ)} {fixed : List ℕ} {t : Name} {a b e : Expr} {table trap : ℕ} {instrs second third more : List Instr} {end : Term}
+      put_kept_code : {reduces : List Reduce} {names : List (List ℕ)} {fixed : List ℕ} {t : Name}
+          {a b e : Expr} {table trap : ℕ} {instrs second third more : List Instr} {end : Term}
           → Keeps 2
           → IsTable names t.text.items table
           → Computes names a 0 instrs (store (kept_cell act 0) (value.Reg 0) ∷ second)
           → Computes names b 0 second (store (kept_cell act 1) (value.Reg 0) ∷ third)
-          → Computes names e 0 third (load 1 (kept_cell act 0) ∷ load 2 (kept_cell act 1) ∷ put_tested table 1 2 0 3 trap more)
+          → Computes names e 0 third
+          (load 1 (kept_cell act 0) ∷ load 2 (kept_cell act 1)
+          ∷ put_tested table 1 2 0 3 trap more)
           → AreAt code trap (trap_block trap Index t.place ∷ [])
           → Code reduces names fixed (Put t a b e) instrs end more end
-      if_code : {reduces : List Reduce} {names : List (List ℕ)} {fixed : List ℕ} {e : Expr} (body other : Vec Stmt Global) {first second exit : ℕ} {instrs more : List Instr} {end : Term}
+      if_code : {reduces : List Reduce} {names : List (List ℕ)} {fixed : List ℕ} {e : Expr}
+          (body other : Vec Stmt Global) {first second exit : ℕ} {instrs more : List Instr}
+          {end : Term}
           → Computes names e 0 instrs (instr.IfJump 0 first ∷ [])
           → Branch reduces names fixed body.items first exit
           → Other reduces names fixed other.items second exit
           → Opens code exit more end
           → Code reduces names fixed (If e body other) instrs (to second) more end
-      while_code : {reduces : List Reduce} {names : List (List ℕ)} {fixed : List ℕ} {e : Expr} (body : Vec Stmt Global) {again exit : ℕ} {instrs inner test more : List Instr} {last end : Term}
+      while_code : {reduces : List Reduce} {names : List (List ℕ)} {fixed : List ℕ} {e : Expr}
+          (body : Vec Stmt Global) {again exit : ℕ} {instrs inner test more : List Instr}
+          {last end : Term}
           → Computes names e 0 instrs (instr.IfJump 0 again ∷ [])
           → Opens code again (instr.Tick ∷ inner) last
           → Codes reduces names fixed body.items inner last test (to exit)
           → Computes names e 0 test (instr.IfJump 0 again ∷ [])
           → Opens code exit more end
           → Code reduces names fixed (While e body) instrs (to exit) more end
-      loop_code : {reduces : List Reduce} {names : List (List ℕ)} {fixed : List ℕ} {x : Name} {a b : Expr} (body : Vec Stmt Global) {again exit : ℕ} {instrs second inner more : List Instr} {last end : Term}
+      loop_code : {reduces : List Reduce} {names : List (List ℕ)} {fixed : List ℕ} {x : Name}
+          {a b : Expr} (body : Vec Stmt Global) {again exit : ℕ}
+          {instrs second inner more : List Instr} {last end : Term}
           → length names < act.most
           → Computes names a 0 instrs (store (value_cell (length names)) (value.Reg 0) ∷ second)
-          → Computes names b 0 second (store (bound_cell (length names)) (value.Reg 0) ∷ load 1 (value_cell (length names)) ∷ below_test 1 (value.Reg 0) again)
+          → Computes names b 0 second
+          (store (bound_cell (length names)) (value.Reg 0) ∷ load 1 (value_cell (length names))
+          ∷ below_test 1 (value.Reg 0) again)
           → Opens code again (instr.Tick ∷ inner) last
-          → Codes reduces (names ++ x.text.items ∷ []) (length names ∷ fixed) body.items inner last (step_up 1 (length names) (load 0 (bound_cell (length names)) ∷ below_test 1 (value.Reg 0) again)) (to exit)
+          → Codes reduces (names ++ x.text.items ∷ []) (length names ∷ fixed) body.items inner last
+          (step_up 1 (length names)
+          (load 0 (bound_cell (length names)) ∷ below_test 1 (value.Reg 0) again))
+          (to exit)
           → Opens code exit more end
           → Code reduces names fixed (Loop x a b body) instrs (to exit) more end
-      loop_to_code : {reduces : List Reduce} {names : List (List ℕ)} {fixed : List ℕ} {x : Name} {a b : Expr} (body : Vec Stmt Global) {n : ℤ} {again exit : ℕ} {instrs inner more : List Instr} {last end : Term}
+      loop_to_code : {reduces : List Reduce} {names : List (List ℕ)} {fixed : List ℕ} {x : Name}
+          {a b : Expr} (body : Vec Stmt Global) {n : ℤ} {again exit : ℕ}
+          {instrs inner more : List Instr} {last end : Term}
           → length names < act.most
           → literal b ≡ Some n → InRange n
-          → Computes names a 0 instrs (store (value_cell (length names)) (value.Reg 0) ∷ below_test 0 (value.Int n) again)
+          → Computes names a 0 instrs
+          (store (value_cell (length names)) (value.Reg 0) ∷ below_test 0 (value.Int n) again)
           → Opens code again (instr.Tick ∷ inner) last
-          → Codes reduces (names ++ x.text.items ∷ []) (length names ∷ fixed) body.items inner last (step_up 0 (length names) (below_test 0 (value.Int n) again)) (to exit)
+          → Codes reduces (names ++ x.text.items ∷ []) (length names ∷ fixed) body.items inner last
+          (step_up 0 (length names) (below_test 0 (value.Int n) again)) (to exit)
           → Opens code exit more end
           → Code reduces names fixed (Loop x a b body) instrs (to exit) more end
-      par_code : {reduces : List Reduce} {names : List (List ℕ)} {fixed : List ℕ} (l : ParLoop) {check wide again exit : ℕ} {instrs second inner more : List Instr} {last end : Term}
+      par_code : {reduces : List Reduce} {names : List (List ℕ)} {fixed : List ℕ} (l : ParLoop)
+          {check wide again exit : ℕ} {instrs second inner more : List Instr} {last end : Term}
           → length names < act.most
-          → Computes names l.from 0 instrs (store (value_cell (length names)) (value.Reg 0) ∷ second)
-          → Computes names l.to 0 second (store (bound_cell (length names)) (value.Reg 0) ∷ load 1 (value_cell (length names)) ∷ instr.Calc 2 1 Lt (value.Reg 0) ∷ instr.IfJump 2 check ∷ [])
+          → Computes names l.from 0 instrs
+          (store (value_cell (length names)) (value.Reg 0) ∷ second)
+          → Computes names l.to 0 second
+          (store (bound_cell (length names)) (value.Reg 0) ∷ load 1 (value_cell (length names))
+          ∷ instr.Calc 2 1 Lt (value.Reg 0) ∷ instr.IfJump 2 check ∷ [])
           → Opens code check (wide_test wide again) (to wide)
           → AreAt code wide (trap_block wide Wide l.place ∷ [])
           → Opens code again (instr.Tick ∷ inner) last
-          → Codes l.reduces.items (names ++ l.var.text.items ∷ []) (length names ∷ fixed) l.body.items inner last (step_up 1 (length names) (load 0 (bound_cell (length names)) ∷ below_test 1 (value.Reg 0) again)) (to exit)
+          → Codes l.reduces.items (names ++ l.var.text.items ∷ []) (length names ∷ fixed)
+          l.body.items inner last
+          (step_up 1 (length names)
+          (load 0 (bound_cell (length names)) ∷ below_test 1 (value.Reg 0) again))
+          (to exit)
           → Opens code exit more end
           → Code reduces names fixed (Par l) instrs (to exit) more end
-      fold_code : {reduces : List Reduce} {names : List (List ℕ)} {fixed : List ℕ} {x : Name} {e : Expr} {o : Op} {v : Value} {cell : ℕ} {instrs more : List Instr} {end : Term}
+      fold_code : {reduces : List Reduce} {names : List (List ℕ)} {fixed : List ℕ} {x : Name}
+          {e : Expr} {o : Op} {v : Value} {cell : ℕ} {instrs more : List Instr} {end : Term}
           → operator_of reduces x.text.items ≡ Some o
           → IsCell names fixed x.text.items cell
-          → Operand names e 0 v instrs (load 1 cell ∷ instr.Calc 1 1 (alu_of o) v ∷ store cell (value.Reg 1) ∷ more)
+          → Operand names e 0 v instrs
+          (load 1 cell ∷ instr.Calc 1 1 (alu_of o) v ∷ store cell (value.Reg 1) ∷ more)
           → Code reduces names fixed (Fold x e) instrs end more end
-      fold_nothing_code : {reduces : List Reduce} {names : List (List ℕ)} {fixed : List ℕ} {x : Name} {e : Expr} {instrs more : List Instr} {end : Term}
+      fold_nothing_code : {reduces : List Reduce} {names : List (List ℕ)} {fixed : List ℕ}
+          {x : Name} {e : Expr} {instrs more : List Instr} {end : Term}
           → operator_of reduces x.text.items ≡ None
           → Computes names e 0 instrs more
           → Code reduces names fixed (Fold x e) instrs end more end
-      call_code : {reduces : List Reduce} {names : List (List ℕ)} {fixed : List ℕ} {x : Name} {f : App} {entry : Entry} {cell : ℕ} {arguments test more : List Instr} {last end : Term}
-          → entry_of act.functions f.callee.text.items ≡ Some entry → length f.args.items ≡ entry.parameters
+      call_code : {reduces : List Reduce} {names : List (List ℕ)} {fixed : List ℕ} {x : Name}
+          {f : App} {entry : Entry} {cell : ℕ} {arguments test more : List Instr} {last end : Term}
+          → entry_of act.functions f.callee.text.items ≡ Some entry
+          → length f.args.items ≡ entry.parameters
           → IsCell names fixed x.text.items cell
           → Arguments names parameter_cell 0 f.args.items arguments test
           → Calls f.callee.place entry test last (store cell (value.Reg 0) ∷ more) end
           → Code reduces names fixed (Call x f) (instr.Salloc entry.size ∷ arguments) last more end
-      both_code : {reduces : List Reduce} {names : List (List ℕ)} {fixed : List ℕ} {x y : Name} {f g : App} {first second : Entry} {x_cell y_cell : ℕ} {arguments others test_first test_second more : List Instr} {last half end : Term}
+      both_code : {reduces : List Reduce} {names : List (List ℕ)} {fixed : List ℕ} {x y : Name}
+          {f g : App} {first second : Entry} {x_cell y_cell : ℕ}
+          {arguments others test_first test_second more : List Instr} {last half end : Term}
           → Keeps 9
-          → entry_of act.functions f.callee.text.items ≡ Some first → length f.args.items ≡ first.parameters
-          → entry_of act.functions g.callee.text.items ≡ Some second → length g.args.items ≡ second.parameters
+          → entry_of act.functions f.callee.text.items ≡ Some first
+          → length f.args.items ≡ first.parameters
+          → entry_of act.functions g.callee.text.items ≡ Some second
+          → length g.args.items ≡ second.parameters
           → IsCell names fixed x.text.items x_cell
           → IsCell names fixed y.text.items y_cell
           → length g.args.items ≤ 8
           → Arguments names parameter_cell 0 f.args.items arguments others
           → Arguments names (kept_cell act) 0 g.args.items others test_first
-          → Calls f.callee.place first test_first last (store (kept_cell act 8) (value.Reg 0) ∷ instr.Salloc second.size ∷ passed (length g.args.items) 0 test_second) half
-          → Calls g.callee.place second test_second half (load 1 (kept_cell act 8) ∷ store x_cell (value.Reg 1) ∷ store y_cell (value.Reg 0) ∷ more) end
-          → Code reduces names fixed (Both x f y g) (instr.Salloc first.size ∷ arguments) last more end
-      print_code : {reduces : List Reduce} {names : List (List ℕ)} {fixed : List ℕ} {place : Place} {e : Expr} {instrs more : List Instr} {end : Term}
+          → Calls f.callee.place first test_first last
+          (store (kept_cell act 8) (value.Reg 0) ∷ instr.Salloc second.size
+          ∷ passed (length g.args.items) 0 test_second)
+          half
+          → Calls g.callee.place second test_second half
+          (load 1 (kept_cell act 8) ∷ store x_cell (value.Reg 1) ∷ store y_cell (value.Reg 0)
+          ∷ more)
+          end
+          → Code reduces names fixed (Both x f y g) (instr.Salloc first.size ∷ arguments) last more
+          end
+      print_code : {reduces : List Reduce} {names : List (List ℕ)} {fixed : List ℕ} {place : Place}
+          {e : Expr} {instrs more : List Instr} {end : Term}
           → Computes names e 0 instrs (instr.Print 0 ∷ more)
           → Code reduces names fixed (Print place e) instrs end more end
-      emit_code : {reduces : List Reduce} {names : List (List ℕ)} {fixed : List ℕ} {place : Place} {t : Name} {table : ℕ} {more : List Instr} {end : Term}
+      emit_code : {reduces : List Reduce} {names : List (List ℕ)} {fixed : List ℕ} {place : Place}
+          {t : Name} {table : ℕ} {more : List Instr} {end : Term}
           → IsTable names t.text.items table
           → Code reduces names fixed (Emit place t) (instr.Emit table ∷ more) end more end
 
     -- the code of statements in order
-    pub data Codes : List Reduce → List (List ℕ) → List ℕ → List Stmt → List Instr → Term → List Instr → Term → Type 0 where
-      none : {reduces : List Reduce} {names : List (List ℕ)} {fixed : List ℕ} {instrs : List Instr} {end : Term} → Codes reduces names fixed [] instrs end instrs end
-      one_more : {reduces : List Reduce} {names : List (List ℕ)} {fixed : List ℕ} {s : Stmt} {ss : List Stmt} {instrs middle more : List Instr} {end half last : Term}
+    pub data Codes : List Reduce → List (List ℕ) → List ℕ → List Stmt → List Instr → Term
+        → List Instr → Term → Type 0 where
+      none : {reduces : List Reduce} {names : List (List ℕ)} {fixed : List ℕ} {instrs : List Instr}
+          {end : Term}
+          → Codes reduces names fixed [] instrs end instrs end
+      one_more : {reduces : List Reduce} {names : List (List ℕ)} {fixed : List ℕ} {s : Stmt}
+          {ss : List Stmt} {instrs middle more : List Instr} {end half last : Term}
           → Code reduces names fixed s instrs end middle half
           → Codes reduces (names_after names s) fixed ss middle half more last
           → Codes reduces names fixed (s ∷ ss) instrs end more last
 
     -- the block of a branch, and what goes on at the exit
     pub data Branch : List Reduce → List (List ℕ) → List ℕ → List Stmt → ℕ → ℕ → Type 0 where
-      branch : {reduces : List Reduce} {names : List (List ℕ)} {fixed : List ℕ} {body : List Stmt} {label exit : ℕ} {instrs : List Instr} {end : Term}
+      branch : {reduces : List Reduce} {names : List (List ℕ)} {fixed : List ℕ} {body : List Stmt}
+          {label exit : ℕ} {instrs : List Instr} {end : Term}
           → Opens code label instrs end
           → Codes reduces names fixed body instrs end [] (to exit)
           → Branch reduces names fixed body label exit
 
     -- a branch with no statements has no block
     pub data Other : List Reduce → List (List ℕ) → List ℕ → List Stmt → ℕ → ℕ → Type 0 where
-      nothing : {reduces : List Reduce} {names : List (List ℕ)} {fixed : List ℕ} {exit : ℕ} → Other reduces names fixed [] exit exit
-      something : {reduces : List Reduce} {names : List (List ℕ)} {fixed : List ℕ} {body : List Stmt} {label exit : ℕ} → Branch reduces names fixed body label exit → Other reduces names fixed body label exit
+      nothing : {reduces : List Reduce} {names : List (List ℕ)} {fixed : List ℕ} {exit : ℕ}
+          → Other reduces names fixed [] exit exit
+      something : {reduces : List Reduce} {names : List (List ℕ)} {fixed : List ℕ}
+          {body : List Stmt} {label exit : ℕ}
+          → Branch reduces names fixed body label exit
+          → Other reduces names fixed body label exit

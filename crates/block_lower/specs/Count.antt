@@ -4,7 +4,8 @@ use Rattle.std.specs.List.{sum_by}
 use Rattle.loop_syntax.specs.declared.Expr.{Expr}
 use Rattle.loop_syntax.specs.declared.Expr.TheVariants.{Int, Var, Cell', Rows, Cols, Neg', Bin'}
 use Rattle.loop_syntax.specs.declared.Stmt.{Stmt, Row_of-Stmt, end_of-Stmt, more_of-Stmt}
-use Rattle.loop_syntax.specs.declared.Stmt.TheVariants.{Let, Set, Put, If', While', Loop', Par', Fold, Call, Both, Print, Emit}
+use Rattle.loop_syntax.specs.declared.Stmt.TheVariants.{Let, Set, Put, If', While', Loop', Par'}
+use Rattle.loop_syntax.specs.declared.Stmt.TheVariants.{Fold, Call, Both, Print, Emit}
 use Rattle.loop_syntax.specs.declared.Func.{Func}
 use Rattle.loop_syntax.specs.declared.TableDecl.{TableDecl}
 use Rattle.loop_syntax.specs.declared.TableDecl.TheVariants.{Input, Made}
@@ -27,8 +28,8 @@ blocks_of_expr e = 8 * nodes e
 abbrev pub blocks_of_exprs : List Expr → ℕ
 blocks_of_exprs es = sum_by blocks_of_expr es
 
--- 64 for a `par` or a `both`, 16 for another statement, 8 for each node of its expressions, and the same for
--- the statements inside
+-- 64 for a `par` or a `both`, 16 for another statement, 8 for each node of its expressions, and the
+-- same for the statements inside
 abbrev mutual
   pub blocks : Stmt → ℕ
   blocks (Let x e) = 16 + blocks_of_expr e
@@ -37,7 +38,8 @@ abbrev mutual
   blocks (If' e p body q other) = 16 + blocks_of_expr e + blocks_of_all body + blocks_of_all other
   blocks (While' e p body) = 16 + blocks_of_expr e + blocks_of_all body
   blocks (Loop' x a b p body) = 16 + blocks_of_expr a + blocks_of_expr b + blocks_of_all body
-  blocks (Par' place x a b carry_place carries reduces p body) = 64 + blocks_of_expr a + blocks_of_expr b + blocks_of_all body
+  blocks (Par' place x a b carry_place carries reduces p body) =
+      64 + blocks_of_expr a + blocks_of_expr b + blocks_of_all body
   blocks (Fold x e) = 16 + blocks_of_expr e
   blocks (Call x f) = 16 + blocks_of_exprs f.args.items
   blocks (Both x f y g) = 64 + blocks_of_exprs f.args.items + blocks_of_exprs g.args.items
@@ -62,4 +64,6 @@ blocks_of_decl (Made t a b) = 8 + blocks_of_expr a + blocks_of_expr b
 
 -- 8 for main, and what its statements, the tables and the functions have
 abbrev pub blocks_of_program : Program → ℕ
-blocks_of_program p = 8 + sum_by blocks_of_decl p.tables.items + sum_by blocks_of_func p.funcs.items + blocks_of_list p.main.items
+blocks_of_program p =
+    8 + sum_by blocks_of_decl p.tables.items + sum_by blocks_of_func p.funcs.items
+    + blocks_of_list p.main.items

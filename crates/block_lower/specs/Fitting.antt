@@ -1,15 +1,19 @@
--- What the code of statements asks of them: their variables and tables are visible, no variable of a loop
--- round them is set, and there is room for those that they declare. What the code of a program asks of it.
-use Rattle.std.specs.Prelude.{◌≡◌, ◌≢◌, ℕ, suc, ◌+◌, ◌<◌, ◌≤◌, cond, IsTrue, ⊤, List, [], ◌∷◌, ◌++◌, length, bytes_eq, Some}
+-- What the code of statements asks of them: their variables and tables are visible, no variable of
+-- a loop round them is set, and there is room for those that they declare. What the code of a
+-- program asks of it.
+use Rattle.std.specs.Prelude.{◌≡◌, ◌≢◌, ℕ, suc, ◌+◌, ◌<◌, ◌≤◌, cond, IsTrue, ⊤, List, [], ◌∷◌, ◌++◌}
+use Rattle.std.specs.Prelude.{length, bytes_eq, Some}
 use Rattle.std.specs.List.{AllByRecursion, IsDistinct}
-use Rattle.tp_value.specs.declared.limits.TheConstants.{MAX_TABLES, MAX_PARAMETERS, MAX_DECLARED_VARIABLES}
+use Rattle.tp_value.specs.declared.limits.TheConstants.{MAX_TABLES, MAX_PARAMETERS}
+use Rattle.tp_value.specs.declared.limits.TheConstants.{MAX_DECLARED_VARIABLES}
 use Rattle.loop_syntax.specs.declared.App.{App}
 use Rattle.loop_syntax.specs.declared.Expr.{Expr}
 use Rattle.loop_syntax.specs.declared.Expr.TheVariants.{Int, Var, Cell', Rows, Cols, Neg', Bin'}
 use Rattle.loop_syntax.specs.declared.Func.{Func}
 use Rattle.loop_syntax.specs.declared.Program.{Program}
 use Rattle.loop_syntax.specs.declared.Stmt.{Stmt, Row_of-Stmt, end_of-Stmt, more_of-Stmt}
-use Rattle.loop_syntax.specs.declared.Stmt.TheVariants.{Let, Set, Put, If', While', Loop', Par', Fold, Call, Both, Print, Emit}
+use Rattle.loop_syntax.specs.declared.Stmt.TheVariants.{Let, Set, Put, If', While', Loop', Par'}
+use Rattle.loop_syntax.specs.declared.Stmt.TheVariants.{Fold, Call, Both, Print, Emit}
 use Rattle.loop_syntax.specs.declared.TableDecl.{TableDecl}
 use Rattle.loop_syntax.specs.declared.TableDecl.TheVariants.{Input, Made}
 use Rattle.loop_rules.specs.Declarations.{declared_list, table_of_decl}
@@ -28,7 +32,8 @@ level_of (y ∷ ys) x = cond (bytes_eq y x) 0 (suc (level_of ys x))
 abbrev pub IsVisible : List (List ℕ) → List (List ℕ) → Expr → Type 0
 IsVisible tables names (Int n place) = ⊤
 IsVisible tables names (Var x) = IsTrue (is_in names x.text.items)
-IsVisible tables names (Cell' t p a q b) = IsTrue (is_in tables t.text.items) × IsVisible tables names a × IsVisible tables names b
+IsVisible tables names (Cell' t p a q b) =
+    IsTrue (is_in tables t.text.items) × IsVisible tables names a × IsVisible tables names b
 IsVisible tables names (Rows t) = IsTrue (is_in tables t.text.items)
 IsVisible tables names (Cols t) = IsTrue (is_in tables t.text.items)
 IsVisible tables names (Neg' p a place) = IsVisible tables names a
@@ -37,7 +42,8 @@ IsVisible tables names (Bin' o place p a q b) = IsVisible tables names a × IsVi
 abbrev pub AreVisible : List (List ℕ) → List (List ℕ) → List Expr → Type 0
 AreVisible tables names es = AllByRecursion (IsVisible tables names) es
 
--- Statements of a program with these tables and functions, in an activation with room for so many variables.
+-- Statements of a program with these tables and functions, in an activation with room for so many
+-- variables.
 module _ (tables : List (List ℕ)) (functions : List Entry) (most : ℕ) where
   -- a variable is visible, and is none of those at the fixed levels
   pub record IsFree (names : List (List ℕ)) (fixed : List ℕ) (x : List ℕ) : Type 0 where
@@ -52,28 +58,44 @@ module _ (tables : List (List ℕ)) (functions : List Entry) (most : ℕ) where
     pub arity : length f.args.items ≡ entry.parameters
     pub seen : AreVisible tables names f.args.items
 
-  -- a statement fits where these variables are visible, and those at the fixed levels are the variables of
-  -- loops
+  -- a statement fits where these variables are visible, and those at the fixed levels are the
+  -- variables of loops
   abbrev mutual
     pub Fits : List (List ℕ) → List ℕ → Stmt → Type 0
     Fits names fixed (Let x e) = (length names < most) × IsVisible tables names e
     Fits names fixed (Set x e) = IsFree names fixed x.text.items × IsVisible tables names e
-    Fits names fixed (Put t a b e) = IsTrue (is_in tables t.text.items) × IsVisible tables names a × IsVisible tables names b × IsVisible tables names e
-    Fits names fixed (If' e p body q other) = IsVisible tables names e × FitInRow names fixed body × FitInRow names fixed other
+    Fits names fixed (Put t a b e) =
+        IsTrue (is_in tables t.text.items)
+        × IsVisible tables names a
+        × IsVisible tables names b
+        × IsVisible tables names e
+    Fits names fixed (If' e p body q other) =
+        IsVisible tables names e × FitInRow names fixed body × FitInRow names fixed other
     Fits names fixed (While' e p body) = IsVisible tables names e × FitInRow names fixed body
     Fits names fixed (Loop' x a b p body) =
-        (length names < most) × IsVisible tables names a × IsVisible tables names b × FitInRow (names ++ x.text.items ∷ []) (length names ∷ fixed) body
+        (length names < most)
+        × IsVisible tables names a
+        × IsVisible tables names b
+        × FitInRow (names ++ x.text.items ∷ []) (length names ∷ fixed) body
     Fits names fixed (Par' place x a b carry_place carries reduces p body) =
-        (length names < most) × IsVisible tables names a × IsVisible tables names b × FitInRow (names ++ x.text.items ∷ []) (length names ∷ fixed) body
+        (length names < most)
+        × IsVisible tables names a
+        × IsVisible tables names b
+        × FitInRow (names ++ x.text.items ∷ []) (length names ∷ fixed) body
     Fits names fixed (Fold x e) = IsFree names fixed x.text.items × IsVisible tables names e
     Fits names fixed (Call x f) = IsFree names fixed x.text.items × IsCall names f
-    Fits names fixed (Both x f y g) = IsFree names fixed x.text.items × IsFree names fixed y.text.items × IsCall names f × IsCall names g
+    Fits names fixed (Both x f y g) =
+        IsFree names fixed x.text.items
+        × IsFree names fixed y.text.items
+        × IsCall names f
+        × IsCall names g
     Fits names fixed (Print place e) = IsVisible tables names e
     Fits names fixed (Emit place t) = IsTrue (is_in tables t.text.items)
 
     pub FitInRow : {m : _} → List (List ℕ) → List ℕ → Row_of-Stmt m → Type 0
     FitInRow names fixed end_of-Stmt = ⊤
-    FitInRow names fixed (more_of-Stmt first rest) = Fits names fixed first × FitInRow (names_after names first) fixed rest
+    FitInRow names fixed (more_of-Stmt first rest) =
+        Fits names fixed first × FitInRow (names_after names first) fixed rest
 
   abbrev pub AllFit : List (List ℕ) → List ℕ → List Stmt → Type 0
   AllFit names fixed [] = ⊤
@@ -97,8 +119,12 @@ variables_of f = length f.params.items + length (declared_list f.body.items)
 
 -- a function fits, whichever entries the functions of the program have
 pub record FuncFits (p : Program) (f : Func) : Type 0 where
-  pub fits : (functions : List Entry) → AreEntriesOf functions p.funcs.items → AllFit (texts (tables_of p)) functions (variables_of f) (texts f.params.items) [] f.body.items
-  pub seen : IsVisible (texts (tables_of p)) (names_after_list (texts f.params.items) f.body.items) f.result
+  pub fits : (functions : List Entry)
+      → AreEntriesOf functions p.funcs.items
+      → AllFit (texts (tables_of p)) functions (variables_of f) (texts f.params.items) []
+      f.body.items
+  pub seen : IsVisible (texts (tables_of p)) (names_after_list (texts f.params.items) f.body.items)
+      f.result
   pub low : FuncIsLow f
   pub few_parameters : length f.params.items ≤ MAX_PARAMETERS
   pub few : variables_of f ≤ MAX_DECLARED_VARIABLES
@@ -107,7 +133,10 @@ pub record FuncFits (p : Program) (f : Func) : Type 0 where
 
 -- main fits, whichever entries the functions have
 pub record MainFits (p : Program) : Type 0 where
-  pub fits : (functions : List Entry) → AreEntriesOf functions p.funcs.items → AllFit (texts (tables_of p)) functions (length (declared_list p.main.items)) [] [] p.main.items
+  pub fits : (functions : List Entry)
+      → AreEntriesOf functions p.funcs.items
+      → AllFit (texts (tables_of p)) functions (length (declared_list p.main.items)) [] []
+      p.main.items
   pub low : AllAreLow p.main.items
   pub few : length (declared_list p.main.items) ≤ MAX_DECLARED_VARIABLES
 
@@ -119,7 +148,10 @@ SizesAreVisible before (Made x a b) = IsVisible before [] a × IsVisible before 
 -- declarations fit where these tables are declared before
 abbrev pub DeclsFit : List (List ℕ) → List TableDecl → Type 0
 DeclsFit before [] = ⊤
-DeclsFit before (d ∷ ds) = SizesAreVisible before d × DeclIsLow d × DeclsFit (before ++ (table_of_decl d).text.items ∷ []) ds
+DeclsFit before (d ∷ ds) =
+    SizesAreVisible before d
+    × DeclIsLow d
+    × DeclsFit (before ++ (table_of_decl d).text.items ∷ []) ds
 
 -- what the code of a program asks of it
 pub record ProgramFits (p : Program) : Type 0 where
@@ -129,4 +161,7 @@ pub record ProgramFits (p : Program) : Type 0 where
   pub few_tables : length p.tables.items ≤ MAX_TABLES
   pub tables_differ : IsDistinct bytes_eq (texts (tables_of p))
   pub functions_differ : IsDistinct bytes_eq (func_names p.funcs.items)
-  pub apart : (x : List ℕ) → IsTrue (is_in (texts (tables_of p)) x) → IsTrue (is_in (func_names p.funcs.items) x) → ⊥
+  pub apart : (x : List ℕ)
+      → IsTrue (is_in (texts (tables_of p)) x)
+      → IsTrue (is_in (func_names p.funcs.items) x)
+      → ⊥

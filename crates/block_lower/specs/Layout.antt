@@ -31,8 +31,8 @@ abbrev pub entry_of : List Entry → List ℕ → Option Entry
 entry_of [] x = None
 entry_of (e ∷ es) x = cond (bytes_eq e.name x) (Some e) (entry_of es x)
 
--- What the code of main's statements, or of a function's, stands on: the names of the tables, the functions,
--- and an activation with room for so many variables, of so many cells.
+-- What the code of main's statements, or of a function's, stands on: the names of the tables, the
+-- functions, and an activation with room for so many variables, of so many cells.
 pub record Activation : Type 0 where
   pub tables : List (List ℕ)
   pub functions : List Entry

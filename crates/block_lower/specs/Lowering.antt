@@ -1,5 +1,6 @@
--- What is promised of writing the code of expressions and statements: wherever what is written at the end
--- stands in a code, what was written before goes on there with the code of the expression or the statement.
+-- What is promised of writing the code of expressions and statements: wherever what is written at
+-- the end stands in a code, what was written before goes on there with the code of the expression
+-- or the statement.
 use Rattle.std.specs.Prelude.{◌≡◌, ℕ, ◌+◌, ℤ, List, [], ◌∷◌, ◌++◌, length, Vec}
 use Rattle.std.specs.declared.alloc.Global.{Global}
 use Rattle.loop_syntax.specs.declared.Expr.{Expr}
@@ -20,7 +21,9 @@ use Rattle.expr_lower.specs.Standing.{AreAt}
 use Rattle.block_lower.specs.declared.body.Body.{Body}
 use Rattle.block_lower.specs.declared.output.Output.{Output}
 use Rattle.block_lower.specs.Bodies.{entries, activation}
-use Rattle.block_lower.specs.Code.{Opens, Computes, Operand, Arguments, parameter_cell, passed, Calls, Code, Codes, Branch, Other, to, store, load, below_test, wide_test, put_tested}
+use Rattle.block_lower.specs.Code.{Opens, Computes, Operand, Arguments, parameter_cell, passed}
+use Rattle.block_lower.specs.Code.{Calls, Code, Codes, Branch, Other, to, store, load, below_test}
+use Rattle.block_lower.specs.Code.{wide_test, put_tested}
 use Rattle.block_lower.specs.Fitting.{IsVisible, AreVisible, Fits, AllFit}
 use Rattle.block_lower.specs.Layout.{value_cell, bound_cell, kept_cell, Entry, Activation}
 use Rattle.block_lower.specs.Names.{Sees}
@@ -47,43 +50,63 @@ abbrev pub WritesTest : Scope → Expr → ℕ → ℕ → Output → Output →
 WritesTest scope e first second old new =
     (code : Listing) (act : Activation) (names : List (List ℕ))
     → Sees scope names act.tables → IsVisible act.tables names e → Stands code new
-    → Leads code old (λ instrs end. (end ≡ to second) × Computes code act names e 0 instrs (IfJump 0 first ∷ []))
+    → Leads code old
+    (λ instrs end. (end ≡ to second) × Computes code act names e 0 instrs (IfJump 0 first ∷ []))
 
 -- the test of a `loop` was written, and its block closed
 abbrev pub WritesBelow : ℕ → Value → ℕ → ℕ → Output → Output → Type 0
-WritesBelow counter bound again exit old new = (code : Listing) → Stands code new → Continues code old (below_test counter bound again) (to exit)
+WritesBelow counter bound again exit old new =
+    (code : Listing)
+    → Stands code new
+    → Continues code old (below_test counter bound again) (to exit)
 
 -- the begin of a `loop` up to a number was written, and its block closed
 abbrev pub WritesStart : Scope → Expr → ℤ → ℕ → ℕ → Output → Output → Type 0
 WritesStart scope a n again exit old new =
     (code : Listing) (act : Activation) (names : List (List ℕ))
     → Sees scope names act.tables → IsVisible act.tables names a → Stands code new
-    → Leads code old (λ instrs end. (end ≡ to exit) × Computes code act names a 0 instrs (store (value_cell (length names)) (value.Reg 0) ∷ below_test 0 (value.Int n) again))
+    → Leads code old
+    (λ instrs end. (end ≡ to exit)
+    × Computes code act names a 0 instrs
+    (store (value_cell (length names)) (value.Reg 0) ∷ below_test 0 (value.Int n) again))
 
--- instructions that store the two bounds of a loop, with the first one in register 1 and the other in register 0
-pub record AreBounds (code : Listing) (act : Activation) (names : List (List ℕ)) (a b : Expr) (instrs more : List Instr) : Type 0 where
+-- instructions that store the two bounds of a loop, with the first one in register 1 and the other
+-- in register 0
+pub record AreBounds (code : Listing) (act : Activation) (names : List (List ℕ)) (a b : Expr)
+    (instrs more : List Instr) : Type 0 where
   pub second : List Instr
-  pub from : Computes code act names a 0 instrs (store (value_cell (length names)) (value.Reg 0) ∷ second)
-  pub to : Computes code act names b 0 second (store (bound_cell (length names)) (value.Reg 0) ∷ load 1 (value_cell (length names)) ∷ more)
+  pub from : Computes code act names a 0 instrs
+      (store (value_cell (length names)) (value.Reg 0) ∷ second)
+  pub to : Computes code act names b 0 second
+      (store (bound_cell (length names)) (value.Reg 0) ∷ load 1 (value_cell (length names)) ∷ more)
 
 -- the bounds of a loop were stored
 abbrev pub WritesBounds : Scope → Expr → Expr → Output → Output → Type 0
 WritesBounds scope a b old new =
     (code : Listing) (act : Activation) (names : List (List ℕ)) (more : List Instr) (last : Term)
-    → Sees scope names act.tables → IsVisible act.tables names a → IsVisible act.tables names b → Continues code new more last
+    → Sees scope names act.tables
+    → IsVisible act.tables names a
+    → IsVisible act.tables names b
+    → Continues code new more last
     → Leads code old (λ instrs end. (end ≡ last) × AreBounds code act names a b instrs more)
 
 -- ---- `par`
 
 -- the test of a `par` that has an iteration was written, and its block closed
 abbrev pub WritesSome : ℕ → ℕ → Output → Output → Type 0
-WritesSome check exit old new = (code : Listing) → Stands code new → Continues code old (Calc 2 1 Lt (value.Reg 0) ∷ IfJump 2 check ∷ []) (to exit)
+WritesSome check exit old new =
+    (code : Listing)
+    → Stands code new
+    → Continues code old (Calc 2 1 Lt (value.Reg 0) ∷ IfJump 2 check ∷ []) (to exit)
 
--- the test of the length of a `par` was written in a block of its own, with the trap block behind it
+-- the test of the length of a `par` was written in a block of its own, with the trap block behind
+-- it
 abbrev pub WritesWide : Place → ℕ → Output → Output → Type 0
 WritesWide place again old new =
     (code : Listing) → Stands code new
-    → Stands code old × Opens code (label old) (wide_test (label old + 1) again) (to (label old + 1)) × AreAt code (label old + 1) (trap_block (label old + 1) Wide place ∷ [])
+    → Stands code old
+    × Opens code (label old) (wide_test (label old + 1) again) (to (label old + 1))
+    × AreAt code (label old + 1) (trap_block (label old + 1) Wide place ∷ [])
 
 -- ---- tables
 
@@ -91,7 +114,8 @@ WritesWide place again old new =
 abbrev pub WritesPut : ℕ → ℕ → ℕ → ℕ → Place → Output → Output → Type 0
 WritesPut table row col number place old new =
     (code : Listing) (more : List Instr) (last : Term) → Continues code new more last
-    → Continues code old (put_tested table row col number 3 (next_label old) more) last × AreAt code (next_label old) (trap_block (next_label old) Index place ∷ [])
+    → Continues code old (put_tested table row col number 3 (next_label old) more) last
+    × AreAt code (next_label old) (trap_block (next_label old) Index place ∷ [])
 
 -- ---- calls
 
@@ -102,8 +126,10 @@ WritesArguments scope es cell old new =
     → Sees scope names act.tables → AreVisible act.tables names es → Continues code new more last
     → Leads code old (λ instrs end. (end ≡ last) × Arguments code act names cell 0 es instrs more)
 
--- instructions that store the arguments of two calls: those of the first as its parameters, the others kept
-pub record AreBothArguments (code : Listing) (act : Activation) (names : List (List ℕ)) (fs gs : List Expr) (instrs more : List Instr) : Type 0 where
+-- instructions that store the arguments of two calls: those of the first as its parameters, the
+-- others kept
+pub record AreBothArguments (code : Listing) (act : Activation) (names : List (List ℕ))
+    (fs gs : List Expr) (instrs more : List Instr) : Type 0 where
   pub others : List Instr
   pub first : Arguments code act names (parameter_cell code act) 0 fs instrs others
   pub second : Arguments code act names (kept_cell act) 0 gs others more
@@ -112,29 +138,42 @@ pub record AreBothArguments (code : Listing) (act : Activation) (names : List (L
 abbrev pub WritesBothArguments : Body → Scope → List Expr → List Expr → Output → Output → Type 0
 WritesBothArguments on scope fs gs old new =
     (code : Listing) (tables names : List (List ℕ)) (more : List Instr) (last : Term)
-    → Sees scope names tables → AreVisible tables names fs → AreVisible tables names gs → Continues code new more last
-    → Leads code old (λ instrs end. (end ≡ last) × AreBothArguments code (activation on tables) names fs gs instrs more)
+    → Sees scope names tables
+    → AreVisible tables names fs
+    → AreVisible tables names gs
+    → Continues code new more last
+    → Leads code old
+    (λ instrs end. (end ≡ last)
+    × AreBothArguments code (activation on tables) names fs gs instrs more)
 
 -- kept numbers became arguments
 abbrev pub WritesPassed : Body → ℕ → Output → Output → Type 0
 WritesPassed on n old new =
-    (code : Listing) (tables : List (List ℕ)) (more : List Instr) (last : Term) → Continues code new more last
+    (code : Listing) (tables : List (List ℕ)) (more : List Instr) (last : Term)
+    → Continues code new more last
     → Continues code old (passed code (activation on tables) n 0 more) last
 
 -- a call of the function at a label was written, and the block behind it is open
 abbrev pub WritesCall : Body → Place → ℕ → Output → Output → Type 0
 WritesCall on place at old new =
-    (code : Listing) (tables : List (List ℕ)) (entry : Entry) (more : List Instr) (last : Term) → entry.label ≡ at → Continues code new more last
-    → Leads code old (λ instrs end. Calls code (activation on tables) place entry instrs end more last)
+    (code : Listing) (tables : List (List ℕ)) (entry : Entry) (more : List Instr) (last : Term)
+    → entry.label ≡ at
+    → Continues code new more last
+    → Leads code old
+    (λ instrs end. Calls code (activation on tables) place entry instrs end more last)
 
 -- ---- statements
 
 -- the code of a statement was written
 abbrev pub Lowers : Body → List Reduce → Scope → Stmt → Output → Output → Type 0
 Lowers on reduces scope s old new =
-    (code : Listing) (tables names : List (List ℕ)) (fixed : List ℕ) (more : List Instr) (last : Term)
-    → Sees scope names tables → Fits tables (entries on.callees.items) on.most names fixed s → Continues code new more last
-    → Leads code old (λ instrs end. Code code (activation on tables) reduces names fixed s instrs end more last)
+    (code : Listing) (tables names : List (List ℕ)) (fixed : List ℕ) (more : List Instr)
+    (last : Term)
+    → Sees scope names tables
+    → Fits tables (entries on.callees.items) on.most names fixed s
+    → Continues code new more last
+    → Leads code old
+    (λ instrs end. Code code (activation on tables) reduces names fixed s instrs end more last)
 
 -- what holds of a vector with these statements
 abbrev pub WithBody : List Stmt → (Vec Stmt Global → Type 0) → Type 0
@@ -143,26 +182,38 @@ WithBody body holds = (v : Vec Stmt Global) → v.items ≡ body → holds v
 -- the code of statements in order was written
 abbrev pub LowersAll : Body → List Reduce → Scope → List Stmt → Output → Output → Type 0
 LowersAll on reduces scope ss old new =
-    (code : Listing) (tables names : List (List ℕ)) (fixed : List ℕ) (more : List Instr) (last : Term)
-    → Sees scope names tables → AllFit tables (entries on.callees.items) on.most names fixed ss → Continues code new more last
-    → Leads code old (λ instrs end. Codes code (activation on tables) reduces names fixed ss instrs end more last)
+    (code : Listing) (tables names : List (List ℕ)) (fixed : List ℕ) (more : List Instr)
+    (last : Term)
+    → Sees scope names tables
+    → AllFit tables (entries on.callees.items) on.most names fixed ss
+    → Continues code new more last
+    → Leads code old
+    (λ instrs end. Codes code (activation on tables) reduces names fixed ss instrs end more
+    last)
 
 -- a branch, which goes on at a label, was written and closed; the open block was to be its first
 abbrev pub LowersBranch : Body → List Reduce → Scope → List Stmt → ℕ → Output → Output → Type 0
 LowersBranch on reduces scope body exit old new =
     (code : Listing) (tables names : List (List ℕ)) (fixed : List ℕ)
-    → Sees scope names tables → AllFit tables (entries on.callees.items) on.most names fixed body → Stands code new
+    → Sees scope names tables
+    → AllFit tables (entries on.callees.items) on.most names fixed body
+    → Stands code new
     → Stands code old × Branch code (activation on tables) reduces names fixed body (label old) exit
 
 -- the same of a second branch, which may have no block; the exit is behind it
 abbrev pub LowersOther : Body → List Reduce → Scope → List Stmt → ℕ → Output → Output → Type 0
 LowersOther on reduces scope body exit old new =
     (code : Listing) (tables names : List (List ℕ)) (fixed : List ℕ)
-    → Sees scope names tables → AllFit tables (entries on.callees.items) on.most names fixed body → Stands code new → exit ≡ label new
+    → Sees scope names tables
+    → AllFit tables (entries on.callees.items) on.most names fixed body
+    → Stands code new
+    → exit ≡ label new
     → Stands code old × Other code (activation on tables) reduces names fixed body (label old) exit
 
 -- a block that begins with the code of the body of a loop, which the open one was to be
-pub record IsBodyAt (code : Listing) (act : Activation) (reduces : List Reduce) (names : List (List ℕ)) (fixed : List ℕ) (body : List Stmt) (out : Output) (more : List Instr) (last : Term) : Type 0 where
+pub record IsBodyAt (code : Listing) (act : Activation) (reduces : List Reduce)
+    (names : List (List ℕ)) (fixed : List ℕ) (body : List Stmt) (out : Output) (more : List Instr)
+    (last : Term) : Type 0 where
   pub before : Stands code out
   pub instrs : List Instr
   pub end : Term
@@ -172,6 +223,11 @@ pub record IsBodyAt (code : Listing) (act : Activation) (reduces : List Reduce) 
 -- the body of a loop over a variable was written
 abbrev pub LowersBody : Body → List Reduce → Scope → List ℕ → List Stmt → Output → Output → Type 0
 LowersBody on reduces scope x body old new =
-    (code : Listing) (tables names : List (List ℕ)) (fixed : List ℕ) (more : List Instr) (last : Term)
-    → Sees scope names tables → AllFit tables (entries on.callees.items) on.most (names ++ x ∷ []) (length names ∷ fixed) body → Continues code new more last
-    → IsBodyAt code (activation on tables) reduces (names ++ x ∷ []) (length names ∷ fixed) body old more last
+    (code : Listing) (tables names : List (List ℕ)) (fixed : List ℕ) (more : List Instr)
+    (last : Term)
+    → Sees scope names tables
+    → AllFit tables (entries on.callees.items) on.most (names ++ x ∷ []) (length names ∷ fixed)
+    body
+    → Continues code new more last
+    → IsBodyAt code (activation on tables) reduces (names ++ x ∷ []) (length names ∷ fixed) body old
+    more last

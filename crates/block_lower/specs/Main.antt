@@ -7,7 +7,8 @@ use Rattle.loop_syntax.specs.declared.Program.{Program}
 use Rattle.loop_syntax.specs.declared.TableDecl.{TableDecl}
 use Rattle.loop_syntax.specs.declared.TableDecl.TheVariants.{Input, Made}
 use Rattle.loop_rules.specs.Names.{texts, func_of}
-use Rattle.tp_value.specs.declared.limits.TheConstants.{MAX_CALL_DEPTH, MAX_DECLARED_VARIABLES, MAX_ACTIVATION_CELLS}
+use Rattle.tp_value.specs.declared.limits.TheConstants.{MAX_CALL_DEPTH, MAX_DECLARED_VARIABLES}
+use Rattle.tp_value.specs.declared.limits.TheConstants.{MAX_ACTIVATION_CELLS}
 use Rattle.tpal_syntax.specs.declared.instructions.Instr.{Instr}
 use Rattle.tpal_syntax.specs.declared.instructions.Instr.TheVariants as instr
 use Rattle.tpal_syntax.specs.declared.instructions.Term.{Term}
@@ -15,7 +16,8 @@ use Rattle.tpal_syntax.specs.declared.instructions.Term.TheVariants as term
 use Rattle.tpal_syntax.specs.declared.instructions.Value.TheVariants as value
 use Rattle.tpal_syntax.specs.Listing.{Listing}
 use Rattle.block_lower.specs.Code.{Opens, Computes, Codes, store, load}
-use Rattle.block_lower.specs.Layout.{return_cell, levels_cell, value_cell, kept_cell, Entry, entry_of, Activation}
+use Rattle.block_lower.specs.Layout.{return_cell, levels_cell, value_cell, kept_cell, Entry}
+use Rattle.block_lower.specs.Layout.{entry_of, Activation}
 use Rattle.block_lower.specs.Names.{names_after_list}
 use Rattle.block_lower.specs.Owing.{AreDeclared}
 
@@ -27,28 +29,35 @@ pub record HasRoom (act : Activation) : Type 0 where
 
 -- ---- tables
 
--- The code of declarations, where these tables are declared before: an input is there, another one is made.
-pub data Makes (code : Listing) (act : Activation) : List (List ℕ) → List TableDecl → List Instr → List Instr → Type 0 where
+-- The code of declarations, where these tables are declared before: an input is there, another one
+-- is made.
+pub data Makes (code : Listing) (act : Activation) : List (List ℕ) → List TableDecl → List Instr
+    → List Instr → Type 0 where
   no_table : {seen : List (List ℕ)} {instrs : List Instr} → Makes code act seen [] instrs instrs
   input_table : {seen : List (List ℕ)} {x : Name} {ds : List TableDecl} {instrs more : List Instr}
       → Makes code act (seen ++ x.text.items ∷ []) ds instrs more
       → Makes code act seen (Input x ∷ ds) instrs more
-  made_table : {seen : List (List ℕ)} {x : Name} {a b : Expr} {ds : List TableDecl} {instrs second third more : List Instr}
+  made_table : {seen : List (List ℕ)} {x : Name} {a b : Expr} {ds : List TableDecl}
+      {instrs second third more : List Instr}
       → Computes code (record act { tables = seen }) [] a 0 instrs second
-      → Computes code (record act { tables = seen }) [] b 1 second (instr.Make (length seen) 0 1 x.place ∷ third)
+      → Computes code (record act { tables = seen }) [] b 1 second
+      (instr.Make (length seen) 0 1 x.place ∷ third)
       → Makes code act (seen ++ x.text.items ∷ []) ds third more
       → Makes code act seen (Made x a b ∷ ds) instrs more
-  made_kept_table : {seen : List (List ℕ)} {x : Name} {a b : Expr} {ds : List TableDecl} {instrs second third more : List Instr}
+  made_kept_table : {seen : List (List ℕ)} {x : Name} {a b : Expr} {ds : List TableDecl}
+      {instrs second third more : List Instr}
       → kept_cell act 1 ≤ act.size
-      → Computes code (record act { tables = seen }) [] a 0 instrs (store (kept_cell act 0) (value.Reg 0) ∷ second)
-      → Computes code (record act { tables = seen }) [] b 0 second (load 1 (kept_cell act 0) ∷ instr.Make (length seen) 1 0 x.place ∷ third)
+      → Computes code (record act { tables = seen }) [] a 0 instrs
+      (store (kept_cell act 0) (value.Reg 0) ∷ second)
+      → Computes code (record act { tables = seen }) [] b 0 second
+      (load 1 (kept_cell act 0) ∷ instr.Make (length seen) 1 0 x.place ∷ third)
       → Makes code act (seen ++ x.text.items ∷ []) ds third more
       → Makes code act seen (Made x a b ∷ ds) instrs more
 
 -- ---- functions
 
--- The code of a function at its first block: its statements, then its result in register 0; then its
--- activation is gone and the label to return to is entered.
+-- The code of a function at its first block: its statements, then its result in register 0; then
+-- its activation is gone and the label to return to is entered.
 pub record IsFunction (code : Listing) (act : Activation) (f : Func) (label : ℕ) : Type 0 where
   pub has_room : HasRoom act
   pub params : length f.params.items ≤ act.most
@@ -56,20 +65,28 @@ pub record IsFunction (code : Listing) (act : Activation) (f : Func) (label : �
   pub end : Term
   pub last : List Instr
   pub begins : Opens code label instrs end
-  pub statements : Codes code act [] (texts f.params.items) [] f.body.items instrs end last (term.Jump (value.Reg 1))
-  pub value : Computes code act (names_after_list (texts f.params.items) f.body.items) f.result 0 last (load 1 return_cell ∷ instr.Sfree act.size ∷ [])
+  pub statements : Codes code act [] (texts f.params.items) [] f.body.items instrs end last
+      (term.Jump (value.Reg 1))
+  pub value : Computes code act (names_after_list (texts f.params.items) f.body.items) f.result 0
+      last (load 1 return_cell ∷ instr.Sfree act.size ∷ [])
 
 -- the function of a name in a program, with its code at its entry
-pub record FunctionAt (code : Listing) (tables : List (List ℕ)) (entries : List Entry) (fs : List Func) (x : List ℕ) (entry : Entry) : Type 0 where
+pub record FunctionAt (code : Listing) (tables : List (List ℕ)) (entries : List Entry)
+    (fs : List Func) (x : List ℕ) (entry : Entry) : Type 0 where
   pub func : Func
   pub named : func_of fs x ≡ Some func
   pub arity : length func.params.items ≡ entry.parameters
   pub most : ℕ
-  pub is : IsFunction code (record { tables = tables; functions = entries; most = most; size = entry.size }) func entry.label
+  pub is : IsFunction code
+      (record { tables = tables; functions = entries; most = most; size = entry.size }) func
+      entry.label
 
 -- each entry is that of a function of the program
 abbrev pub AreFunctions : Listing → List (List ℕ) → List Entry → List Func → Type 0
-AreFunctions code tables entries fs = (x : List ℕ) (entry : Entry) → entry_of entries x ≡ Some entry → FunctionAt code tables entries fs x entry
+AreFunctions code tables entries fs =
+    (x : List ℕ) (entry : Entry)
+    → entry_of entries x ≡ Some entry
+    → FunctionAt code tables entries fs x entry
 
 -- ---- programs
 
@@ -79,8 +96,8 @@ table_name (Made x a b) = x.text.items
 
 -- ---- the code of a program
 
--- The first block begins with the activation of main, which has all levels of calls left. The tables are made,
--- the statements of main follow, and behind them the run ends.
+-- The first block begins with the activation of main, which has all levels of calls left. The
+-- tables are made, the statements of main follow, and behind them the run ends.
 pub record IsProgram (code : Listing) (p : Program) : Type 0 where
   pub act : Activation
   pub has_room : HasRoom act
@@ -90,6 +107,7 @@ pub record IsProgram (code : Listing) (p : Program) : Type 0 where
   pub makes : List Instr
   pub instrs : List Instr
   pub end : Term
-  pub begins : Opens code 0 (instr.Salloc act.size ∷ store levels_cell (value.Int (pos MAX_CALL_DEPTH)) ∷ makes) end
+  pub begins : Opens code 0
+      (instr.Salloc act.size ∷ store levels_cell (value.Int (pos MAX_CALL_DEPTH)) ∷ makes) end
   pub made : Makes code act [] p.tables.items makes instrs
   pub statements : Codes code act [] [] [] p.main.items instrs end [] term.Halt

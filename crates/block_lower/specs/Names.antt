@@ -2,7 +2,8 @@
 use Rattle.std.specs.Prelude.{◌≡◌, ℕ, suc, ⊤, List, [], ◌∷◌, ◌++◌, map, Vec}
 use Rattle.std.specs.declared.alloc.Global.{Global}
 use Rattle.loop_syntax.specs.declared.Stmt.{Stmt}
-use Rattle.loop_syntax.specs.declared.Stmt.TheVariants.{Let, Set, Put, If', While', Loop', Par', Fold, Call, Both, Print, Emit}
+use Rattle.loop_syntax.specs.declared.Stmt.TheVariants.{Let, Set, Put, If', While', Loop', Par'}
+use Rattle.loop_syntax.specs.declared.Stmt.TheVariants.{Fold, Call, Both, Print, Emit}
 use Rattle.expr_lower.specs.declared.scope.Scope.{Scope}
 use Rattle.block_lower.specs.Layout.{value_cell}
 
@@ -23,7 +24,8 @@ pub record Sees (scope : Scope) (names tables : List (List ℕ)) : Type 0 where
 
 -- a scope has the same tables as before, and so many of the variables as told of those before
 abbrev pub SeesAfter : (List (List ℕ) → List (List ℕ)) → Scope → Scope → Type 0
-SeesAfter told old new = (names tables : List (List ℕ)) → Sees old names tables → Sees new (told names) tables
+SeesAfter told old new =
+    (names tables : List (List ℕ)) → Sees old names tables → Sees new (told names) tables
 
 -- the variables that are visible after a statement
 abbrev pub names_after : List (List ℕ) → Stmt → List (List ℕ)

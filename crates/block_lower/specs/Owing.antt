@@ -48,23 +48,29 @@ pub record IsWholeOf (h : Holding) (t : Table) : Type 0 where
 -- each declared input has a table of its name
 abbrev pub AreNamed : List TableDecl → List Table → Type 0
 AreNamed [] given = ⊤
-AreNamed (Input x ∷ ds) given = ((table_of given x.text.items).name ≡ x.text.items) × AreNamed ds given
+AreNamed (Input x ∷ ds) given =
+    ((table_of given x.text.items).name ≡ x.text.items) × AreNamed ds given
 AreNamed (Made x a b ∷ ds) given = AreNamed ds given
 
--- what a task holds of the declared tables when it begins: each cell of an input, and none of a table that is
--- made, which has no rows and columns yet
+-- what a task holds of the declared tables when it begins: each cell of an input, and none of a
+-- table that is made, which has no rows and columns yet
 abbrev pub AreHeld : List TableDecl → List Table → List Holding → Type 0
 AreHeld [] given [] = ⊤
 AreHeld [] given (h ∷ hs) = ⊥
 AreHeld (d ∷ ds) given [] = ⊥
-AreHeld (Input x ∷ ds) given (h ∷ hs) = IsWholeOf h (table_of given x.text.items) × AreHeld ds given hs
+AreHeld (Input x ∷ ds) given (h ∷ hs) =
+    IsWholeOf h (table_of given x.text.items) × AreHeld ds given hs
 AreHeld (Made x a b ∷ ds) given (h ∷ hs) = (h.rows ≡ 0) × (h.cols ≡ 0) × AreHeld ds given hs
 
 -- ---- the promise
 
--- A code has a program's tables, and its first task owes the program's meaning where nothing is diverted,
--- whatever is given, for every heartbeat and every fuel.
+-- A code has a program's tables, and its first task owes the program's meaning where nothing is
+-- diverted, whatever is given, for every heartbeat and every fuel.
 pub record OwesMeaning (program : Program) (listing : Listing) : Type 0 where
   pub declared : AreDeclared program.tables.items listing.tables
-  pub owes : (given : List Table) (holdings : List Holding) (heartbeat fuel : ℕ) → All IsTable given → AreNamed program.tables.items given
-      → AreHeld program.tables.items given holdings → OwesSerially listing heartbeat 0 (first_state holdings fuel) (Root (meaning program given fuel))
+  pub owes : (given : List Table) (holdings : List Holding) (heartbeat fuel : ℕ)
+      → All IsTable given
+      → AreNamed program.tables.items given
+      → AreHeld program.tables.items given holdings
+      → OwesSerially listing heartbeat 0 (first_state holdings fuel)
+      (Root (meaning program given fuel))

@@ -1,7 +1,8 @@
 -- What is promised of writing the code of functions, of tables and of a program.
 use Rattle.std.specs.Prelude.{◌≡◌, ℕ, ◌+◌, ◌≤◌, ⊤, List, [], ◌∷◌, length, map, pos}
 use Rattle.std.specs.List.{sum_by, AllByRecursion}
-use Rattle.tp_value.specs.declared.limits.TheConstants.{MAX_PARAMETERS, MAX_DECLARED_VARIABLES, MAX_CALL_DEPTH}
+use Rattle.tp_value.specs.declared.limits.TheConstants.{MAX_PARAMETERS, MAX_DECLARED_VARIABLES}
+use Rattle.tp_value.specs.declared.limits.TheConstants.{MAX_CALL_DEPTH}
 use Rattle.loop_syntax.specs.declared.Func.{Func}
 use Rattle.loop_syntax.specs.declared.Program.{Program}
 use Rattle.loop_syntax.specs.declared.TableDecl.{TableDecl}
@@ -21,12 +22,14 @@ use Rattle.block_lower.specs.Code.{Codes, store}
 use Rattle.block_lower.specs.Layout.{value_cell, levels_cell, Entry, Activation}
 use Rattle.block_lower.specs.Main.{IsFunction, Makes, table_name}
 use Rattle.block_lower.specs.Names.{Sees, names_after_list}
-use Rattle.block_lower.specs.Sizes.{added_by_list, added_by_func, added_by_decls, declared_by_list, kept_by_list}
+use Rattle.block_lower.specs.Sizes.{added_by_list, added_by_func, added_by_decls, declared_by_list}
+use Rattle.block_lower.specs.Sizes.{kept_by_list}
 use Rattle.block_lower.specs.Writing.{label, Stands, Continues, Leads}
 
 -- ---- functions
 
--- how many variables the activation of a function has room for: its parameters, and those that it declares
+-- how many variables the activation of a function has room for: its parameters, and those that it
+-- declares
 abbrev pub most_of : Func → ℕ
 most_of f = length f.params.items + declared_by_list f.body.items
 
@@ -36,7 +39,14 @@ size_of f = value_cell (most_of f) + kept_by_list f.body.items
 
 -- a function whose first block is at a label
 abbrev pub entry_at : ℕ → Func → Entry
-entry_at label f = record { name = f.name.text.items; label = label; parameters = length f.params.items; size = size_of f }
+entry_at label f =
+    record {
+      name = f.name.text.items;
+      label = label;
+      parameters = length f.params.items;
+      size =
+          size_of f;
+    }
 
 -- functions whose blocks stand one behind the other from a label on
 abbrev pub entries_from : ℕ → List Func → List Entry
@@ -61,43 +71,56 @@ pub record FuncFitsIn (tables : List (List ℕ)) (functions : List Entry) (f : F
 abbrev pub LowersFunc : Body → Scope → Func → Output → Output → Type 0
 LowersFunc on scope f old new =
     (code : Listing) (tables : List (List ℕ))
-    → Sees scope [] tables → AllFit tables (entries on.callees.items) on.most (texts f.params.items) [] f.body.items
-    → IsVisible tables (names_after_list (texts f.params.items) f.body.items) f.result → Stands code new
+    → Sees scope [] tables
+    → AllFit tables (entries on.callees.items) on.most (texts f.params.items) [] f.body.items
+    → IsVisible tables (names_after_list (texts f.params.items) f.body.items) f.result
+    → Stands code new
     → Stands code old × IsFunction code (activation on tables) f (label old)
 
 -- functions stand in a code one behind the other
 abbrev pub AreWritten : Listing → List (List ℕ) → List Entry → ℕ → List Func → Type 0
 AreWritten code tables functions at [] = ⊤
 AreWritten code tables functions at (f ∷ fs) =
-    IsFunction code (record { tables = tables; functions = functions; most = most_of f; size = size_of f }) f at × AreWritten code tables functions (at + added_by_func f) fs
+    IsFunction code
+    (record { tables = tables; functions = functions; most = most_of f; size = size_of f }) f at
+    × AreWritten code tables functions (at + added_by_func f) fs
 
 -- the code of functions was written
 abbrev pub LowersFuncs : List Entry → Scope → List Func → Output → Output → Type 0
 LowersFuncs functions scope fs old new =
-    (code : Listing) (tables : List (List ℕ)) → Sees scope [] tables → AllByRecursion (FuncFitsIn tables functions) fs → Stands code new
+    (code : Listing) (tables : List (List ℕ))
+    → Sees scope [] tables
+    → AllByRecursion (FuncFitsIn tables functions) fs
+    → Stands code new
     → Stands code old × AreWritten code tables functions (label old) fs
 
 -- ---- tables
 
 -- a scope has the same variables as before, and so many of the tables as told of those before
 abbrev pub SeesTables : (List (List ℕ) → List (List ℕ)) → Scope → Scope → Type 0
-SeesTables told old new = (names tables : List (List ℕ)) → Sees old names tables → Sees new names (told tables)
+SeesTables told old new =
+    (names tables : List (List ℕ)) → Sees old names tables → Sees new names (told tables)
 
 -- the code of declarations was written
 abbrev pub WritesMakes : Body → Scope → List TableDecl → Output → Output → Type 0
 WritesMakes on scope ds old new =
-    (code : Listing) (tables seen : List (List ℕ)) (more : List Instr) (last : Term) → Sees scope [] seen → DeclsFit seen ds → Continues code new more last
-    → Leads code old (λ instrs end. (end ≡ last) × Makes code (activation on tables) seen ds instrs more)
+    (code : Listing) (tables seen : List (List ℕ)) (more : List Instr) (last : Term)
+    → Sees scope [] seen
+    → DeclsFit seen ds
+    → Continues code new more last
+    → Leads code old
+    (λ instrs end. (end ≡ last) × Makes code (activation on tables) seen ds instrs more)
 
 -- ---- programs
 
--- The code of main is what an open block goes on with: its activation is there, the tables are made, the
--- statements follow.
+-- The code of main is what an open block goes on with: its activation is there, the tables are
+-- made, the statements follow.
 pub record IsMainAt (code : Listing) (act : Activation) (p : Program) (out : Output) : Type 0 where
   pub makes : List Instr
   pub instrs : List Instr
   pub end : Term
-  pub begins : Continues code out (Salloc act.size ∷ store levels_cell (value.Int (pos MAX_CALL_DEPTH)) ∷ makes) end
+  pub begins : Continues code out
+      (Salloc act.size ∷ store levels_cell (value.Int (pos MAX_CALL_DEPTH)) ∷ makes) end
   pub made : Makes code act [] p.tables.items makes instrs
   pub statements : Codes code act [] [] [] p.main.items instrs end [] Halt
 
@@ -112,5 +135,8 @@ added_by_program p = added_by_main p + added_by_funcs p.funcs.items
 -- the code of main, with that of the tables, was written, and its last block closed
 abbrev pub LowersMain : Body → Program → Output → Output → Type 0
 LowersMain on p old new =
-    (code : Listing) → AllFit (map table_name p.tables.items) (entries on.callees.items) on.most [] [] p.main.items → Stands code new
+    (code : Listing)
+    → AllFit (map table_name p.tables.items) (entries on.callees.items) on.most [] []
+    p.main.items
+    → Stands code new
     → IsMainAt code (activation on (map table_name p.tables.items)) p old

@@ -6,8 +6,9 @@ use Rattle.block_lower.specs.Count.{blocks_of_program}
 use Rattle.block_lower.specs.declared.fault.LowerFault.{LowerFault}
 use Rattle.block_lower.specs.declared.fault.LowerFault.TheVariants.{Blocks, NoMemory}
 
--- The program may have more blocks than a code can have: so many, or the greatest number of 64 bits where
--- that is less. Want of memory has no cause.
+-- The program may have more blocks than a code can have: so many, or the greatest number of 64 bits
+-- where that is less. Want of memory has no cause.
 abbrev pub IsCause : Program → LowerFault → Type 0
-IsCause program (Blocks n) = (n ≡ min (blocks_of_program program) (2 ^ 64 - 1)) × (MAX_BLOCKS < blocks_of_program program)
+IsCause program (Blocks n) =
+    (n ≡ min (blocks_of_program program) (2 ^ 64 - 1)) × (MAX_BLOCKS < blocks_of_program program)
 IsCause program NoMemory = Unit {0}

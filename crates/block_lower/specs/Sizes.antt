@@ -1,10 +1,12 @@
--- How many blocks a statement adds to a code, how many variables it declares, and how many values it keeps.
+-- How many blocks a statement adds to a code, how many variables it declares, and how many values
+-- it keeps.
 use Rattle.std.specs.Prelude.{ℕ, ◌+◌, Bool, ◌&&◌, if◌then◌else◌, nat_le, max, List, [], ◌∷◌, length}
 use Rattle.std.specs.List.{sum_by}
 use Rattle.loop_syntax.specs.declared.Expr.{Expr}
 use Rattle.loop_syntax.specs.declared.Func.{Func}
 use Rattle.loop_syntax.specs.declared.Stmt.{Stmt, Row_of-Stmt, end_of-Stmt, more_of-Stmt}
-use Rattle.loop_syntax.specs.declared.Stmt.TheVariants.{Let, Set, Put, If', While', Loop', Par', Fold, Call, Both, Print, Emit}
+use Rattle.loop_syntax.specs.declared.Stmt.TheVariants.{Let, Set, Put, If', While', Loop', Par'}
+use Rattle.loop_syntax.specs.declared.Stmt.TheVariants.{Fold, Call, Both, Print, Emit}
 use Rattle.loop_syntax.specs.declared.TableDecl.{TableDecl}
 use Rattle.loop_syntax.specs.declared.TableDecl.TheVariants.{Input, Made}
 use Rattle.loop_rules.specs.Declarations.{declared_in}
@@ -27,7 +29,8 @@ abbrev mutual
   added (If' e p body q other) = trap_count e + 1 + (added_by_all body + 1) + added_by_other other
   added (While' e p body) = trap_count e + 1 + (added_by_all body + 1) + trap_count e
   added (Loop' x a b p body) = trap_count a + trap_count b + 1 + (added_by_all body + 1)
-  added (Par' place x a b carry_place carries reduces p body) = trap_count a + trap_count b + 3 + (added_by_all body + 1)
+  added (Par' place x a b carry_place carries reduces p body) =
+      trap_count a + trap_count b + 3 + (added_by_all body + 1)
   added (Fold x e) = trap_count e
   added (Call x f) = trap_counts f.args.items + 2
   added (Both x f y g) = trap_counts f.args.items + trap_counts g.args.items + 4
@@ -77,9 +80,9 @@ declared_by_list body = sum_by declared body
 abbrev pub is_low_at : ℕ → Expr → Bool
 is_low_at r e = nat_le (r + height e) MAX_EXPRESSION_HEIGHT
 
--- How many values a statement keeps in its activation while it computes others: the row and the column of a
--- cell where there are no registers for them, and the arguments of the second of two calls, with the value of
--- the first.
+-- How many values a statement keeps in its activation while it computes others: the row and the
+-- column of a cell where there are no registers for them, and the arguments of the second of two
+-- calls, with the value of the first.
 abbrev mutual
   pub kept : Stmt → ℕ
   kept (Let x e) = 0

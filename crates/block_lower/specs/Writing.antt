@@ -40,7 +40,11 @@ pub record Traps (kind : TrapKind) (place : Place) (old new : Output) : Type 0 w
 
 -- the open block was closed with an end, and the next one is open
 pub record Closes (end : Term) (old new : Output) : Type 0 where
-  pub blocks : new.blocks.items ≡ old.blocks.items ++ (record { name = name_of (label old); note = note.Plain; body = old.body.items; term = end } ∷ old.traps.items)
+  pub blocks : new.blocks.items
+      ≡ old.blocks.items
+      ++ (record
+      { name = name_of (label old); note = note.Plain; body = old.body.items; term = end }
+      ∷ old.traps.items)
   pub fresh : IsFresh new
 
 -- ---- in a whole code
@@ -49,11 +53,13 @@ pub record Closes (end : Term) (old new : Output) : Type 0 where
 abbrev pub Stands : Listing → Output → Type 0
 Stands code out = AreAt code 0 out.blocks.items
 
--- all that is written stands in a code, and the open block goes on with these instructions and this end
-pub record Continues (code : Listing) (out : Output) (instrs : List Instr) (end : Term) : Type 0 where
-  pub closed : Stands code out
-  pub opens : Opens code (label out) (out.body.items ++ instrs) end
-  pub traps : AreAt code (label out + 1) out.traps.items
+-- all that is written stands in a code, and the open block goes on with these instructions and this
+-- end
+pub record Continues (code : Listing) (out : Output) (instrs : List Instr) (end : Term) : Type 0
+  where
+    pub closed : Stands code out
+    pub opens : Opens code (label out) (out.body.items ++ instrs) end
+    pub traps : AreAt code (label out + 1) out.traps.items
 
 -- the open block goes on with some instructions and an end that are as told
 pub record Leads (code : Listing) (out : Output) (are : List Instr → Term → Type 0) : Type 0 where

@@ -43,8 +43,12 @@ pub struct Target {
 
 /// Where a call of the function of that name goes. Where there is none, it is no function's.
 pub fn target_of(on: &Body, name: &[u8]) -> Target
-    ensures label { (entry : Entry) → entry_of (entries on.now.callees.items) name.now ≡ Some entry → result.label ≡ entry.label }
-    ensures size { (entry : Entry) → entry_of (entries on.now.callees.items) name.now ≡ Some entry → result.size ≡ entry.size }
+    ensures label { (entry : Entry)
+        → entry_of (entries on.now.callees.items) name.now ≡ Some entry
+        → result.label ≡ entry.label }
+    ensures size { (entry : Entry)
+        → entry_of (entries on.now.callees.items) name.now ≡ Some entry
+        → result.size ≡ entry.size }
 {
     for callee in &on.callees {
         if callee.name.as_slice() == name {

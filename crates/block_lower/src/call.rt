@@ -8,7 +8,8 @@ ghost use Rattle.block_lower.specs.declared.body.Body.{Body};
 ghost use Rattle.block_lower.specs.Bodies.{HasRoomFor};
 ghost use Rattle.block_lower.specs.Code as codes;
 ghost use Rattle.block_lower.specs.Heights.{AreLowArguments};
-ghost use Rattle.block_lower.specs.Lowering.{Lowers, WritesArguments, WritesBothArguments, WritesPassed, WritesCall};
+ghost use Rattle.block_lower.specs.Lowering.{Lowers, WritesArguments, WritesBothArguments};
+ghost use Rattle.block_lower.specs.Lowering.{WritesPassed, WritesCall};
 ghost use Rattle.block_lower.specs.Sizes as sizes;
 ghost use Rattle.block_lower.specs.Writing as writing;
 ghost use Rattle.block_lower.specs.Writing.{IsFresh, Pushes, Stands, Continues};
@@ -36,8 +37,11 @@ fn push_arguments(
     requires low { AreLowArguments arguments.now }
     requires labels { writing.next_label out.old + sizes.trap_counts arguments.now ≤ 65536 }
     requires cells { (first ≤ 1000) × (distance ≤ 2) }
-    ensures labels { OnOk result (writing.next_label out.new ≡ writing.next_label out.old + sizes.trap_counts arguments.now) }
-    ensures code { OnOk result (WritesArguments scope.now arguments.now (λ i. first + i * distance) out.old out.new) }
+    ensures labels { OnOk result
+        (writing.next_label out.new
+        ≡ writing.next_label out.old + sizes.trap_counts arguments.now) }
+    ensures code { OnOk result
+        (WritesArguments scope.now arguments.now (λ i. first + i * distance) out.old out.new) }
 {
     for (i, e) in arguments.iter().enumerate() {
         let value = push_operand(alloc, out, scope, e, 0)?;
@@ -65,7 +69,10 @@ fn push_call_test(alloc: Global, out: &mut Output, go: u32, place: Place) -> Res
     requires { writing.next_label out.old ≤ 65536 }
     ensures labels { OnOk result (writing.next_label out.new ≡ writing.next_label out.old + 1) }
     ensures fresh { OnOk result (IsFresh out.new) }
-    ensures code { OnOk result ((code : Listing) → Stands code out.new → Continues code out.old (codes.call_test go place) Term.Halt) }
+    ensures code { OnOk result
+        ((code : Listing)
+        → Stands code out.new
+        → Continues code out.old (codes.call_test go place) Term.Halt) }
 {
     push(out, Instr::Tick)?;
     load(out, 0, LEVELS)?;
@@ -83,7 +90,8 @@ fn push_call_test(alloc: Global, out: &mut Output, go: u32, place: Place) -> Res
 
 /// The position of the activation that runs goes up or down by the cells of the caller's.
 fn push_move(out: &mut Output, on: &Body, alu: Alu) -> Result<(), NoMemory>
-    ensures pushed { OnOk result (Pushes (Instr.Calc 31 31 alu (Value.Int (pos on.now.size)) ∷ []) out.old out.new) }
+    ensures pushed { OnOk result
+        (Pushes (Instr.Calc 31 31 alu (Value.Int (pos on.now.size)) ∷ []) out.old out.new) }
     ensures labels { OnOk result (writing.next_label out.new ≡ writing.next_label out.old) }
 {
     push(
@@ -109,7 +117,10 @@ fn push_entry(
     requires size { on.now.size ≤ 512 }
     ensures labels { OnOk result (writing.next_label out.new ≡ writing.next_label out.old + 1) }
     ensures fresh { OnOk result (IsFresh out.new) }
-    ensures code { OnOk result ((code : Listing) → Stands code out.new → Continues code out.old (codes.call_entry on.now.size back) (codes.to label)) }
+    ensures code { OnOk result
+        ((code : Listing)
+        → Stands code out.new
+        → Continues code out.old (codes.call_entry on.now.size back) (codes.to label)) }
 {
     push(
         out,
@@ -127,8 +138,8 @@ fn push_entry(
     Ok(())
 }
 
-/// A call of the function at a label, whose arguments stand in its activation. The block behind it is
-/// open.
+/// A call of the function at a label, whose arguments stand in its activation. The block behind it
+/// is open.
 fn push_call(
     alloc: Global,
     out: &mut Output,
@@ -161,8 +172,12 @@ pub fn lower_call(
     requires low { AreLowArguments f.now.args.items }
     requires labels { writing.next_label out.old + (sizes.trap_counts f.now.args.items + 2) ≤ 65536 }
     requires size { on.now.size ≤ 512 }
-    ensures labels { OnOk result (writing.next_label out.new ≡ writing.next_label out.old + (sizes.trap_counts f.now.args.items + 2)) }
-    ensures code { OnOk result ((reduces : List Reduce) → Lowers on.now reduces scope.now (Stmt.Call x.now f.now) out.old out.new) }
+    ensures labels { OnOk result
+        (writing.next_label out.new
+        ≡ writing.next_label out.old + (sizes.trap_counts f.now.args.items + 2)) }
+    ensures code { OnOk result
+        ((reduces : List Reduce)
+        → Lowers on.now reduces scope.now (Stmt.Call x.now f.now) out.old out.new) }
 {
     let target = target_of(on, &f.callee.text);
     push(out, Instr::Salloc(target.size))?;
@@ -183,10 +198,16 @@ fn push_both_arguments(
 ) -> Result<(), NoMemory>
     requires few_tables { length scope.now.tables.items ≤ 16 }
     requires low { AreLowArguments f.now.args.items × AreLowArguments g.now.args.items }
-    requires labels { writing.next_label out.old + (sizes.trap_counts f.now.args.items + sizes.trap_counts g.now.args.items) ≤ 65536 }
+    requires labels { writing.next_label out.old
+        + (sizes.trap_counts f.now.args.items + sizes.trap_counts g.now.args.items)
+        ≤ 65536 }
     requires room { HasRoomFor on.now 9 }
-    ensures labels { OnOk result (writing.next_label out.new ≡ writing.next_label out.old + (sizes.trap_counts f.now.args.items + sizes.trap_counts g.now.args.items)) }
-    ensures code { OnOk result (WritesBothArguments on.now scope.now f.now.args.items g.now.args.items out.old out.new) }
+    ensures labels { OnOk result
+        (writing.next_label out.new
+        ≡ writing.next_label out.old
+        + (sizes.trap_counts f.now.args.items + sizes.trap_counts g.now.args.items)) }
+    ensures code { OnOk result
+        (WritesBothArguments on.now scope.now f.now.args.items g.now.args.items out.old out.new) }
 {
     push_arguments(alloc, out, scope, &f.args, parameter_cell(on, 0), 2)?;
     push_arguments(alloc, out, scope, &g.args, kept_cell(on, 0), 1)?;
@@ -206,10 +227,17 @@ pub fn lower_both(
 ) -> Result<(), NoMemory>
     requires few_tables { length scope.now.tables.items ≤ 16 }
     requires low { AreLowArguments f.now.args.items × AreLowArguments g.now.args.items }
-    requires labels { writing.next_label out.old + (sizes.trap_counts f.now.args.items + sizes.trap_counts g.now.args.items + 4) ≤ 65536 }
+    requires labels { writing.next_label out.old
+        + (sizes.trap_counts f.now.args.items + sizes.trap_counts g.now.args.items + 4)
+        ≤ 65536 }
     requires room { HasRoomFor on.now 9 }
-    ensures labels { OnOk result (writing.next_label out.new ≡ writing.next_label out.old + (sizes.trap_counts f.now.args.items + sizes.trap_counts g.now.args.items + 4)) }
-    ensures code { OnOk result ((reduces : List Reduce) → Lowers on.now reduces scope.now (Stmt.Both x.now f.now y.now g.now) out.old out.new) }
+    ensures labels { OnOk result
+        (writing.next_label out.new
+        ≡ writing.next_label out.old
+        + (sizes.trap_counts f.now.args.items + sizes.trap_counts g.now.args.items + 4)) }
+    ensures code { OnOk result
+        ((reduces : List Reduce)
+        → Lowers on.now reduces scope.now (Stmt.Both x.now f.now y.now g.now) out.old out.new) }
 {
     let first = target_of(on, &f.callee.text);
     let second = target_of(on, &g.callee.text);

@@ -3,7 +3,8 @@
 
 ghost use Rattle.std.specs.Prelude.{◌≡◌, ◌+◌, min};
 ghost use Rattle.std.specs.List.{sum_by};
-ghost use Rattle.block_lower.specs.Count.{blocks_of_expr, blocks_of_exprs, blocks, blocks_of_list, blocks_of_func, blocks_of_decl, blocks_of_program};
+ghost use Rattle.block_lower.specs.Count.{blocks_of_expr, blocks_of_exprs, blocks, blocks_of_list};
+ghost use Rattle.block_lower.specs.Count.{blocks_of_func, blocks_of_decl, blocks_of_program};
 
 use loop_check::Checked;
 use loop_syntax::{Expr, Func, Stmt, TableDecl};
@@ -136,10 +137,10 @@ fn in_decls(ds: &[TableDecl]) -> u64
     sum
 }
 
-/// The number of blocks that the code of a program is counted with: 64 for each `par` and each `both`,
-/// 16 for each other statement, 8 for each node of an expression, and 8 for main, for each function
-/// and for each table. The code has at most so many. The answer is that sum, or the greatest `u64`
-/// where the sum is above it, which no program that came from a text reaches.
+/// The number of blocks that the code of a program is counted with: 64 for each `par` and each
+/// `both`, 16 for each other statement, 8 for each node of an expression, and 8 for main, for each
+/// function and for each table. The code has at most so many. The answer is that sum, or the
+/// greatest `u64` where the sum is above it, which no program that came from a text reaches.
 pub fn block_count(program: &Checked) -> u64
     ensures { result ≡ min (blocks_of_program program.now) u64.MAX }
 {

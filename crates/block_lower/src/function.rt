@@ -70,7 +70,8 @@ pub fn callees_of(alloc: Global, fs: &[Func], first: u32) -> Result<Vec<Callee>,
 fn declare_all(alloc: Global, scope: &mut Scope, params: &[Name]) -> Result<(), NoMemory>
     requires { length scope.old.cells.items + length params.now ≤ 200 }
     ensures sees { OnOk result (SeesAfter (λ names. names ++ texts params.now) scope.old scope.new) }
-    ensures cells { OnOk result (length scope.new.cells.items ≡ length scope.old.cells.items + length params.now) }
+    ensures cells { OnOk result
+        (length scope.new.cells.items ≡ length scope.old.cells.items + length params.now) }
     ensures tables { OnOk result (scope.new.tables ≡ scope.old.tables) }
 {
     for x in params {
@@ -79,12 +80,17 @@ fn declare_all(alloc: Global, scope: &mut Scope, params: &[Name]) -> Result<(), 
     Ok(())
 }
 
-/// The end of a function, whose result is in register 0: its activation is gone, and control returns.
+/// The end of a function, whose result is in register 0: its activation is gone, and control
+/// returns.
 fn push_return(alloc: Global, out: &mut Output, on: &Body) -> Result<(), NoMemory>
     requires { writing.next_label out.old ≤ 65536 }
     ensures labels { OnOk result (writing.next_label out.new ≡ writing.next_label out.old + 1) }
     ensures fresh { OnOk result (IsFresh out.new) }
-    ensures code { OnOk result ((code : Listing) → Stands code out.new → Continues code out.old (codes.load 1 return_cell ∷ Instr.Sfree on.now.size ∷ []) (Term.Jump (Value.Reg 1))) }
+    ensures code { OnOk result
+        ((code : Listing)
+        → Stands code out.new
+        → Continues code out.old (codes.load 1 return_cell ∷ Instr.Sfree on.now.size ∷ [])
+        (Term.Jump (Value.Reg 1))) }
 {
     load(out, 1, RETURN)?;
     push(out, Instr::Sfree(on.size))?;
@@ -108,7 +114,8 @@ fn lower_func(
     requires params { length f.now.params.items ≤ on.now.most }
     requires cells { scope.old.cells.items ≡ [] }
     requires fresh { IsFresh out.old }
-    ensures labels { OnOk result (writing.next_label out.new ≡ writing.next_label out.old + sizes.added_by_func f.now) }
+    ensures labels { OnOk result
+        (writing.next_label out.new ≡ writing.next_label out.old + sizes.added_by_func f.now) }
     ensures cells { OnOk result (scope.new.cells.items ≡ []) }
     ensures tables { OnOk result (scope.new.tables ≡ scope.old.tables) }
     ensures fresh { OnOk result (IsFresh out.new) }
@@ -136,7 +143,8 @@ pub fn lower_funcs(
     requires labels { writing.next_label out.old + programs.added_by_funcs fs.now ≤ 65536 }
     requires cells { scope.old.cells.items ≡ [] }
     requires fresh { IsFresh out.old }
-    ensures labels { OnOk result (writing.next_label out.new ≡ writing.next_label out.old + programs.added_by_funcs fs.now) }
+    ensures labels { OnOk result
+        (writing.next_label out.new ≡ writing.next_label out.old + programs.added_by_funcs fs.now) }
     ensures fresh { OnOk result (IsFresh out.new) }
     ensures code { OnOk result (LowersFuncs (entries on.old.callees.items) scope.old fs.now out.old out.new) }
 {

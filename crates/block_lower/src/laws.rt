@@ -7,8 +7,9 @@ ghost use Rattle.block_lower.specs.Owing.{OwesMeaning};
 use loop_syntax::Program;
 use tpal_syntax::Code;
 
-/// Where a code is the code of a program, its first task owes the meaning of the program where nothing
-/// is diverted, over all given tables, at every heartbeat and every fuel. So it is never stuck.
+/// Where a code is the code of a program, its first task owes the meaning of the program where
+/// nothing is diverted, over all given tables, at every heartbeat and every fuel. So it is never
+/// stuck.
 pub fn program_owes(program: &Program, code: &Code)
     ensures { IsProgram code.now program.now → OwesMeaning program.now code.now }
 {

@@ -1,7 +1,8 @@
-//! The compiler: from a checked program to the code of the machine. It stands on the tree and the rules
-//! of `loop_syntax`, `loop_rules` and `loop_check`, and on the code of expressions of `expr_lower`.
-//! Start with `specs/Code.antt`, which says which code is the code of a statement, and `laws`; what
-//! writes such code begins in `program`, and `statement` has a function for each form.
+//! The compiler: from a checked program to the code of the machine. It stands on the tree and the
+//! rules of `loop_syntax`, `loop_rules` and `loop_check`, and on the code of expressions of
+//! `expr_lower`. Start with `specs/Code.antt`, which says which code is the code of a statement,
+//! and `laws`; what writes such code begins in `program`, and `statement` has a function for each
+//! form.
 #![tactic(auto)]
 
 mod body;

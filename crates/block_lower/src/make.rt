@@ -34,8 +34,12 @@ fn push_make_low(
     requires few_tables { length scope.now.tables.items < 16 }
     requires registers { (height a.now ≤ 24) × (1 + height b.now ≤ 24) }
     requires labels { writing.next_label out.old + (trap_count a.now + trap_count b.now) ≤ 65536 }
-    ensures labels { OnOk result (writing.next_label out.new ≡ writing.next_label out.old + (trap_count a.now + trap_count b.now)) }
-    ensures code { OnOk result ((on : Body) → WritesMakes on scope.now (TableDecl.Made x.now a.now b.now ∷ []) out.old out.new) }
+    ensures labels { OnOk result
+        (writing.next_label out.new
+        ≡ writing.next_label out.old + (trap_count a.now + trap_count b.now)) }
+    ensures code { OnOk result
+        ((on : Body)
+        → WritesMakes on scope.now (TableDecl.Made x.now a.now b.now ∷ []) out.old out.new) }
 {
     push_value(alloc, out, scope, a, 0)?;
     push_value(alloc, out, scope, b, 1)?;
@@ -65,8 +69,11 @@ fn push_make_kept(
     requires registers { (height a.now ≤ 24) × (height b.now ≤ 24) }
     requires labels { writing.next_label out.old + (trap_count a.now + trap_count b.now) ≤ 65536 }
     requires room { HasRoomFor on.now 1 }
-    ensures labels { OnOk result (writing.next_label out.new ≡ writing.next_label out.old + (trap_count a.now + trap_count b.now)) }
-    ensures code { OnOk result (WritesMakes on.now scope.now (TableDecl.Made x.now a.now b.now ∷ []) out.old out.new) }
+    ensures labels { OnOk result
+        (writing.next_label out.new
+        ≡ writing.next_label out.old + (trap_count a.now + trap_count b.now)) }
+    ensures code { OnOk result
+        (WritesMakes on.now scope.now (TableDecl.Made x.now a.now b.now ∷ []) out.old out.new) }
 {
     push_value(alloc, out, scope, a, 0)?;
     store(out, kept_cell(on, 0), Value::Reg(0))?;
@@ -96,7 +103,8 @@ fn push_decl(
     requires low { DeclIsLow d.now }
     requires labels { writing.next_label out.old + sizes.added_by_decl d.now ≤ 65536 }
     requires room { HasRoomFor on.now (sizes.kept_by_decl d.now) }
-    ensures labels { OnOk result (writing.next_label out.new ≡ writing.next_label out.old + sizes.added_by_decl d.now) }
+    ensures labels { OnOk result
+        (writing.next_label out.new ≡ writing.next_label out.old + sizes.added_by_decl d.now) }
     ensures code { OnOk result (WritesMakes on.now scope.now (d.now ∷ []) out.old out.new) }
 {
     match d {
@@ -138,9 +146,11 @@ pub fn push_makes(
     requires low { AllByRecursion DeclIsLow ds.now }
     requires labels { writing.next_label out.old + sizes.added_by_decls ds.now ≤ 65536 }
     requires room { HasRoomFor on.now (sizes.kept_by_decls ds.now) }
-    ensures labels { OnOk result (writing.next_label out.new ≡ writing.next_label out.old + sizes.added_by_decls ds.now) }
+    ensures labels { OnOk result
+        (writing.next_label out.new ≡ writing.next_label out.old + sizes.added_by_decls ds.now) }
     ensures cells { OnOk result (scope.new.cells ≡ scope.old.cells) }
-    ensures tables { OnOk result (length scope.new.tables.items ≡ length scope.old.tables.items + length ds.now) }
+    ensures tables { OnOk result
+        (length scope.new.tables.items ≡ length scope.old.tables.items + length ds.now) }
     ensures sees { OnOk result (SeesTables (λ tables. tables ++ map table_name ds.now) scope.old scope.new) }
     ensures code { OnOk result (WritesMakes on.now scope.old ds.now out.old out.new) }
 {

@@ -75,9 +75,14 @@ pub fn push_value(
     requires registers { to + height expr.now ≤ 24 }
     requires labels { writing.next_label out.old + trap_count expr.now ≤ 65536 }
     ensures blocks { OnOk result (out.new.blocks.items ≡ out.old.blocks.items) }
-    ensures body { OnOk result (out.new.body.items ≡ out.old.body.items ++ body_of scope.now (writing.next_label out.old) expr.now to) }
-    ensures traps { OnOk result (out.new.traps.items ≡ out.old.traps.items ++ traps_of (writing.next_label out.old) expr.now) }
-    ensures labels { OnOk result (writing.next_label out.new ≡ writing.next_label out.old + trap_count expr.now) }
+    ensures body { OnOk result
+        (out.new.body.items
+        ≡ out.old.body.items ++ body_of scope.now (writing.next_label out.old) expr.now to) }
+    ensures traps { OnOk result
+        (out.new.traps.items
+        ≡ out.old.traps.items ++ traps_of (writing.next_label out.old) expr.now) }
+    ensures labels { OnOk result
+        (writing.next_label out.new ≡ writing.next_label out.old + trap_count expr.now) }
     ensures code { OnOk result (WritesValue scope.now expr.now to out.old out.new) }
 {
     let first = label(out) + 1;

@@ -1,5 +1,5 @@
-// The pieces of the code of statements: operands, tests, and what stands before and behind the body of
-// a loop.
+// The pieces of the code of statements: operands, tests, and what stands before and behind the body
+// of a loop.
 
 ghost use Rattle.std.specs.Prelude.{◌≡◌, ◌+◌, ◌<◌, ◌≤◌, ◌∷◌, [], length, OnOk, IfOk};
 ghost use Rattle.loop_rules.specs.Limits.{height};
@@ -7,7 +7,8 @@ ghost use Rattle.expr_lower.specs.Bodies.{trap_count};
 ghost use Rattle.tpal_syntax.specs.Listing.{Listing};
 ghost use Rattle.block_lower.specs.Code as codes;
 ghost use Rattle.block_lower.specs.Layout.{bound_cell};
-ghost use Rattle.block_lower.specs.Lowering.{WritesOperand, WritesTest, WritesBelow, WritesStart, WritesBounds, WritesSome, WritesWide};
+ghost use Rattle.block_lower.specs.Lowering.{WritesOperand, WritesTest, WritesBelow, WritesStart};
+ghost use Rattle.block_lower.specs.Lowering.{WritesBounds, WritesSome, WritesWide};
 ghost use Rattle.block_lower.specs.Writing as writing;
 ghost use Rattle.block_lower.specs.Writing.{IsFresh, Pushes, Stands, Continues};
 
@@ -19,8 +20,8 @@ use std::alloc::Global;
 use tp_value::{MAX_PAR_LENGTH, NoMemory, Place, TrapKind};
 use tpal_syntax::{Alu, Instr, Term, Value};
 
-/// The operand that is an expression's value: a number where it is a literal, else register `to`, in
-/// which instructions leave it.
+/// The operand that is an expression's value: a number where it is a literal, else register `to`,
+/// in which instructions leave it.
 pub fn push_operand(
     alloc: Global,
     out: &mut Output,
@@ -31,7 +32,8 @@ pub fn push_operand(
     requires few_tables { length scope.now.tables.items ≤ 16 }
     requires registers { to + height expr.now ≤ 24 }
     requires labels { writing.next_label out.old + trap_count expr.now ≤ 65536 }
-    ensures labels { OnOk result (writing.next_label out.new ≡ writing.next_label out.old + trap_count expr.now) }
+    ensures labels { OnOk result
+        (writing.next_label out.new ≡ writing.next_label out.old + trap_count expr.now) }
     ensures code { IfOk result (λ value. WritesOperand scope.now expr.now to value out.old out.new) }
 {
     match literal(expr) {
@@ -93,7 +95,8 @@ pub fn push_test(
     requires few_tables { length scope.now.tables.items ≤ 16 }
     requires registers { height e.now ≤ 24 }
     requires labels { writing.next_label out.old + trap_count e.now ≤ 65536 }
-    ensures labels { OnOk result (writing.next_label out.new ≡ writing.next_label out.old + trap_count e.now + 1) }
+    ensures labels { OnOk result
+        (writing.next_label out.new ≡ writing.next_label out.old + trap_count e.now + 1) }
     ensures fresh { OnOk result (IsFresh out.new) }
     ensures code { OnOk result (WritesTest scope.now e.now first second out.old out.new) }
 {
@@ -179,7 +182,8 @@ pub fn push_start(
     requires registers { height a.now ≤ 24 }
     requires labels { writing.next_label out.old + trap_count a.now ≤ 65536 }
     requires cells { length scope.now.cells.items < 200 }
-    ensures labels { OnOk result (writing.next_label out.new ≡ writing.next_label out.old + trap_count a.now + 1) }
+    ensures labels { OnOk result
+        (writing.next_label out.new ≡ writing.next_label out.old + trap_count a.now + 1) }
     ensures fresh { OnOk result (IsFresh out.new) }
     ensures code { OnOk result (WritesStart scope.now a.now bound again exit out.old out.new) }
 {
@@ -202,7 +206,11 @@ pub fn push_turn(
     requires labels { writing.next_label out.old ≤ 65536 }
     ensures labels { OnOk result (writing.next_label out.new ≡ writing.next_label out.old + 1) }
     ensures fresh { OnOk result (IsFresh out.new) }
-    ensures code { OnOk result ((code : Listing) → Stands code out.new → Continues code out.old (codes.step_up 0 level (codes.below_test 0 (Value.Int bound) again)) (codes.to exit)) }
+    ensures code { OnOk result
+        ((code : Listing)
+        → Stands code out.new
+        → Continues code out.old
+        (codes.step_up 0 level (codes.below_test 0 (Value.Int bound) again)) (codes.to exit)) }
 {
     push_next(out, 0, level)?;
     push_below(alloc, out, 0, Value::Int(bound), again, exit)?;
@@ -221,7 +229,9 @@ pub fn push_bounds(
     requires registers { (height a.now ≤ 24) × (height b.now ≤ 24) }
     requires labels { writing.next_label out.old + (trap_count a.now + trap_count b.now) ≤ 65536 }
     requires cells { length scope.now.cells.items < 200 }
-    ensures labels { OnOk result (writing.next_label out.new ≡ writing.next_label out.old + (trap_count a.now + trap_count b.now)) }
+    ensures labels { OnOk result
+        (writing.next_label out.new
+        ≡ writing.next_label out.old + (trap_count a.now + trap_count b.now)) }
     ensures code { OnOk result (WritesBounds scope.now a.now b.now out.old out.new) }
 {
     let level = scope.cells.len();
@@ -245,7 +255,13 @@ pub fn push_bounded_turn(
     requires labels { writing.next_label out.old ≤ 65536 }
     ensures labels { OnOk result (writing.next_label out.new ≡ writing.next_label out.old + 1) }
     ensures fresh { OnOk result (IsFresh out.new) }
-    ensures code { OnOk result ((code : Listing) → Stands code out.new → Continues code out.old (codes.step_up 1 level (codes.load 0 (bound_cell level) ∷ codes.below_test 1 (Value.Reg 0) again)) (codes.to exit)) }
+    ensures code { OnOk result
+        ((code : Listing)
+        → Stands code out.new
+        → Continues code out.old
+        (codes.step_up 1 level
+        (codes.load 0 (bound_cell level) ∷ codes.below_test 1 (Value.Reg 0) again))
+        (codes.to exit)) }
 {
     push_next(out, 1, level)?;
     load(out, 0, bound_cell(level))?;
@@ -283,7 +299,9 @@ pub fn push_some(alloc: Global, out: &mut Output, check: u32, exit: u32) -> Resu
 
 /// The difference of the bounds of a `par`, and a jump where a register of the test isn't 0.
 fn push_length_test(out: &mut Output, alu: Alu, bound: i64, label: u32) -> Result<(), NoMemory>
-    ensures pushed { OnOk result (Pushes (Instr.Calc 3 2 alu (Value.Int bound) ∷ Instr.IfJump 3 label ∷ []) out.old out.new) }
+    ensures pushed { OnOk result
+        (Pushes (Instr.Calc 3 2 alu (Value.Int bound) ∷ Instr.IfJump 3 label ∷ []) out.old
+        out.new) }
     ensures labels { OnOk result (writing.next_label out.new ≡ writing.next_label out.old) }
 {
     push(
@@ -299,8 +317,8 @@ fn push_length_test(out: &mut Output, alu: Alu, bound: i64, label: u32) -> Resul
     Ok(())
 }
 
-/// The test of the length of a `par`, in an open block of its own: the label `again` where it isn't too
-/// wide, else the trap block, which stands behind the test.
+/// The test of the length of a `par`, in an open block of its own: the label `again` where it isn't
+/// too wide, else the trap block, which stands behind the test.
 pub fn push_wide(alloc: Global, out: &mut Output, place: Place, again: u32) -> Result<(), NoMemory>
     requires labels { writing.next_label out.old + 1 ≤ 65536 }
     requires fresh { IsFresh out.old }

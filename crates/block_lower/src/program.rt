@@ -1,6 +1,7 @@
 // The code of a program.
 
-ghost use Rattle.std.specs.Prelude.{◌≡◌, ◌+◌, ◌≤◌, pos, max, map, ◌∷◌, [], length, IfOk, IfErr, OnOk};
+ghost use Rattle.std.specs.Prelude.{◌≡◌, ◌+◌, ◌≤◌, pos, max, map, ◌∷◌, [], length, IfOk, IfErr};
+ghost use Rattle.std.specs.Prelude.{OnOk};
 ghost use Rattle.tp_value.specs.declared.limits.TheConstants.{MAX_BLOCKS};
 ghost use Rattle.loop_rules.specs.Names.{texts};
 ghost use Rattle.tpal_syntax.specs.Listing.{Listing};
@@ -60,7 +61,10 @@ fn main_body(program: &Program, callees: Vec<Callee>) -> Body
     requires fits { ProgramFits program.now }
     ensures callees { result.callees ≡ callees }
     ensures most { result.most ≡ sizes.declared_by_list program.now.main.items }
-    ensures size { result.size ≡ value_cell (sizes.declared_by_list program.now.main.items) + max (sizes.kept_by_list program.now.main.items) (sizes.kept_by_decls program.now.tables.items) }
+    ensures size { result.size
+        ≡ value_cell (sizes.declared_by_list program.now.main.items)
+        + max (sizes.kept_by_list program.now.main.items)
+        (sizes.kept_by_decls program.now.tables.items) }
 {
     let most = declared_by_list(&program.main);
     let kept = kept_by_list(&program.main).max(kept_by_decls(&program.tables));
@@ -73,7 +77,11 @@ fn main_body(program: &Program, callees: Vec<Callee>) -> Body
 
 /// The first instructions of main: its activation, with all levels of calls left.
 fn push_head(out: &mut Output, on: &Body) -> Result<(), NoMemory>
-    ensures pushed { OnOk result (Pushes (Instr.Salloc on.now.size ∷ codes.store levels_cell (Value.Int (pos MAX_CALL_DEPTH)) ∷ []) out.old out.new) }
+    ensures pushed { OnOk result
+        (Pushes
+        (Instr.Salloc on.now.size ∷ codes.store levels_cell (Value.Int (pos MAX_CALL_DEPTH))
+        ∷ [])
+        out.old out.new) }
     ensures labels { OnOk result (writing.next_label out.new ≡ writing.next_label out.old) }
 {
     push(out, Instr::Salloc(on.size))?;
@@ -92,9 +100,13 @@ fn lower_main(
     requires fits { ProgramFits program.now }
     requires labels { writing.next_label out.old + programs.added_by_main program.now ≤ 65536 }
     requires most { on.now.most ≡ sizes.declared_by_list program.now.main.items }
-    requires room { HasRoomFor on.now (max (sizes.kept_by_list program.now.main.items) (sizes.kept_by_decls program.now.tables.items)) }
+    requires room { HasRoomFor on.now
+        (max (sizes.kept_by_list program.now.main.items)
+        (sizes.kept_by_decls program.now.tables.items)) }
     requires nothing { (scope.old.cells.items ≡ []) × (scope.old.tables.items ≡ []) }
-    ensures labels { OnOk result (writing.next_label out.new ≡ writing.next_label out.old + programs.added_by_main program.now) }
+    ensures labels { OnOk result
+        (writing.next_label out.new
+        ≡ writing.next_label out.old + programs.added_by_main program.now) }
     ensures fresh { OnOk result (IsFresh out.new) }
     ensures cells { OnOk result (scope.new.cells.items ≡ []) }
     ensures tables { OnOk result (length scope.new.tables.items ≤ 16) }
@@ -114,7 +126,11 @@ fn program_blocks(alloc: Global, program: &Program) -> Result<Vec<Block>, NoMemo
     requires fits { ProgramFits program.now }
     requires labels { programs.added_by_program program.now + 1 ≤ 65536 }
     ensures count { IfOk result (λ blocks. length blocks.items ≡ programs.added_by_program program.now) }
-    ensures code { IfOk result (λ blocks. (code : Listing) → AreDeclared program.now.tables.items code.tables → AreAt code 0 blocks.items → IsProgram code program.now) }
+    ensures code { IfOk result
+        (λ blocks. (code : Listing)
+        → AreDeclared program.now.tables.items code.tables
+        → AreAt code 0 blocks.items
+        → IsProgram code program.now) }
 {
     let first = added_by_decls(&program.tables) + added_by_list(&program.main) + 1;
     let callees = callees_of(alloc, &program.funcs, first)?;
@@ -152,7 +168,8 @@ pub fn lower(alloc: Global, program: &Checked) -> Result<Code, LowerFault>
     let tables = code_tables(alloc, &program.tables)?;
     match Code::new(alloc, tables, blocks)? {
         Some(code) => Ok(code),
-        // A trap may name no line and no column 0, and no program that was read from a text has such a place.
+        // A trap may name no line and no column 0, and no program that was read from a text has
+        // such a place.
         None => Err(LowerFault::NoMemory),
     }
 }

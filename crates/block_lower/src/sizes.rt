@@ -1,5 +1,5 @@
-// How many blocks a statement adds, how many variables it declares, and how many values it keeps. A number
-// of blocks or of variables stands still at the greatest one of its type.
+// How many blocks a statement adds, how many variables it declares, and how many values it keeps. A
+// number of blocks or of variables stands still at the greatest one of its type.
 
 ghost use Rattle.std.specs.Prelude.{◌≡◌, ◌+◌, min};
 ghost use Rattle.expr_lower.specs.Bodies.{trap_count};
@@ -172,7 +172,8 @@ pub fn is_low_at(to: u32, e: &Expr) -> bool
     }
 }
 
-/// How many values a statement keeps in its activation while it computes others. There are at most 9.
+/// How many values a statement keeps in its activation while it computes others. There are at most
+/// 9.
 #[cycle(kept)]
 fn kept(s: &Stmt) -> u16
     ensures { result ≡ sizes.kept s.now }

@@ -10,7 +10,8 @@ ghost use Rattle.block_lower.specs.declared.body.Body.{Body};
 ghost use Rattle.block_lower.specs.Bodies.{HasRoomFor};
 ghost use Rattle.block_lower.specs.Code as codes;
 ghost use Rattle.block_lower.specs.Heights.{AreLow, AllAreLow};
-ghost use Rattle.block_lower.specs.Lowering.{Lowers, WithBody, LowersAll, LowersBranch, LowersOther, LowersBody};
+ghost use Rattle.block_lower.specs.Lowering.{Lowers, WithBody, LowersAll, LowersBranch};
+ghost use Rattle.block_lower.specs.Lowering.{LowersOther, LowersBody};
 ghost use Rattle.block_lower.specs.Names.{SeesAfter, names_after, names_after_list};
 ghost use Rattle.block_lower.specs.Sizes as sizes;
 ghost use Rattle.block_lower.specs.Writing as writing;
@@ -48,7 +49,9 @@ fn lower_let(
     ensures cells { OnOk result (length scope.new.cells.items ≡ length scope.old.cells.items + 1) }
     ensures tables { OnOk result (scope.new.tables ≡ scope.old.tables) }
     ensures sees { OnOk result (SeesAfter (λ names. names ++ x.now.text.items ∷ []) scope.old scope.new) }
-    ensures code { OnOk result ((on : Body) (reduces : List Reduce) → Lowers on reduces scope.old (Stmt.Let x.now e.now) out.old out.new) }
+    ensures code { OnOk result
+        ((on : Body) (reduces : List Reduce)
+        → Lowers on reduces scope.old (Stmt.Let x.now e.now) out.old out.new) }
 {
     let value = push_operand(alloc, out, scope, e, 0)?;
     store(out, value_cell(scope.cells.len()), value)?;
@@ -67,7 +70,9 @@ fn lower_set(
     requires registers { height e.now ≤ 24 }
     requires labels { writing.next_label out.old + trap_count e.now ≤ 65536 }
     ensures labels { OnOk result (writing.next_label out.new ≡ writing.next_label out.old + trap_count e.now) }
-    ensures code { OnOk result ((on : Body) (reduces : List Reduce) → Lowers on reduces scope.now (Stmt.Set x.now e.now) out.old out.new) }
+    ensures code { OnOk result
+        ((on : Body) (reduces : List Reduce)
+        → Lowers on reduces scope.now (Stmt.Set x.now e.now) out.old out.new) }
 {
     let value = push_operand(alloc, out, scope, e, 0)?;
     store(out, offset_of(scope, &x.text), value)?;
@@ -112,7 +117,10 @@ fn push_fold(
     requires registers { height e.now ≤ 24 }
     requires labels { writing.next_label out.old + trap_count e.now ≤ 65536 }
     ensures labels { OnOk result (writing.next_label out.new ≡ writing.next_label out.old + trap_count e.now) }
-    ensures code { OnOk result ((on : Body) (reduces : List Reduce) → operator_of reduces x.now.text.items ≡ Some op → Lowers on reduces scope.now (Stmt.Fold x.now e.now) out.old out.new) }
+    ensures code { OnOk result
+        ((on : Body) (reduces : List Reduce)
+        → operator_of reduces x.now.text.items ≡ Some op
+        → Lowers on reduces scope.now (Stmt.Fold x.now e.now) out.old out.new) }
 {
     let cell = offset_of(scope, &x.text);
     let value = push_operand(alloc, out, scope, e, 0)?;
@@ -143,7 +151,8 @@ fn lower_fold(
     requires registers { height e.now ≤ 24 }
     requires labels { writing.next_label out.old + trap_count e.now ≤ 65536 }
     ensures labels { OnOk result (writing.next_label out.new ≡ writing.next_label out.old + trap_count e.now) }
-    ensures code { OnOk result ((on : Body) → Lowers on reduces.now scope.now (Stmt.Fold x.now e.now) out.old out.new) }
+    ensures code { OnOk result
+        ((on : Body) → Lowers on reduces.now scope.now (Stmt.Fold x.now e.now) out.old out.new) }
 {
     match operator_of(reduces, &x.text) {
         Some(op) => push_fold(alloc, out, scope, x, e, op),
@@ -162,7 +171,9 @@ fn lower_print(
     requires registers { height e.now ≤ 24 }
     requires labels { writing.next_label out.old + trap_count e.now ≤ 65536 }
     ensures labels { OnOk result (writing.next_label out.new ≡ writing.next_label out.old + trap_count e.now) }
-    ensures code { OnOk result ((on : Body) (reduces : List Reduce) → Lowers on reduces scope.now (Stmt.Print place e.now) out.old out.new) }
+    ensures code { OnOk result
+        ((on : Body) (reduces : List Reduce)
+        → Lowers on reduces scope.now (Stmt.Print place e.now) out.old out.new) }
 {
     push_value(alloc, out, scope, e, 0)?;
     push(out, Instr::Print(0))?;
@@ -186,7 +197,9 @@ fn lower_branch(
     requires room { HasRoomFor on.now (sizes.kept_by_list body.now) }
     requires cells { length scope.old.cells.items + sizes.declared_by_list body.now ≤ 200 }
     requires fresh { IsFresh out.old }
-    ensures labels { OnOk result (writing.next_label out.new ≡ writing.next_label out.old + (sizes.added_by_list body.now + 1)) }
+    ensures labels { OnOk result
+        (writing.next_label out.new
+        ≡ writing.next_label out.old + (sizes.added_by_list body.now + 1)) }
     ensures cells { OnOk result (length scope.new.cells.items ≤ length scope.old.cells.items) }
     ensures tables { OnOk result (scope.new.tables ≡ scope.old.tables) }
     ensures sees { OnOk result (SeesAfter (λ names. names) scope.old scope.new) }
@@ -217,7 +230,8 @@ fn lower_other(
     requires room { HasRoomFor on.now (sizes.kept_by_list body.now) }
     requires cells { length scope.old.cells.items + sizes.declared_by_list body.now ≤ 200 }
     requires fresh { IsFresh out.old }
-    ensures labels { OnOk result (writing.next_label out.new ≡ writing.next_label out.old + sizes.added_by_second body.now) }
+    ensures labels { OnOk result
+        (writing.next_label out.new ≡ writing.next_label out.old + sizes.added_by_second body.now) }
     ensures cells { OnOk result (length scope.new.cells.items ≤ length scope.old.cells.items) }
     ensures tables { OnOk result (scope.new.tables ≡ scope.old.tables) }
     ensures sees { OnOk result (SeesAfter (λ names. names) scope.old scope.new) }
@@ -244,15 +258,22 @@ fn lower_while(
 ) -> Result<(), NoMemory>
     requires few_tables { length scope.old.tables.items ≤ 16 }
     requires low { (height e.now ≤ 24) × AllAreLow body.now }
-    requires labels { writing.next_label out.old + (trap_count e.now + 1 + (sizes.added_by_list body.now + 1) + trap_count e.now) ≤ 65536 }
+    requires labels { writing.next_label out.old
+        + (trap_count e.now + 1 + (sizes.added_by_list body.now + 1) + trap_count e.now)
+        ≤ 65536 }
     requires room { HasRoomFor on.now (sizes.kept_by_list body.now) }
     requires cells { length scope.old.cells.items + sizes.declared_by_list body.now ≤ 200 }
-    ensures labels { OnOk result (writing.next_label out.new ≡ writing.next_label out.old + (trap_count e.now + 1 + (sizes.added_by_list body.now + 1) + trap_count e.now)) }
+    ensures labels { OnOk result
+        (writing.next_label out.new
+        ≡ writing.next_label out.old
+        + (trap_count e.now + 1 + (sizes.added_by_list body.now + 1) + trap_count e.now)) }
     ensures cells { OnOk result (length scope.new.cells.items ≤ length scope.old.cells.items) }
     ensures tables { OnOk result (scope.new.tables ≡ scope.old.tables) }
     ensures sees { OnOk result (SeesAfter (λ names. names) scope.old scope.new) }
     ensures fresh { OnOk result (IsFresh out.new) }
-    ensures code { OnOk result (WithBody body.now (λ v. Lowers on.now reduces.now scope.old (Stmt.While e.now v) out.old out.new)) }
+    ensures code { OnOk result
+        (WithBody body.now
+        (λ v. Lowers on.now reduces.now scope.old (Stmt.While e.now v) out.old out.new)) }
 {
     let again = next_label(out) + trap_count(e);
     let exit = again + added_by_body(body) + trap_count(e);
@@ -282,11 +303,13 @@ fn lower_body(
     requires room { HasRoomFor on.now (sizes.kept_by_list body.now) }
     requires cells { length scope.old.cells.items + (sizes.declared_by_list body.now + 1) ≤ 200 }
     requires fresh { IsFresh out.old }
-    ensures labels { OnOk result (writing.next_label out.new ≡ writing.next_label out.old + sizes.added_by_list body.now) }
+    ensures labels { OnOk result
+        (writing.next_label out.new ≡ writing.next_label out.old + sizes.added_by_list body.now) }
     ensures cells { OnOk result (length scope.new.cells.items ≤ length scope.old.cells.items) }
     ensures tables { OnOk result (scope.new.tables ≡ scope.old.tables) }
     ensures sees { OnOk result (SeesAfter (λ names. names) scope.old scope.new) }
-    ensures code { OnOk result (LowersBody on.now reduces.now scope.old x.now.text.items body.now out.old out.new) }
+    ensures code { OnOk result
+        (LowersBody on.now reduces.now scope.old x.now.text.items body.now out.old out.new) }
 {
     let level = scope.cells.len();
     declare(alloc, scope, &x.text)?;
@@ -311,15 +334,24 @@ fn lower_loop_to(
 ) -> Result<(), NoMemory>
     requires few_tables { length scope.old.tables.items ≤ 16 }
     requires low { (height a.now ≤ 24) × AllAreLow body.now }
-    requires labels { writing.next_label out.old + (trap_count a.now + 1 + (sizes.added_by_list body.now + 1)) ≤ 65536 }
+    requires labels { writing.next_label out.old + (trap_count a.now + 1 + (sizes.added_by_list body.now + 1))
+        ≤ 65536 }
     requires room { HasRoomFor on.now (sizes.kept_by_list body.now) }
     requires cells { length scope.old.cells.items + (sizes.declared_by_list body.now + 1) ≤ 200 }
-    ensures labels { OnOk result (writing.next_label out.new ≡ writing.next_label out.old + (trap_count a.now + 1 + (sizes.added_by_list body.now + 1))) }
+    ensures labels { OnOk result
+        (writing.next_label out.new
+        ≡ writing.next_label out.old
+        + (trap_count a.now + 1 + (sizes.added_by_list body.now + 1))) }
     ensures cells { OnOk result (length scope.new.cells.items ≤ length scope.old.cells.items) }
     ensures tables { OnOk result (scope.new.tables ≡ scope.old.tables) }
     ensures sees { OnOk result (SeesAfter (λ names. names) scope.old scope.new) }
     ensures fresh { OnOk result (IsFresh out.new) }
-    ensures code { OnOk result ((b : Expr) → literal b ≡ Some bound → WithBody body.now (λ v. Lowers on.now reduces.now scope.old (Stmt.Loop x.now a.now b v) out.old out.new)) }
+    ensures code { OnOk result
+        ((b : Expr)
+        → literal b ≡ Some bound
+        → WithBody body.now
+        (λ v. Lowers on.now reduces.now scope.old (Stmt.Loop x.now a.now b v) out.old
+        out.new)) }
 {
     let level = scope.cells.len();
     let again = next_label(out) + trap_count(a);
@@ -330,8 +362,8 @@ fn lower_loop_to(
     Ok(())
 }
 
-/// A `loop` up to the value of an expression, which has a cell of its own. The test stands before the
-/// loop, and again at the end of the body.
+/// A `loop` up to the value of an expression, which has a cell of its own. The test stands before
+/// the loop, and again at the end of the body.
 #[cycle(lower)]
 fn lower_loop(
     alloc: Global,
@@ -346,15 +378,23 @@ fn lower_loop(
 ) -> Result<(), NoMemory>
     requires few_tables { length scope.old.tables.items ≤ 16 }
     requires low { (height a.now ≤ 24) × (height b.now ≤ 24) × AllAreLow body.now }
-    requires labels { writing.next_label out.old + (trap_count a.now + trap_count b.now + 1 + (sizes.added_by_list body.now + 1)) ≤ 65536 }
+    requires labels { writing.next_label out.old
+        + (trap_count a.now + trap_count b.now + 1 + (sizes.added_by_list body.now + 1))
+        ≤ 65536 }
     requires room { HasRoomFor on.now (sizes.kept_by_list body.now) }
     requires cells { length scope.old.cells.items + (sizes.declared_by_list body.now + 1) ≤ 200 }
-    ensures labels { OnOk result (writing.next_label out.new ≡ writing.next_label out.old + (trap_count a.now + trap_count b.now + 1 + (sizes.added_by_list body.now + 1))) }
+    ensures labels { OnOk result
+        (writing.next_label out.new
+        ≡ writing.next_label out.old
+        + (trap_count a.now + trap_count b.now + 1 + (sizes.added_by_list body.now + 1))) }
     ensures cells { OnOk result (length scope.new.cells.items ≤ length scope.old.cells.items) }
     ensures tables { OnOk result (scope.new.tables ≡ scope.old.tables) }
     ensures sees { OnOk result (SeesAfter (λ names. names) scope.old scope.new) }
     ensures fresh { OnOk result (IsFresh out.new) }
-    ensures code { OnOk result (WithBody body.now (λ v. Lowers on.now reduces.now scope.old (Stmt.Loop x.now a.now b.now v) out.old out.new)) }
+    ensures code { OnOk result
+        (WithBody body.now
+        (λ v. Lowers on.now reduces.now scope.old (Stmt.Loop x.now a.now b.now v) out.old
+        out.new)) }
 {
     let level = scope.cells.len();
     let again = next_label(out) + trap_count(a) + trap_count(b);
@@ -377,14 +417,23 @@ fn lower_par(
 ) -> Result<(), NoMemory>
     requires few_tables { length scope.old.tables.items ≤ 16 }
     requires low { (height l.now.from ≤ 24) × (height l.now.to ≤ 24) × AllAreLow l.now.body.items }
-    requires labels { writing.next_label out.old + (trap_count l.now.from + trap_count l.now.to + 3 + (sizes.added_by_list l.now.body.items + 1)) ≤ 65536 }
+    requires labels { writing.next_label out.old
+        + (trap_count l.now.from + trap_count l.now.to + 3
+        + (sizes.added_by_list l.now.body.items + 1))
+        ≤ 65536 }
     requires room { HasRoomFor on.now (sizes.kept_by_list l.now.body.items) }
     requires cells { length scope.old.cells.items + (sizes.declared_by_list l.now.body.items + 1) ≤ 200 }
-    ensures labels { OnOk result (writing.next_label out.new ≡ writing.next_label out.old + (trap_count l.now.from + trap_count l.now.to + 3 + (sizes.added_by_list l.now.body.items + 1))) }
+    ensures labels { OnOk result
+        (writing.next_label out.new
+        ≡ writing.next_label out.old
+        + (trap_count l.now.from + trap_count l.now.to + 3
+        + (sizes.added_by_list l.now.body.items + 1))) }
     ensures cells { OnOk result (length scope.new.cells.items ≤ length scope.old.cells.items) }
     ensures tables { OnOk result (scope.new.tables ≡ scope.old.tables) }
     ensures sees { OnOk result (SeesAfter (λ names. names) scope.old scope.new) }
-    ensures code { OnOk result ((reduces : List Reduce) → Lowers on.now reduces scope.old (Stmt.Par l.now) out.old out.new) }
+    ensures code { OnOk result
+        ((reduces : List Reduce)
+        → Lowers on.now reduces scope.old (Stmt.Par l.now) out.old out.new) }
 {
     let level = scope.cells.len();
     let check = next_label(out) + trap_count(&l.from) + trap_count(&l.to);
@@ -414,7 +463,8 @@ fn lower_stmt(
     requires room { HasRoomFor on.now (sizes.kept s.now) }
     requires cells { length scope.old.cells.items + sizes.declared s.now ≤ 200 }
     ensures labels { OnOk result (writing.next_label out.new ≡ writing.next_label out.old + sizes.added s.now) }
-    ensures cells { OnOk result (length scope.new.cells.items ≤ length scope.old.cells.items + sizes.declared s.now) }
+    ensures cells { OnOk result
+        (length scope.new.cells.items ≤ length scope.old.cells.items + sizes.declared s.now) }
     ensures tables { OnOk result (scope.new.tables ≡ scope.old.tables) }
     ensures sees { OnOk result (SeesAfter (λ names. names_after names s.now) scope.old scope.new) }
     ensures code { OnOk result (Lowers on.now reduces.now scope.old s.now out.old out.new) }
@@ -461,8 +511,11 @@ pub fn lower_list(
     requires labels { writing.next_label out.old + sizes.added_by_list body.now ≤ 65536 }
     requires room { HasRoomFor on.now (sizes.kept_by_list body.now) }
     requires cells { length scope.old.cells.items + sizes.declared_by_list body.now ≤ 200 }
-    ensures labels { OnOk result (writing.next_label out.new ≡ writing.next_label out.old + sizes.added_by_list body.now) }
-    ensures cells { OnOk result (length scope.new.cells.items ≤ length scope.old.cells.items + sizes.declared_by_list body.now) }
+    ensures labels { OnOk result
+        (writing.next_label out.new ≡ writing.next_label out.old + sizes.added_by_list body.now) }
+    ensures cells { OnOk result
+        (length scope.new.cells.items
+        ≤ length scope.old.cells.items + sizes.declared_by_list body.now) }
     ensures tables { OnOk result (scope.new.tables ≡ scope.old.tables) }
     ensures sees { OnOk result (SeesAfter (λ names. names_after_list names body.now) scope.old scope.new) }
     ensures code { OnOk result (LowersAll on.now reduces.now scope.old body.now out.old out.new) }

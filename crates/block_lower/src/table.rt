@@ -63,9 +63,15 @@ fn lower_put_low(
 ) -> Result<(), NoMemory>
     requires few_tables { length scope.now.tables.items ≤ 16 }
     requires registers { (height a.now ≤ 24) × (1 + height b.now ≤ 24) × (2 + height e.now ≤ 24) }
-    requires labels { writing.next_label out.old + (trap_count a.now + trap_count b.now + trap_count e.now + 1) ≤ 65536 }
-    ensures labels { OnOk result (writing.next_label out.new ≡ writing.next_label out.old + (trap_count a.now + trap_count b.now + trap_count e.now + 1)) }
-    ensures code { OnOk result ((on : Body) (reduces : List Reduce) → Lowers on reduces scope.now (Stmt.Put t.now a.now b.now e.now) out.old out.new) }
+    requires labels { writing.next_label out.old + (trap_count a.now + trap_count b.now + trap_count e.now + 1)
+        ≤ 65536 }
+    ensures labels { OnOk result
+        (writing.next_label out.new
+        ≡ writing.next_label out.old
+        + (trap_count a.now + trap_count b.now + trap_count e.now + 1)) }
+    ensures code { OnOk result
+        ((on : Body) (reduces : List Reduce)
+        → Lowers on reduces scope.now (Stmt.Put t.now a.now b.now e.now) out.old out.new) }
 {
     let table = table_number(scope, &t.text);
     push_value(alloc, out, scope, a, 0)?;
@@ -88,10 +94,16 @@ fn lower_put_kept(
 ) -> Result<(), NoMemory>
     requires few_tables { length scope.now.tables.items ≤ 16 }
     requires registers { (height a.now ≤ 24) × (height b.now ≤ 24) × (height e.now ≤ 24) }
-    requires labels { writing.next_label out.old + (trap_count a.now + trap_count b.now + trap_count e.now + 1) ≤ 65536 }
+    requires labels { writing.next_label out.old + (trap_count a.now + trap_count b.now + trap_count e.now + 1)
+        ≤ 65536 }
     requires room { HasRoomFor on.now 2 }
-    ensures labels { OnOk result (writing.next_label out.new ≡ writing.next_label out.old + (trap_count a.now + trap_count b.now + trap_count e.now + 1)) }
-    ensures code { OnOk result ((reduces : List Reduce) → Lowers on.now reduces scope.now (Stmt.Put t.now a.now b.now e.now) out.old out.new) }
+    ensures labels { OnOk result
+        (writing.next_label out.new
+        ≡ writing.next_label out.old
+        + (trap_count a.now + trap_count b.now + trap_count e.now + 1)) }
+    ensures code { OnOk result
+        ((reduces : List Reduce)
+        → Lowers on.now reduces scope.now (Stmt.Put t.now a.now b.now e.now) out.old out.new) }
 {
     let table = table_number(scope, &t.text);
     push_value(alloc, out, scope, a, 0)?;
@@ -118,10 +130,16 @@ pub fn lower_put(
 ) -> Result<(), NoMemory>
     requires few_tables { length scope.now.tables.items ≤ 16 }
     requires low { IsLow a.now × IsLow b.now × IsLow e.now }
-    requires labels { writing.next_label out.old + (trap_count a.now + trap_count b.now + trap_count e.now + 1) ≤ 65536 }
+    requires labels { writing.next_label out.old + (trap_count a.now + trap_count b.now + trap_count e.now + 1)
+        ≤ 65536 }
     requires room { HasRoomFor on.now (sizes.kept (Stmt.Put t.now a.now b.now e.now)) }
-    ensures labels { OnOk result (writing.next_label out.new ≡ writing.next_label out.old + (trap_count a.now + trap_count b.now + trap_count e.now + 1)) }
-    ensures code { OnOk result ((reduces : List Reduce) → Lowers on.now reduces scope.now (Stmt.Put t.now a.now b.now e.now) out.old out.new) }
+    ensures labels { OnOk result
+        (writing.next_label out.new
+        ≡ writing.next_label out.old
+        + (trap_count a.now + trap_count b.now + trap_count e.now + 1)) }
+    ensures code { OnOk result
+        ((reduces : List Reduce)
+        → Lowers on.now reduces scope.now (Stmt.Put t.now a.now b.now e.now) out.old out.new) }
 {
     if is_low_at(1, b) && is_low_at(2, e) {
         lower_put_low(alloc, out, scope, t, a, b, e)
@@ -134,7 +152,9 @@ pub fn lower_put(
 pub fn lower_emit(out: &mut Output, scope: &Scope, place: Place, t: &Name) -> Result<(), NoMemory>
     requires { length scope.now.tables.items ≤ 16 }
     ensures labels { OnOk result (writing.next_label out.new ≡ writing.next_label out.old) }
-    ensures code { OnOk result ((on : Body) (reduces : List Reduce) → Lowers on reduces scope.now (Stmt.Emit place t.now) out.old out.new) }
+    ensures code { OnOk result
+        ((on : Body) (reduces : List Reduce)
+        → Lowers on reduces scope.now (Stmt.Emit place t.now) out.old out.new) }
 {
     push(out, Instr::Emit(table_number(scope, &t.text)))?;
     Ok(())

@@ -14,19 +14,28 @@ use Rattle.expr_lower.specs.Scopes.{offset_of, table_number, HasVariable, HasTab
 
 -- a cell that is read is held, with its number
 abbrev pub IsHeld : Scope → List Table → State → Note → Type 0
-IsHeld scope tables state (Reads t i j) = cell_at (table_at state.tables (table_number scope t)) i j ≡ Some (cell_of (table_of tables t) i j)
+IsHeld scope tables state (Reads t i j) =
+    cell_at (table_at state.tables (table_number scope t)) i j
+    ≡ Some (cell_of (table_of tables t) i j)
 IsHeld scope tables state (Writes t i j) = ⊤
 IsHeld scope tables state (Emits t) = ⊤
 IsHeld scope tables state Chance = ⊤
 
--- A task holds the variables of a scope in the cells of its activation, which begins at the position in
--- register 31. It holds the sizes of the scope's tables, and of their cells those that are read by these
--- notes. A side may hold no more than these.
-pub record Holds (scope : Scope) (vars : List Variable) (tables : List Table) (notes : List Note) (state : State) : Type 0 where
+-- A task holds the variables of a scope in the cells of its activation, which begins at the
+-- position in register 31. It holds the sizes of the scope's tables, and of their cells those that
+-- are read by these notes. A side may hold no more than these.
+pub record Holds (scope : Scope) (vars : List Variable) (tables : List Table) (notes : List Note)
+    (state : State) : Type 0 where
   pub registers : length state.registers ≡ 32
   pub base : ℤ
   pub is_base : register state.registers 31 ≡ Int base
-  pub variables : (x : List ℕ) → HasVariable scope x → word_at state.stack (base +ℤ pos (offset_of scope x)) ≡ Some (Int (lookup vars x))
-  pub rows : (t : List ℕ) → HasTable scope t → (table_at state.tables (table_number scope t)).rows ≡ (table_of tables t).rows
-  pub cols : (t : List ℕ) → HasTable scope t → (table_at state.tables (table_number scope t)).cols ≡ (table_of tables t).cols
+  pub variables : (x : List ℕ)
+      → HasVariable scope x
+      → word_at state.stack (base +ℤ pos (offset_of scope x)) ≡ Some (Int (lookup vars x))
+  pub rows : (t : List ℕ)
+      → HasTable scope t
+      → (table_at state.tables (table_number scope t)).rows ≡ (table_of tables t).rows
+  pub cols : (t : List ℕ)
+      → HasTable scope t
+      → (table_at state.tables (table_number scope t)).cols ≡ (table_of tables t).cols
   pub cells : AllByRecursion (IsHeld scope tables state) notes

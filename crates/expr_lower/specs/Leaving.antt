@@ -29,30 +29,39 @@ abbrev pub moved : State → List Word → BeatState → ℕ → State
 moved state words beat at = record state { registers = words; beat = beat; at = at }
 
 abbrev pub moved_to : State → List Word → BeatState → ℕ → ℕ → State
-moved_to state words beat label at = record state { registers = words; beat = beat; block = label; at = at }
+moved_to state words beat label at =
+    record state { registers = words; beat = beat; block = label; at = at }
 
 -- a task comes to leave a number in register `to`, and then enters the block at a label
-pub record Leaves (code : Listing) (heartbeat : ℕ) (label to : ℕ) (n : ℤ) (state : State) : Type 0 where
-  pub words : List Word
-  pub beat : BeatState
-  pub at : ℕ
-  pub keeps : Keeps to state words beat
-  pub value : register words to ≡ Int n
-  pub comes : Comes code heartbeat state (moved state words beat at)
-  pub goes_on : (allowed : Bool) → step code heartbeat allowed (moved state words beat at) ≡ enters code heartbeat allowed label (advanced (moved state words beat at))
+pub record Leaves (code : Listing) (heartbeat : ℕ) (label to : ℕ) (n : ℤ) (state : State) : Type 0
+  where
+    pub words : List Word
+    pub beat : BeatState
+    pub at : ℕ
+    pub keeps : Keeps to state words beat
+    pub value : register words to ≡ Int n
+    pub comes : Comes code heartbeat state (moved state words beat at)
+    pub goes_on : (allowed : Bool)
+        → step code heartbeat allowed (moved state words beat at)
+        ≡ enters code heartbeat allowed label (advanced (moved state words beat at))
 
 -- a task comes to a trap, which ends it where it has no join record left to use
-pub record ComesToTrap (code : Listing) (heartbeat : ℕ) (to : ℕ) (kind : TrapKind) (place : Place) (state : State) : Type 0 where
+pub record ComesToTrap (code : Listing) (heartbeat : ℕ) (to : ℕ) (kind : TrapKind) (place : Place)
+    (state : State) : Type 0 where
   pub words : List Word
   pub beat : BeatState
   pub label : ℕ
   pub at : ℕ
   pub keeps : Keeps to state words beat
   pub comes : Comes code heartbeat state (moved_to state words beat label at)
-  pub stops : (allowed : Bool) → state.pending ≡ None → step code heartbeat allowed (moved_to state words beat label at) ≡ Ends (ended code (Trap kind place) (advanced (moved_to state words beat label at)))
+  pub stops : (allowed : Bool)
+      → state.pending ≡ None
+      → step code heartbeat allowed (moved_to state words beat label at)
+      ≡ Ends (ended code (Trap kind place) (advanced (moved_to state words beat label at)))
 
--- a task comes to the answer of an expression: it leaves the number in register `to` and enters the block at
--- a label, or it traps
+-- a task comes to the answer of an expression: it leaves the number in register `to` and enters the
+-- block at a label, or it traps
 abbrev pub ComesTo : Listing → ℕ → ℕ → ℕ → Answer → State → Type 0
 ComesTo code heartbeat label to (Number n) state = Leaves code heartbeat label to n state
-ComesTo code heartbeat label to (Traps kind place) state = ComesToTrap code heartbeat to kind place state
+ComesTo code heartbeat label to (Traps kind place) state =
+    ComesToTrap code heartbeat to kind place state

@@ -1,5 +1,6 @@
 -- Where the variables and tables of an expression stand.
-use Rattle.std.specs.Prelude.{ℕ, suc, Bool, false, cond, ◌||◌, IsTrue, ⊤, List, [], ◌∷◌, Vec, bytes_eq}
+use Rattle.std.specs.Prelude.{ℕ, suc, Bool, false, cond, ◌||◌, IsTrue, ⊤, List, [], ◌∷◌, Vec}
+use Rattle.std.specs.Prelude.{bytes_eq}
 use Rattle.std.specs.declared.alloc.Global.{Global}
 use Rattle.loop_syntax.specs.declared.Expr.{Expr}
 use Rattle.loop_syntax.specs.declared.Expr.TheVariants.{Int, Var, Cell', Rows, Cols, Neg', Bin'}

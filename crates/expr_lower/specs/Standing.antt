@@ -16,4 +16,5 @@ pub record Remains (code : Listing) (label at : ℕ) (instrs : List Instr) (end 
 -- these blocks stand in a code from a label on
 abbrev pub AreAt : Listing → ℕ → List Block → Type 0
 AreAt code label [] = ⊤
-AreAt code label (block ∷ blocks) = (block_at code label ≡ Some block) × AreAt code (label + 1) blocks
+AreAt code label (block ∷ blocks) =
+    (block_at code label ≡ Some block) × AreAt code (label + 1) blocks

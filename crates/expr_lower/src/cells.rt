@@ -101,7 +101,12 @@ fn push_tests_in_place(
     trap: u32,
 ) -> Result<(), NoMemory>
     requires { to ≤ 22 }
-    ensures { OnOk result (body.new.items ≡ body.old.items ++ (below_test to (to + 1) (to + 1) trap ++ (row_test table to (to + 1) trap ++ (col.now ++ (col_test table (to + 1) to trap ++ (row.now ++ col.now)))))) }
+    ensures { OnOk result
+        (body.new.items
+        ≡ body.old.items
+        ++ (below_test to (to + 1) (to + 1) trap
+        ++ (row_test table to (to + 1) trap
+        ++ (col.now ++ (col_test table (to + 1) to trap ++ (row.now ++ col.now)))))) }
 {
     push_below_test(body, to, to + 1, to + 1, trap)?;
     push_row_test(body, table, to, to + 1, trap)?;
@@ -123,7 +128,8 @@ pub fn push_cell_read(
     trap: u32,
 ) -> Result<(), NoMemory>
     requires { to ≤ 22 }
-    ensures { OnOk result (body.new.items ≡ body.old.items ++ cell_read table to row.now col.now trap) }
+    ensures { OnOk result
+        (body.new.items ≡ body.old.items ++ cell_read table to row.now col.now trap) }
 {
     body.extend_from_slice(row)?;
     body.extend_from_slice(col)?;

@@ -1,6 +1,7 @@
 // The code of an expression.
 
-ghost use Rattle.std.specs.Prelude.{◌≡◌, ℕ, ◌≤◌, ◌<◌, ◌+◌, ◌^◌, ◌++◌, ◌∷◌, [], List, length, if◌then◌else◌, IfOk, OnOk};
+ghost use Rattle.std.specs.Prelude.{◌≡◌, ℕ, ◌≤◌, ◌<◌, ◌+◌, ◌^◌, ◌++◌, ◌∷◌, [], List, length};
+ghost use Rattle.std.specs.Prelude.{if◌then◌else◌, IfOk, OnOk};
 ghost use Rattle.tp_value.specs.declared.Table.{Table};
 ghost use Rattle.loop_rules.specs.Limits.{height};
 ghost use Rattle.loop_meaning.specs.declared.value.Variable.{Variable};
@@ -8,7 +9,8 @@ ghost use Rattle.loop_meaning.specs.Expressions.{eval};
 ghost use Rattle.loop_meaning.specs.InRange.{ExprInRange};
 ghost use Rattle.tpal_syntax.specs.Listing.{Listing};
 ghost use Rattle.tpal_machine.specs.State.{State};
-ghost use Rattle.expr_lower.specs.Bodies.{can_trap, trap_block, operation, cell_read, body_of, traps_of, trap_count, blocks_of};
+ghost use Rattle.expr_lower.specs.Bodies.{can_trap, trap_block, operation, cell_read, body_of};
+ghost use Rattle.expr_lower.specs.Bodies.{traps_of, trap_count, blocks_of};
 ghost use Rattle.tp_value.specs.declared.TrapKind.TheVariants.{Divide, Index};
 ghost use Rattle.expr_lower.specs.Holding.{Holds};
 ghost use Rattle.expr_lower.specs.Leaving.{ComesTo};
@@ -59,8 +61,14 @@ fn push_cell(
 ) -> Result<(), NoMemory>
     requires registers { at.to ≤ 22 }
     requires labels { at.first + length traps.old.items < 2 ^ 32 }
-    ensures body { OnOk result (body.new.items ≡ body.old.items ++ cell_read table at.to row.now col.now (at.first + length traps.old.items)) }
-    ensures traps { OnOk result (traps.new.items ≡ traps.old.items ++ trap_block (at.first + length traps.old.items) Index name.now.place ∷ []) }
+    ensures body { OnOk result
+        (body.new.items
+        ≡ body.old.items
+        ++ cell_read table at.to row.now col.now (at.first + length traps.old.items)) }
+    ensures traps { OnOk result
+        (traps.new.items
+        ≡ traps.old.items ++ trap_block (at.first + length traps.old.items) Index name.now.place
+        ∷ []) }
     ensures count { OnOk result (length traps.new.items ≡ length traps.old.items + 1) }
 {
     let trap = at.first + traps.len() as u32;
@@ -68,8 +76,9 @@ fn push_cell(
     push_cell_read(body, table, at.to, row, col, trap)
 }
 
-// Appends the instructions of an operator behind those of its left operand, and its trap block if it
-// has one. The instructions of the right operand are given, and its number where it is a literal.
+// Appends the instructions of an operator behind those of its left operand, and its trap block if
+// it has one. The instructions of the right operand are given, and its number where it is a
+// literal.
 fn push_operator(
     alloc: Global,
     body: &mut Vec<Instr>,
@@ -82,9 +91,18 @@ fn push_operator(
 ) -> Result<(), NoMemory>
     requires registers { at.to ≤ 22 }
     requires labels { at.first + length traps.old.items < 2 ^ 32 }
-    ensures body { OnOk result (body.new.items ≡ body.old.items ++ operation op at.to right.now number (at.first + length traps.old.items)) }
-    ensures traps { OnOk result (traps.new.items ≡ traps.old.items ++ (if can_trap op number then trap_block (at.first + length traps.old.items) Divide place ∷ [] else [])) }
-    ensures count { OnOk result (length traps.new.items ≡ length traps.old.items + (if can_trap op number then 1 else 0)) }
+    ensures body { OnOk result
+        (body.new.items
+        ≡ body.old.items
+        ++ operation op at.to right.now number (at.first + length traps.old.items)) }
+    ensures traps { OnOk result
+        (traps.new.items
+        ≡ traps.old.items
+        ++ (if can_trap op number then trap_block (at.first + length traps.old.items) Divide
+        place
+        ∷ [] else [])) }
+    ensures count { OnOk result
+        (length traps.new.items ≡ length traps.old.items + (if can_trap op number then 1 else 0)) }
 {
     let trap = at.first + traps.len() as u32;
     push_operation(body, op, at.to, right, number, trap)?;
@@ -95,7 +113,8 @@ fn push_operator(
 }
 
 /// Appends to a body the instructions that leave an expression's value in register `at.to`, and its
-/// trap blocks to those that are there. The first of all these trap blocks has the label `at.first`.
+/// trap blocks to those that are there. The first of all these trap blocks has the label
+/// `at.first`.
 pub fn push_expr(
     alloc: Global,
     body: &mut Vec<Instr>,
@@ -107,8 +126,13 @@ pub fn push_expr(
     requires few_tables { length scope.now.tables.items ≤ 16 }
     requires registers { at.to + height expr.now ≤ 24 }
     requires labels { at.first + length traps.old.items + trap_count expr.now < 2 ^ 32 }
-    ensures body { OnOk result (body.new.items ≡ body.old.items ++ body_of scope.now (at.first + length traps.old.items) expr.now at.to) }
-    ensures traps { OnOk result (traps.new.items ≡ traps.old.items ++ traps_of (at.first + length traps.old.items) expr.now) }
+    ensures body { OnOk result
+        (body.new.items
+        ≡ body.old.items
+        ++ body_of scope.now (at.first + length traps.old.items) expr.now at.to) }
+    ensures traps { OnOk result
+        (traps.new.items
+        ≡ traps.old.items ++ traps_of (at.first + length traps.old.items) expr.now) }
     ensures count { OnOk result (length traps.new.items ≡ length traps.old.items + trap_count expr.now) }
     ensures literals { OnOk result (ExprInRange expr.now) }
 {
@@ -197,12 +221,15 @@ pub fn lower_expr(alloc: Global, expr: &Expr, scope: &Scope, to: u8) -> Result<V
     requires registers { to + height expr.now ≤ 24 }
     requires label { scope.now.next_label < 65536 }
     ensures blocks { IfOk result (λ blocks. blocks.items ≡ blocks_of scope.now expr.now to) }
-    ensures answer { IfOk result (λ blocks. (code : Listing) (heartbeat : ℕ) (vars : List Variable) (tables : List Table) (state : State)
+    ensures answer { IfOk result
+        (λ blocks. (code : Listing) (heartbeat : ℕ) (vars : List Variable) (tables : List Table)
+        (state : State)
         → IsIn scope.now expr.now
         → AreAt code scope.now.next_label blocks.items
         → state.block ≡ scope.now.next_label → state.at ≡ 0
         → Holds scope.now vars tables (eval vars tables expr.now).notes state
-        → ComesTo code heartbeat (scope.now.next_label + length blocks.items) to (eval vars tables expr.now).answer state) }
+        → ComesTo code heartbeat (scope.now.next_label + length blocks.items) to
+        (eval vars tables expr.now).answer state) }
 {
     let blocks = blocks_of(alloc, expr, scope, to)?;
     Ok(blocks)

@@ -1,7 +1,8 @@
-//! The code of expressions: the blocks that leave an expression's value in a register, or trap as the
-//! serial meaning traps. It stands on the trees of `loop_syntax` and on the code types of
-//! `tpal_syntax`. Contracts speak of the steps of `tpal_machine` and of the values of `loop_meaning`.
-//! Start with `expression`; `operators` and `cells` have the instructions behind those of operands.
+//! The code of expressions: the blocks that leave an expression's value in a register, or trap as
+//! the serial meaning traps. It stands on the trees of `loop_syntax` and on the code types of
+//! `tpal_syntax`. Contracts speak of the steps of `tpal_machine` and of the values of
+//! `loop_meaning`. Start with `expression`; `operators` and `cells` have the instructions behind
+//! those of operands.
 #![tactic(auto)]
 
 mod cells;

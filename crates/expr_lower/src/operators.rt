@@ -2,7 +2,8 @@
 
 ghost use Rattle.std.specs.Prelude.{◌≡◌, ◌≤◌, ◌+◌, ◌++◌, ◌∷◌, [], OnOk, IfSome};
 ghost use Rattle.loop_meaning.specs.InRange.{InRange};
-ghost use Rattle.expr_lower.specs.Bodies.{literal, may_be_zero, can_trap, calculation, turned, tested_division, division, operation};
+ghost use Rattle.expr_lower.specs.Bodies.{literal, may_be_zero, can_trap, calculation, turned};
+ghost use Rattle.expr_lower.specs.Bodies.{tested_division, division, operation};
 
 use loop_syntax::{BinOp, Expr};
 use tp_value::NoMemory;

@@ -1,4 +1,5 @@
--- The ends of tasks as numbers, as they stand in the words of records: 0 for Root, else 1 + 2 * record for the left end and 2 + 2 * record for the right end.
+-- The ends of tasks as numbers, as they stand in the words of records: 0 for Root, else 1 + 2 *
+-- record for the left end and 2 + 2 * record for the right end.
 use Rattle.std.specs.Prelude.{ℕ, ◌+◌, ◌*◌}
 use Rattle.tpal_machine.specs.declared.ends.End.{End}
 use Rattle.tpal_machine.specs.declared.ends.End.TheVariants.{Root, At}

@@ -31,7 +31,8 @@ module _ {L R C D E : Type 0} {G : Ghosts L R C D E} where
 
   -- a pass of the table that was not given up, between two calls: no slot is out with it
   abbrev pub IsPassOf : Records L R C D E → Pass L R C D E G → Type 0
-  IsPassOf t p = (p.seat.table_id ≡ t.table.shared.table_id) × (p.seat.me.1 ≡ []) × (p.seat.me.0.parts ≢ 0)
+  IsPassOf t p =
+      (p.seat.table_id ≡ t.table.shared.table_id) × (p.seat.me.1 ≡ []) × (p.seat.me.0.parts ≢ 0)
 
   -- a pass of the table, maybe with slots
   abbrev pub IsSeatOf : Records L R C D E → Pass L R C D E G → Type 0
@@ -39,7 +40,10 @@ module _ {L R C D E : Type 0} {G : Ghosts L R C D E} where
 
   -- a call left a pass the pass that it was
   abbrev pub IsSamePass : Pass L R C D E G → Pass L R C D E G → Type 0
-  IsSamePass old new = (new.seat.table_id ≡ old.seat.table_id) × (new.seat.id ≡ old.seat.id) × (new.seat.me.1 ≡ old.seat.me.1)
+  IsSamePass old new =
+      (new.seat.table_id ≡ old.seat.table_id)
+      × (new.seat.id ≡ old.seat.id)
+      × (new.seat.me.1 ≡ old.seat.me.1)
 
   -- the same, of a pass to which slots may have come
   abbrev pub IsSameSeat : Pass L R C D E G → Pass L R C D E G → Type 0
@@ -64,13 +68,26 @@ module _ {L R C D E : Type 0} {G : Ghosts L R C D E} where
 module _ {C E : Type 0} where
   -- the view of the first pass before any other was made with it
   abbrev pub root_view : E → View C E
-  root_view e = record { number = 0; parts = 16; born = None; root = Some e; ends = holds_end Root e Steady; hand = []; opens = 0; made = 0; reads = (0, 0) ∷ [] }
+  root_view e =
+      record {
+        number = 0;
+        parts = 16;
+        born = None;
+        root = Some e;
+        ends = holds_end Root e Steady;
+        hand = [];
+        opens = 0;
+        made = 0;
+        reads = (0, 0)
+            ∷ [];
+      }
 
   -- the view of a pass that is new, but for its parts, its ends and its reads
   abbrev pub IsNew : E → ℕ → View C E → Type 0
   IsNew e k v = (v.number ≡ k) × (v.root ≡ Some e) × (v.hand ≡ []) × (v.opens ≡ 0) × (v.made ≡ 0)
 
-  -- the first pass, once there are n passes: it holds Root, and has what the others left of the 16 parts
+  -- the first pass, once there are n passes: it holds Root, and has what the others left of the 16
+  -- parts
   abbrev pub RootView : E → ℕ → View C E → Type 0
   RootView e n v = (v.parts + n ≡ 17) × Holds v Root e × IsNew e 0 v
 
@@ -84,5 +101,12 @@ module _ {C E : Type 0} where
 
 module _ {L R C D E : Type 0} {G : Ghosts L R C D E} where
   -- the passes of a new table: they are n, and Root's ending is the one that `first` owes
-  abbrev pub AreNew : (C → E → Type 0) → C → ℕ → Records L R C D E → List (Pass L R C D E G) → Type 0
-  AreNew owes first n t ps = (e : E) × owes first e × (length ps ≡ n) × ((k : ℕ) (p : Pass L R C D E G) → get_elem? ps k ≡ some p → IsPassOf t p × NewView e n k (view p))
+  abbrev pub AreNew : (C → E → Type 0) → C → ℕ → Records L R C D E → List (Pass L R C D E G)
+      → Type 0
+  AreNew owes first n t ps =
+      (e : E)
+      × owes first e
+      × (length ps ≡ n)
+      × ((k : ℕ) (p : Pass L R C D E G)
+      → get_elem? ps k ≡ some p
+      → IsPassOf t p × NewView e n k (view p))

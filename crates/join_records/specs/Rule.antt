@@ -1,7 +1,10 @@
--- The rule of a table of join records: a fact over the words, the values in the slots that are home, and the views of all seats, that holds between any two steps.
--- It names who has each end and where each record is. So there is exactly one holder, and one hand, of each.
--- Word 0 is the finish word. Word k + 1 is that of record k, which has the slots 4 * k for the rest, 4 * k + 1 for the child, and the next two for the outcomes of its left and right sides.
-use Rattle.std.specs.Prelude.{◌≡◌, ◌≢◌, ℕ, suc, ◌+◌, ◌*◌, ◌<◌, List, length, Bool, true, false, cond, eqb, Option, Some, None, slice_index_or}
+-- The rule of a table of join records: a fact over the words, the values in the slots that are
+-- home, and the views of all seats, that holds between any two steps. It names who has each end and
+-- where each record is. So there is exactly one holder, and one hand, of each. Word 0 is the finish
+-- word. Word k + 1 is that of record k, which has the slots 4 * k for the rest, 4 * k + 1 for the
+-- child, and the next two for the outcomes of its left and right sides.
+use Rattle.std.specs.Prelude.{◌≡◌, ◌≢◌, ℕ, suc, ◌+◌, ◌*◌, ◌<◌, List, length, Bool, true, false}
+use Rattle.std.specs.Prelude.{cond, eqb, Option, Some, None, slice_index_or}
 use mathlib.Core.Option.{some}
 use mathlib.Core.Option as maybe
 use lib.ListN.{get_elem?}
@@ -28,7 +31,8 @@ pub record Facts (R C D E : Type 0) : Type 1 where
   pub is_ending : D → End → E → Type 0
   pub rest_owes : R → E → E → E → Type 0
 
--- who has an end: nobody, since it is not live or its child is unclaimed; a seat; or the rest of a record
+-- who has an end: nobody, since it is not live or its child is unclaimed; a seat; or the rest of a
+-- record
 pub data Holder : Type 0 where
   nobody : Holder
   seat : ℕ → Stage → Holder
@@ -40,7 +44,9 @@ pub data Progress : Type 0 where
   claimed : Progress
   arrived : Progress
 
--- where a record is: free; taken, in the hand of a seat; open, with the end that its rest keeps, whether its left side has arrived, and how far its right side is; or met, in the hand of a seat. A record in a hand says whether its slots are out with that seat
+-- where a record is: free; taken, in the hand of a seat; open, with the end that its rest keeps,
+-- whether its left side has arrived, and how far its right side is; or met, in the hand of a seat.
+-- A record in a hand says whether its slots are out with that seat
 pub data Phase : Type 0 where
   free : Phase
   taken : ℕ → Bool → Phase
@@ -110,7 +116,8 @@ NamesBelow n (taken i out) = i < n
 NamesBelow n (opened up l r) = Unit {0}
 NamesBelow n (met i out up) = i < n
 
--- what is so of record k, by the words, the slots that are home, and who has which end and what is owed there
+-- what is so of record k, by the words, the slots that are home, and who has which end and what is
+-- owed there
 module _ {R C D E : Type 0} (F : Facts R C D E) (words : List ℕ) (homes : List (maybe.Option (Option (Item R C D)))) (holder : ℕ → Holder) (ending : ℕ → E) (k : ℕ) where
   -- a slot is home and empty
   abbrev pub IsEmpty : ℕ → Type 0
@@ -118,21 +125,33 @@ module _ {R C D E : Type 0} (F : Facts R C D E) (words : List ℕ) (homes : List
 
   -- the rest is home, keeps `up`, and with the endings of both sides owes the ending there
   abbrev pub HasRest : End → Type 0
-  HasRest up = (r : R) × (get_elem? homes (4 * k) ≡ some (some (Some (Rest r)))) × F.keeps r up × F.rest_owes r (ending (left_of k)) (ending (right_of k)) (ending (code_of up))
+  HasRest up =
+      (r : R)
+      × (get_elem? homes (4 * k) ≡ some (some (Some (Rest r))))
+      × F.keeps r up
+      × F.rest_owes r (ending (left_of k)) (ending (right_of k)) (ending (code_of up))
 
   -- the child is home, has the right end and owes the ending there
   abbrev pub HasChild : Type 0
-  HasChild = (c : C) × (get_elem? homes (4 * k + 1) ≡ some (some (Some (Child c)))) × F.has_end c (At k Right) × F.owes c (ending (right_of k))
+  HasChild =
+      (c : C)
+      × (get_elem? homes (4 * k + 1) ≡ some (some (Some (Child c))))
+      × F.has_end c (At k Right)
+      × F.owes c (ending (right_of k))
 
   -- a side's outcome is home, and is the ending of its end
   abbrev pub HasSide : ℕ → End → Type 0
-  HasSide slot end = (d : D) × (get_elem? homes slot ≡ some (some (Some (Side d)))) × F.is_ending d end (ending (code_of end))
+  HasSide slot end =
+      (d : D)
+      × (get_elem? homes slot ≡ some (some (Some (Side d))))
+      × F.is_ending d end (ending (code_of end))
 
   -- an end is neither held nor kept
   abbrev pub IsDead : ℕ → Type 0
   IsDead c = kind (holder c) ≡ 0
 
-  -- a side that has not arrived: its end is held or kept, and the slot of its outcome is home and empty, unless its holder is in the middle of its arrival
+  -- a side that has not arrived: its end is held or kept, and the slot of its outcome is home and
+  -- empty, unless its holder is in the middle of its arrival
   abbrev pub Waits : ℕ → ℕ → Type 0
   Waits slot c = (kind (holder c) ≢ 0) × (kind (holder c) ≢ 3 → IsEmpty slot)
 
@@ -140,10 +159,12 @@ module _ {R C D E : Type 0} (F : Facts R C D E) (words : List ℕ) (homes : List
   LeftOk false = Waits (4 * k + 2) (left_of k)
   LeftOk true = IsDead (left_of k) × HasSide (4 * k + 2) (At k Left)
 
-  -- where the child was claimed its slot is home and empty, unless the holder of the right end is in the middle of its claim
+  -- where the child was claimed its slot is home and empty, unless the holder of the right end is
+  -- in the middle of its claim
   abbrev pub RightOk : Progress → Type 0
   RightOk unclaimed = IsDead (right_of k) × HasChild × IsEmpty (4 * k + 3)
-  RightOk claimed = Waits (4 * k + 3) (right_of k) × (kind (holder (right_of k)) ≢ 2 → IsEmpty (4 * k + 1))
+  RightOk claimed =
+      Waits (4 * k + 3) (right_of k) × (kind (holder (right_of k)) ≢ 2 → IsEmpty (4 * k + 1))
   RightOk arrived = IsDead (right_of k) × IsEmpty (4 * k + 1) × HasSide (4 * k + 3) (At k Right)
 
   -- the rest keeps the end of another record, or Root
@@ -152,20 +173,49 @@ module _ {R C D E : Type 0} (F : Facts R C D E) (words : List ℕ) (homes : List
 
   -- the table of the rule, by the phase of the record: its word, its ends, and its slots
   abbrev pub CellOk : Phase → Type 0
-  CellOk free = (slice_index_or words (k + 1) 0 ≡ 0) × (IsDead (left_of k) × IsDead (right_of k)) × (IsEmpty (4 * k) × IsEmpty (4 * k + 1) × IsEmpty (4 * k + 2) × IsEmpty (4 * k + 3))
-  CellOk (taken i out) = (slice_index_or words (k + 1) 0 ≡ 1) × (IsDead (left_of k) × IsDead (right_of k)) × ((out ≡ false → IsEmpty (4 * k) × IsEmpty (4 * k + 1)) × IsEmpty (4 * k + 2) × IsEmpty (4 * k + 3))
-  CellOk (opened up l r) = (slice_index_or words (k + 1) 0 ≡ 3 + 8 * bit l + marks r + 256 * code_of up) × (holder (code_of up) ≡ kept k) × HasRest up × LeftOk l × RightOk r × IsOther up × NotBoth r l
-  CellOk (met i out up) = (slice_index_or words (k + 1) 0 ≡ 31 + 256 * code_of up) × (holder (code_of up) ≡ seat i Steady) × (IsDead (left_of k) × IsDead (right_of k)) × ((out ≡ false → IsEmpty (4 * k) × IsEmpty (4 * k + 2) × IsEmpty (4 * k + 3)) × IsEmpty (4 * k + 1))
+  CellOk free =
+      (slice_index_or words (k + 1) 0 ≡ 0)
+      × (IsDead (left_of k) × IsDead (right_of k))
+      × (IsEmpty (4 * k) × IsEmpty (4 * k + 1) × IsEmpty (4 * k + 2) × IsEmpty (4 * k + 3))
+  CellOk (taken i out) =
+      (slice_index_or words (k + 1) 0 ≡ 1)
+      × (IsDead (left_of k) × IsDead (right_of k))
+      × ((out ≡ false → IsEmpty (4 * k) × IsEmpty (4 * k + 1))
+      × IsEmpty (4 * k + 2)
+      × IsEmpty (4 * k + 3))
+  CellOk (opened up l r) =
+      (slice_index_or words (k + 1) 0 ≡ 3 + 8 * bit l + marks r + 256 * code_of up)
+      × (holder (code_of up) ≡ kept k)
+      × HasRest up
+      × LeftOk l
+      × RightOk r
+      × IsOther up
+      × NotBoth r l
+  CellOk (met i out up) =
+      (slice_index_or words (k + 1) 0 ≡ 31 + 256 * code_of up)
+      × (holder (code_of up) ≡ seat i Steady)
+      × (IsDead (left_of k) × IsDead (right_of k))
+      × ((out ≡ false → IsEmpty (4 * k) × IsEmpty (4 * k + 2) × IsEmpty (4 * k + 3))
+      × IsEmpty (4 * k + 1))
 
 module _ {C E : Type 0} where
   -- the finish word, how many views made the finish, and whether Root is held or kept
   abbrev pub EraOk : List ℕ → List (View C E) → (ℕ → Holder) → Era → Type 0
-  EraOk words views holder unborn = (slice_index_or words 0 0 ≡ 0) × (total (λ v. v.made) views ≡ 0) × (kind (holder 0) ≡ 0) × (length views ≡ 1)
-  EraOk words views holder running = (slice_index_or words 0 0 ≡ 0) × (total (λ v. v.made) views ≡ 0) × (kind (holder 0) ≢ 0)
-  EraOk words views holder finished = (slice_index_or words 0 0 ≡ 1) × (total (λ v. v.made) views ≡ 1) × (kind (holder 0) ≡ 0)
+  EraOk words views holder unborn =
+      (slice_index_or words 0 0 ≡ 0)
+      × (total (λ v. v.made) views ≡ 0)
+      × (kind (holder 0) ≡ 0)
+      × (length views ≡ 1)
+  EraOk words views holder running =
+      (slice_index_or words 0 0 ≡ 0) × (total (λ v. v.made) views ≡ 0) × (kind (holder 0) ≢ 0)
+  EraOk words views holder finished =
+      (slice_index_or words 0 0 ≡ 1) × (total (λ v. v.made) views ≡ 1) × (kind (holder 0) ≡ 0)
 
--- what seat j knows is so: the ends that it holds and the records in its hand are just those that name it, a finish that it saw was made, and Root's ending is the one of all. A seat with no part was joined away, and knows nothing
-pub record SeatOk {C E : Type 0} (born : C) (words : List ℕ) (era : Era) (root : E) (cells : ℕ → Phase) (holder : ℕ → Holder) (ending : ℕ → E) (j : ℕ) (v : View C E) : Type 0 where
+-- what seat j knows is so: the ends that it holds and the records in its hand are just those that
+-- name it, a finish that it saw was made, and Root's ending is the one of all. A seat with no part
+-- was joined away, and knows nothing
+pub record SeatOk {C E : Type 0} (born : C) (words : List ℕ) (era : Era) (root : E)
+    (cells : ℕ → Phase) (holder : ℕ → Holder) (ending : ℕ → E) (j : ℕ) (v : View C E) : Type 0 where
   pub ends : (c : ℕ) → find v.ends c ≡ held_of j (holder c) (ending c)
   pub hand : (k : ℕ) → in_hand v.hand k ≡ hand_of j (cells k)
   pub told : saw_finish v.reads ≡ true → slice_index_or words 0 0 ≡ 1
@@ -173,7 +223,8 @@ pub record SeatOk {C E : Type 0} (born : C) (words : List ℕ) (era : Era) (root
   pub idle : v.parts ≡ 0 → v ≡ spent
 
 -- the rule. `born` is the child whose ending is Root's
-pub record Kept {R C D E : Type 0} (F : Facts R C D E) (born : C) (s : State (Option (Item R C D)) (View C E)) : Type 0 where
+pub record Kept {R C D E : Type 0} (F : Facts R C D E) (born : C)
+    (s : State (Option (Item R C D)) (View C E)) : Type 0 where
   -- how many records there are
   pub count : ℕ
   pub root : E
@@ -189,7 +240,9 @@ pub record Kept {R C D E : Type 0} (F : Facts R C D E) (born : C) (s : State (Op
   pub era_ok : EraOk s.words s.views holder era
   pub root_is : ending 0 ≡ root
   pub each_cell : (k : ℕ) → k < count → CellOk F s.words s.homes holder ending k (cells k)
-  pub each_seat : (j : ℕ) (v : View C E) → get_elem? s.views j ≡ some v → SeatOk born s.words era root cells holder ending j v
+  pub each_seat : (j : ℕ) (v : View C E)
+      → get_elem? s.views j ≡ some v
+      → SeatOk born s.words era root cells holder ending j v
   -- only the rest of an open record keeps an end, and only that one
   pub keeps_end : (c k : ℕ) → holder c ≡ kept k → (k < count) × KeepsEnd c (cells k)
   pub seated : (c j : ℕ) (m : Stage) → holder c ≡ seat j m → j < length s.views

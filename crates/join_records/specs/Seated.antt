@@ -13,6 +13,7 @@ module _ {L R C D : Type 0} {G : Ghosts L R C D ℕ} where
   HoldsJust None p = HoldsNothing (view p)
   HoldsJust (Some end) p = Holds (view p) end 0
 
-  -- the pass is one of the table, holds this end alone, or nothing, and no record in its hand is met
+  -- the pass is one of the table, holds this end alone, or nothing, and no record in its hand is
+  -- met
   abbrev pub Sits : Records L R C D ℕ → Option End → Pass L R C D ℕ G → Type 0
   Sits t end p = IsPassOf t p × HoldsJust end p × NoneMet (view p)

@@ -1,5 +1,6 @@
 -- What a pass knows, and how it changes.
-use Rattle.std.specs.Prelude.{◌≡◌, ◌≢◌, ℕ, ◌+◌, ◌-◌, List, [], ◌∷◌, ◌++◌, Bool, false, cond, eqb, ◌&&◌, ◌||◌, Option, Some, None}
+use Rattle.std.specs.Prelude.{◌≡◌, ◌≢◌, ℕ, ◌+◌, ◌-◌, List, [], ◌∷◌, ◌++◌, Bool, false, cond, eqb}
+use Rattle.std.specs.Prelude.{◌&&◌, ◌||◌, Option, Some, None}
 use Rattle.tpal_machine.specs.declared.ends.End.{End}
 use Rattle.tpal_machine.specs.declared.ends.End.TheVariants.{Root, At}
 use Rattle.tpal_machine.specs.declared.ends.SideName.TheVariants.{Left}
@@ -57,48 +58,190 @@ module _ {C E : Type 0} where
 
   -- no record in hand is met
   abbrev pub NoneMet : View C E → Type 0
-  NoneMet v = (k : ℕ) (up : End) → (in_hand v.hand k ≢ Some (Emptied up)) × (in_hand v.hand k ≢ Some (Emptying up))
+  NoneMet v =
+      (k : ℕ) (up : End)
+      → (in_hand v.hand k ≢ Some (Emptied up)) × (in_hand v.hand k ≢ Some (Emptying up))
 
   -- the view of the first seat: Root's ending is that of its child
   abbrev pub blank : C → View C E
-  blank c = record { number = 0; parts = 16; born = Some c; root = None; ends = []; hand = []; opens = 0; made = 0; reads = [] }
+  blank c =
+      record {
+        number = 0;
+        parts = 16;
+        born = Some c;
+        root = None;
+        ends = [];
+        hand = [];
+        opens = 0;
+        made = 0;
+        reads = [];
+      }
 
   -- the view of a seat that was joined away
   abbrev pub spent : View C E
-  spent = record { number = 0; parts = 0; born = None; root = None; ends = []; hand = []; opens = 0; made = 0; reads = [] }
+  spent =
+      record {
+        number = 0;
+        parts = 0;
+        born = None;
+        root = None;
+        ends = [];
+        hand = [];
+        opens = 0;
+        made = 0;
+        reads = [];
+      }
 
   -- word i was read, and x was found
   abbrev pub read : View C E → ℕ → ℕ → View C E
-  read v i x = record { number = v.number; parts = v.parts; born = v.born; root = v.root; ends = v.ends; hand = v.hand; opens = v.opens; made = v.made; reads = v.reads ++ (i, x) ∷ [] }
+  read v i x =
+      record {
+        number = v.number;
+        parts = v.parts;
+        born = v.born;
+        root = v.root;
+        ends = v.ends;
+        hand
+            = v.hand;
+        opens = v.opens;
+        made = v.made;
+        reads = v.reads
+            ++ (i, x) ∷ [];
+      }
 
   -- the first seat holds Root, with its ending
   abbrev pub rooted_at : View C E → E → View C E
-  rooted_at v e = record { number = v.number; parts = v.parts; born = None; root = Some e; ends = holds_end Root e Steady; hand = v.hand; opens = v.opens; made = v.made; reads = v.reads }
+  rooted_at v e =
+      record {
+        number = v.number;
+        parts = v.parts;
+        born = None;
+        root = Some e;
+        ends = holds_end Root
+            e Steady;
+        hand = v.hand;
+        opens = v.opens;
+        made = v.made;
+        reads = v.reads;
+      }
 
   abbrev pub with_hand : View C E → List (ℕ × Grip) → View C E
-  with_hand v h = record { number = v.number; parts = v.parts; born = v.born; root = v.root; ends = v.ends; hand = h; opens = v.opens; made = v.made; reads = v.reads }
+  with_hand v h =
+      record {
+        number = v.number;
+        parts = v.parts;
+        born = v.born;
+        root = v.root;
+        ends = v.ends;
+        hand
+            = h;
+        opens = v.opens;
+        made = v.made;
+        reads = v.reads;
+      }
 
   abbrev pub with_ends : View C E → List (Holding E) → View C E
-  with_ends v es = record { number = v.number; parts = v.parts; born = v.born; root = v.root; ends = es; hand = v.hand; opens = v.opens; made = v.made; reads = v.reads }
+  with_ends v es =
+      record {
+        number = v.number;
+        parts = v.parts;
+        born = v.born;
+        root = v.root;
+        ends = es;
+        hand =
+            v.hand;
+        opens = v.opens;
+        made = v.made;
+        reads = v.reads;
+      }
 
   abbrev pub one_opened : View C E → View C E
-  one_opened v = record { number = v.number; parts = v.parts; born = v.born; root = v.root; ends = v.ends; hand = v.hand; opens = v.opens + 1; made = v.made; reads = v.reads }
+  one_opened v =
+      record {
+        number = v.number;
+        parts = v.parts;
+        born = v.born;
+        root = v.root;
+        ends = v.ends;
+        hand
+            = v.hand;
+        opens = v.opens
+            + 1;
+        made = v.made;
+        reads = v.reads;
+      }
 
   abbrev pub one_made : View C E → View C E
-  one_made v = record { number = v.number; parts = v.parts; born = v.born; root = v.root; ends = v.ends; hand = v.hand; opens = v.opens; made = v.made + 1; reads = v.reads }
+  one_made v =
+      record {
+        number = v.number;
+        parts = v.parts;
+        born = v.born;
+        root = v.root;
+        ends = v.ends;
+        hand
+            = v.hand;
+        opens = v.opens;
+        made = v.made
+            + 1;
+        reads = v.reads;
+      }
 
   -- a new seat, with one part of the seat that is split
   abbrev pub fresh : View C E → View C E
-  fresh v = record { number = 17 - v.parts; parts = 1; born = None; root = v.root; ends = []; hand = []; opens = 0; made = 0; reads = [] }
+  fresh v =
+      record {
+        number = 17
+            - v.parts;
+        parts = 1;
+        born = None;
+        root = v.root;
+        ends = [];
+        hand = [];
+        opens = 0;
+        made = 0;
+        reads = [];
+      }
 
   -- and what that one has left. The finish word is 0, since it holds Root
   abbrev pub split_left : View C E → View C E
-  split_left v = record { number = v.number; parts = v.parts - 1; born = v.born; root = v.root; ends = v.ends; hand = v.hand; opens = v.opens; made = v.made; reads = v.reads ++ (0, 0) ∷ [] }
+  split_left v =
+      record {
+        number = v.number;
+        parts = v.parts
+            - 1;
+        born = v.born;
+        root = v.root;
+        ends = v.ends;
+        hand = v.hand;
+        opens = v.opens;
+        made =
+            v.made;
+        reads = v.reads
+            ++ (0, 0) ∷ [];
+      }
 
   -- two seats as one. What the step itself reads isn't told
   abbrev pub both_of : View C E → View C E → View C E
-  both_of v w = record { number = v.number; parts = v.parts + w.parts; born = v.born; root = v.root; ends = v.ends ++ w.ends; hand = v.hand ++ w.hand; opens = v.opens + w.opens; made = v.made + w.made; reads = v.reads ++ w.reads }
+  both_of v w =
+      record {
+        number = v.number;
+        parts = v.parts
+            + w.parts;
+        born = v.born;
+        root = v.root;
+        ends = v.ends
+            ++ w.ends;
+        hand = v.hand
+            ++ w.hand;
+        opens = v.opens + w.opens;
+        made = v.made + w.made;
+        reads = v.reads ++ w.reads;
+      }
 
   -- record k was opened, and `e` is owed at its left end
   abbrev pub opened_view : View C E → ℕ → E → View C E
-  opened_view v k e = one_opened (with_ends (with_hand (read v (k + 1) 1) (drop_record k v.hand)) (holds_end (At k Left) e Steady))
+  opened_view v k e =
+      one_opened
+      (with_ends (with_hand (read v (k + 1) 1) (drop_record k v.hand))
+      (holds_end (At k Left) e Steady))

@@ -1,4 +1,6 @@
--- The words of records. Bit 0 is taken, bit 1 open, bit 2 claimed, bit 3 left arrived and bit 4 right arrived; from bit 8 on stands the code of the end that the rest keeps. Word 0 is the finish word, and word 1 + k that of record k.
+-- The words of records. Bit 0 is taken, bit 1 open, bit 2 claimed, bit 3 left arrived and bit 4
+-- right arrived; from bit 8 on stands the code of the end that the rest keeps. Word 0 is the finish
+-- word, and word 1 + k that of record k.
 use Rattle.std.specs.Prelude.{◌≡◌, ℕ, ◌/◌, ◌%◌, Bool, true, false}
 use Rattle.tpal_machine.specs.declared.ends.SideName.{SideName}
 use Rattle.tpal_machine.specs.declared.ends.SideName.TheVariants.{Left, Right}

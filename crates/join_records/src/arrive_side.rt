@@ -8,9 +8,11 @@ ghost use Rattle.join_records.specs.declared.slot.Item.TheVariants.{Rest, Side};
 ghost use Rattle.join_records.specs.declared.views.Grip.{Grip};
 ghost use Rattle.join_records.specs.declared.views.Grip.TheVariants.{Emptying, Emptied};
 ghost use Rattle.join_records.specs.declared.views.Stage.TheVariants.{Steady, Arriving};
-ghost use Rattle.join_records.specs.Views.{drop_record, Holds, holds_end, NoneMet, read, with_ends, with_hand};
+ghost use Rattle.join_records.specs.Views.{drop_record, Holds, holds_end, NoneMet, read, with_ends};
+ghost use Rattle.join_records.specs.Views.{with_hand};
 ghost use Rattle.join_records.specs.Steps.{arrived_at};
-ghost use Rattle.join_records.specs.Passes.{IsPassOf, IsSamePass, IsSameSeat, IsSeatOf, record_count, view};
+ghost use Rattle.join_records.specs.Passes.{IsPassOf, IsSamePass, IsSameSeat, IsSeatOf};
+ghost use Rattle.join_records.specs.Passes.{record_count, view};
 ghost use Rattle.join_records.specs.Answers.{Arrives};
 
 use crate::load::Load;
@@ -27,7 +29,11 @@ impl<L: Load> Records<L> {
         requires number { k < record_count self.now }
         requires end { NoneMet (view pass.old) × ((e : L.Ending) × Holds (view pass.old) (At k Left) e) }
         ensures slot { pass.new.seat.me.1 ≡ (4 * k + 2, Some (Side out)) ∷ [] }
-        ensures seen { (x : ℕ) × ((e : L.Ending) → Holds (view pass.old) (At k Left) e → view pass.new ≡ with_ends (read (view pass.old) (k + 1) x) (holds_end (At k Left) e Arriving)) }
+        ensures seen { (x : ℕ)
+            × ((e : L.Ending)
+            → Holds (view pass.old) (At k Left) e
+            → view pass.new
+            ≡ with_ends (read (view pass.old) (k + 1) x) (holds_end (At k Left) e Arriving)) }
         ensures pass { IsSameSeat pass.old pass.new }
     {
         let seat = &mut pass.seat;
@@ -44,8 +50,16 @@ impl<L: Load> Records<L> {
     fn hit_left(&self, pass: &mut Pass<L>, k: u32) -> u64
         requires table { IsSeatOf self.now pass.old }
         requires number { k < record_count self.now }
-        requires end { NoneMet (view pass.old) × ((e : L.Ending) × (d : L.Side) × ((view pass.old).ends ≡ holds_end (At k Left) e Arriving) × (pass.old.seat.me.1 ≡ (4 * k + 2, Some (Side d)) ∷ []) × L.is_ending d (At k Left) e) }
-        ensures hit { (e : L.Ending) → (view pass.old).ends ≡ holds_end (At k Left) e Arriving → arrived_at L.keeps L.rest_owes L.is_ending Left pass.old.seat.me result pass.new.seat.me k e }
+        requires end { NoneMet (view pass.old)
+            × ((e : L.Ending)
+            × (d : L.Side)
+            × ((view pass.old).ends ≡ holds_end (At k Left) e Arriving)
+            × (pass.old.seat.me.1 ≡ (4 * k + 2, Some (Side d)) ∷ [])
+            × L.is_ending d (At k Left) e) }
+        ensures hit { (e : L.Ending)
+            → (view pass.old).ends ≡ holds_end (At k Left) e Arriving
+            → arrived_at L.keeps L.rest_owes L.is_ending Left pass.old.seat.me result
+            pass.new.seat.me k e }
         ensures pass { IsSameSeat pass.old pass.new }
     {
         let seat = &mut pass.seat;
@@ -60,7 +74,12 @@ impl<L: Load> Records<L> {
         requires number { k < record_count self.now }
         requires end { NoneMet (view pass.old) × ((e : L.Ending) × Holds (view pass.old) (At k Right) e) }
         ensures slot { pass.new.seat.me.1 ≡ (4 * k + 3, Some (Side out)) ∷ [] }
-        ensures seen { (x : ℕ) × ((e : L.Ending) → Holds (view pass.old) (At k Right) e → view pass.new ≡ with_ends (read (view pass.old) (k + 1) x) (holds_end (At k Right) e Arriving)) }
+        ensures seen { (x : ℕ)
+            × ((e : L.Ending)
+            → Holds (view pass.old) (At k Right) e
+            → view pass.new
+            ≡ with_ends (read (view pass.old) (k + 1) x)
+            (holds_end (At k Right) e Arriving)) }
         ensures pass { IsSameSeat pass.old pass.new }
     {
         let seat = &mut pass.seat;
@@ -77,8 +96,16 @@ impl<L: Load> Records<L> {
     fn hit_right(&self, pass: &mut Pass<L>, k: u32) -> u64
         requires table { IsSeatOf self.now pass.old }
         requires number { k < record_count self.now }
-        requires end { NoneMet (view pass.old) × ((e : L.Ending) × (d : L.Side) × ((view pass.old).ends ≡ holds_end (At k Right) e Arriving) × (pass.old.seat.me.1 ≡ (4 * k + 3, Some (Side d)) ∷ []) × L.is_ending d (At k Right) e) }
-        ensures hit { (e : L.Ending) → (view pass.old).ends ≡ holds_end (At k Right) e Arriving → arrived_at L.keeps L.rest_owes L.is_ending Right pass.old.seat.me result pass.new.seat.me k e }
+        requires end { NoneMet (view pass.old)
+            × ((e : L.Ending)
+            × (d : L.Side)
+            × ((view pass.old).ends ≡ holds_end (At k Right) e Arriving)
+            × (pass.old.seat.me.1 ≡ (4 * k + 3, Some (Side d)) ∷ [])
+            × L.is_ending d (At k Right) e) }
+        ensures hit { (e : L.Ending)
+            → (view pass.old).ends ≡ holds_end (At k Right) e Arriving
+            → arrived_at L.keeps L.rest_owes L.is_ending Right pass.old.seat.me result
+            pass.new.seat.me k e }
         ensures pass { IsSameSeat pass.old pass.new }
     {
         let seat = &mut pass.seat;
@@ -87,15 +114,29 @@ impl<L: Load> Records<L> {
             .fetch_or::<RightArrived<L>>(seat, k as usize + 1, RIGHT_ARRIVED)
     }
 
-    // Takes the rest, and the outcomes in the slots `a` and `b`, out of a met record. The slots go home.
+    // Takes the rest, and the outcomes in the slots `a` and `b`, out of a met record. The slots go
+    // home.
     fn collect(&self, pass: &mut Pass<L>, k: u32, a: usize, b: usize) -> (L::Rest, L::Side, L::Side)
         requires table { IsSeatOf self.now pass.old }
         requires number { k < record_count self.now }
-        requires hand { (up : End) × (h : List (ℕ × Grip)) × ((view pass.old).hand ≡ (k, Emptying up) ∷ drop_record k h) }
+        requires hand { (up : End)
+            × (h : List (ℕ × Grip))
+            × ((view pass.old).hand ≡ (k, Emptying up) ∷ drop_record k h) }
         requires places { ((a ≡ 4 * k + 2) × (b ≡ 4 * k + 3)) ⊎ ((a ≡ 4 * k + 3) × (b ≡ 4 * k + 2)) }
-        requires slots { (r : L.Rest) × (o : L.Side) × (d : L.Side) × (pass.old.seat.me.1 ≡ (4 * k, Some (Rest r)) ∷ (a, Some (Side o)) ∷ (b, Some (Side d)) ∷ []) }
-        ensures values { pass.old.seat.me.1 ≡ (4 * k, Some (Rest result.0)) ∷ (a, Some (Side result.1)) ∷ (b, Some (Side result.2)) ∷ [] }
-        ensures seen { (x : ℕ) × ((up : End) (h : List (ℕ × Grip)) → (view pass.old).hand ≡ (k, Emptying up) ∷ drop_record k h → view pass.new ≡ with_hand (read (view pass.old) (k + 1) x) ((k, Emptied up) ∷ drop_record k h)) }
+        requires slots { (r : L.Rest)
+            × (o : L.Side)
+            × (d : L.Side)
+            × (pass.old.seat.me.1
+            ≡ (4 * k, Some (Rest r)) ∷ (a, Some (Side o)) ∷ (b, Some (Side d)) ∷ []) }
+        ensures values { pass.old.seat.me.1
+            ≡ (4 * k, Some (Rest result.0)) ∷ (a, Some (Side result.1))
+            ∷ (b, Some (Side result.2)) ∷ [] }
+        ensures seen { (x : ℕ)
+            × ((up : End) (h : List (ℕ × Grip))
+            → (view pass.old).hand ≡ (k, Emptying up) ∷ drop_record k h
+            → view pass.new
+            ≡ with_hand (read (view pass.old) (k + 1) x)
+            ((k, Emptied up) ∷ drop_record k h)) }
         ensures pass { IsSameSeat pass.old pass.new × (pass.new.seat.me.1 ≡ []) }
     {
         let seat = &mut pass.seat;
@@ -113,8 +154,14 @@ impl<L: Load> Records<L> {
     fn arrive_left(&self, pass: &mut Pass<L>, rec: u32, out: L::Side) -> Arrival<L>
         requires table { IsPassOf self.now pass.old }
         requires number { rec < record_count self.now }
-        requires end { NoneMet (view pass.old) × ((e : L.Ending) × Holds (view pass.old) (At rec Left) e × L.is_ending out (At rec Left) e) }
-        ensures arrived { (e : L.Ending) → Holds (view pass.old) (At rec Left) e → Arrives L.keeps L.rest_owes L.is_ending Left out (view pass.old) rec e result (view pass.new) }
+        requires end { NoneMet (view pass.old)
+            × ((e : L.Ending)
+            × Holds (view pass.old) (At rec Left) e
+            × L.is_ending out (At rec Left) e) }
+        ensures arrived { (e : L.Ending)
+            → Holds (view pass.old) (At rec Left) e
+            → Arrives L.keeps L.rest_owes L.is_ending Left out (view pass.old) rec e result
+            (view pass.new) }
         ensures pass { IsSamePass pass.old pass.new }
     {
         self.put_left(pass, rec, out);
@@ -135,8 +182,14 @@ impl<L: Load> Records<L> {
     fn arrive_right(&self, pass: &mut Pass<L>, rec: u32, out: L::Side) -> Arrival<L>
         requires table { IsPassOf self.now pass.old }
         requires number { rec < record_count self.now }
-        requires end { NoneMet (view pass.old) × ((e : L.Ending) × Holds (view pass.old) (At rec Right) e × L.is_ending out (At rec Right) e) }
-        ensures arrived { (e : L.Ending) → Holds (view pass.old) (At rec Right) e → Arrives L.keeps L.rest_owes L.is_ending Right out (view pass.old) rec e result (view pass.new) }
+        requires end { NoneMet (view pass.old)
+            × ((e : L.Ending)
+            × Holds (view pass.old) (At rec Right) e
+            × L.is_ending out (At rec Right) e) }
+        ensures arrived { (e : L.Ending)
+            → Holds (view pass.old) (At rec Right) e
+            → Arrives L.keeps L.rest_owes L.is_ending Right out (view pass.old) rec e result
+            (view pass.new) }
         ensures pass { IsSamePass pass.old pass.new }
     {
         self.put_right(pass, rec, out);
@@ -154,16 +207,22 @@ impl<L: Load> Records<L> {
         }
     }
 
-    /// A side arrives with its outcome at a record whose end the pass holds. `First` comes exactly where
-    /// the word that the arriving step reads lacks the other side's bit: the outcome stays there, and
-    /// the pass holds no end. `Second` hands out the rest and both outcomes of this opening: the pass
-    /// holds the end that the rest keeps, and has the record in hand as met until it frees it.
+    /// A side arrives with its outcome at a record whose end the pass holds. `First` comes exactly
+    /// where the word that the arriving step reads lacks the other side's bit: the outcome stays
+    /// there, and the pass holds no end. `Second` hands out the rest and both outcomes of this
+    /// opening: the pass holds the end that the rest keeps, and has the record in hand as met until
+    /// it frees it.
     pub fn arrive(&self, pass: &mut Pass<L>, rec: u32, side: SideName, out: L::Side) -> Arrival<L>
         requires table { IsPassOf self.now pass.old }
         requires number { rec < record_count self.now }
-        requires end { (e : L.Ending) × Holds (view pass.old) (At rec side) e × L.is_ending out (At rec side) e }
+        requires end { (e : L.Ending)
+            × Holds (view pass.old) (At rec side) e
+            × L.is_ending out (At rec side) e }
         requires none_met { NoneMet (view pass.old) }
-        ensures arrived { (e : L.Ending) → Holds (view pass.old) (At rec side) e → Arrives L.keeps L.rest_owes L.is_ending side out (view pass.old) rec e result (view pass.new) }
+        ensures arrived { (e : L.Ending)
+            → Holds (view pass.old) (At rec side) e
+            → Arrives L.keeps L.rest_owes L.is_ending side out (view pass.old) rec e result
+            (view pass.new) }
         ensures pass { IsSamePass pass.old pass.new }
     {
         match side {

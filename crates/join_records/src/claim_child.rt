@@ -21,9 +21,14 @@ impl<L: Load> Records<L> {
         requires number { k < record_count self.now }
         requires word { IsClaimable found }
         requires endless { HoldsNothing (view pass.old) }
-        ensures claimed { IfOk result (λ child. (e : L.Ending) × (again : ℕ) × L.owes child e × (view pass.new ≡ claimed_view (view pass.old) k found again e)) }
+        ensures claimed { IfOk result
+            (λ child. (e : L.Ending)
+            × (again : ℕ)
+            × L.owes child e
+            × (view pass.new ≡ claimed_view (view pass.old) k found again e)) }
         ensures end { IfOk result (λ child. L.has_end child (At k Right)) }
-        ensures changed { IfErr result (λ now. (now ≢ found) × (view pass.new ≡ read (view pass.old) (k + 1) now)) }
+        ensures changed { IfErr result
+            (λ now. (now ≢ found) × (view pass.new ≡ read (view pass.old) (k + 1) now)) }
         ensures pass { IsSamePass pass.old pass.new }
     {
         let seat = &mut pass.seat;
@@ -40,9 +45,9 @@ impl<L: Load> Records<L> {
         Ok(child_in(item))
     }
 
-    /// Claims the child of a record, for a pass that holds no end. It then holds the record's right end.
-    /// None comes only where the record's word was read in this call as not open or as claimed, or
-    /// three times, each time with another value than the time before.
+    /// Claims the child of a record, for a pass that holds no end. It then holds the record's right
+    /// end. None comes only where the record's word was read in this call as not open or as
+    /// claimed, or three times, each time with another value than the time before.
     pub fn claim(&self, pass: &mut Pass<L>, rec: u32) -> Option<L::Child>
         requires table { IsPassOf self.now pass.old }
         requires number { rec < record_count self.now }

@@ -17,8 +17,9 @@ impl<L: Load> Pass<L> {
 }
 
 impl<L: Load> Records<L> {
-    /// Ends a table, once all its passes are back. The opens are those of all passes together. It is
-    /// finished exactly where one of them made the finish, and exactly one did where any read it.
+    /// Ends a table, once all its passes are back. The opens are those of all passes together. It
+    /// is finished exactly where one of them made the finish, and exactly one did where any read
+    /// it.
     pub fn close(self, mut passes: Vec<Pass<L>>) -> Closed
         requires table { ArePassesOf self passes.items }
         requires all { parts_in passes.items ≡ 16 }

@@ -53,7 +53,9 @@ impl<L: Load> Records<L> {
     fn take(&self, pass: &mut Pass<L>, k: u32) -> bool
         requires table { IsPassOf self.now pass.old }
         requires number { k < record_count self.now }
-        ensures taken { MatchBool result ((view pass.new ≡ reserved_view (view pass.old) k) × HoldsNoSide (view pass.old) k) ((x : ℕ) × (x ≢ 0) × (view pass.new ≡ read (view pass.old) (k + 1) x)) }
+        ensures taken { MatchBool result
+            ((view pass.new ≡ reserved_view (view pass.old) k) × HoldsNoSide (view pass.old) k)
+            ((x : ℕ) × (x ≢ 0) × (view pass.new ≡ read (view pass.old) (k + 1) x)) }
         ensures pass { IsSamePass pass.old pass.new }
     {
         let seat = &mut pass.seat;
@@ -68,7 +70,9 @@ impl<L: Load> Records<L> {
     fn try_take(&self, pass: &mut Pass<L>, k: u32) -> bool
         requires table { IsPassOf self.now pass.old }
         requires number { k < record_count self.now }
-        ensures taken { MatchBool result (FoundFree (view pass.old) k (view pass.new) × HoldsNoSide (view pass.old) k) (NoneFree k (k + 1) (view pass.old) (view pass.new)) }
+        ensures taken { MatchBool result
+            (FoundFree (view pass.old) k (view pass.new) × HoldsNoSide (view pass.old) k)
+            (NoneFree k (k + 1) (view pass.old) (view pass.new)) }
         ensures pass { IsSamePass pass.old pass.new }
     {
         if self.read_word(pass, k) != 0 {
@@ -81,7 +85,10 @@ impl<L: Load> Records<L> {
     fn find_between(&self, pass: &mut Pass<L>, from: u32, to: u32) -> Option<Taken>
         requires table { IsPassOf self.now pass.old }
         requires numbers { (from ≤ to) × (to ≤ record_count self.now) }
-        ensures found { IfSome result (λ taken. FoundFree (view pass.old) (taken_number taken) (view pass.new) × HoldsNoSide (view pass.old) (taken_number taken) × (taken_number taken < record_count self.now)) }
+        ensures found { IfSome result
+            (λ taken. FoundFree (view pass.old) (taken_number taken) (view pass.new)
+            × HoldsNoSide (view pass.old) (taken_number taken)
+            × (taken_number taken < record_count self.now)) }
         ensures none { IfNone result (NoneFree from to (view pass.old) (view pass.new)) }
         ensures pass { IsSamePass pass.old pass.new }
     {
@@ -98,7 +105,8 @@ impl<L: Load> Records<L> {
     /// read in this call as not free. The search begins where this pass last found one.
     pub fn find_free(&self, pass: &mut Pass<L>) -> Option<Taken>
         requires table { IsPassOf self.now pass.old }
-        ensures found { IfSome result (λ taken. FoundFree (view pass.old) (taken_number taken) (view pass.new)) }
+        ensures found { IfSome result
+            (λ taken. FoundFree (view pass.old) (taken_number taken) (view pass.new)) }
         ensures number { IfSome result (λ taken. taken_number taken < record_count self.now) }
         ensures apart { IfSome result (λ taken. HoldsNoSide (view pass.old) (taken_number taken)) }
         ensures none { IfNone result (NoneFree 0 (record_count self.now) (view pass.old) (view pass.new)) }

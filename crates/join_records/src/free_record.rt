@@ -4,7 +4,8 @@ ghost use Rattle.std.specs.Prelude.{◌≡◌, ℕ, ◌+◌, ◌*◌, ◌<◌, [
 ghost use Rattle.tpal_machine.specs.declared.ends.End.{End};
 ghost use Rattle.tpal_machine.specs.declared.ends.End.TheVariants.{Root};
 ghost use Rattle.join_records.specs.Ends.{code_of};
-ghost use Rattle.join_records.specs.Views.{drop_record, HasMet, Holds, NoneMet, one_made, read, with_ends, with_hand};
+ghost use Rattle.join_records.specs.Views.{drop_record, HasMet, Holds, NoneMet, one_made, read};
+ghost use Rattle.join_records.specs.Views.{with_ends, with_hand};
 ghost use Rattle.join_records.specs.Passes.{IsPassOf, IsSamePass, met_number, record_count, view};
 
 use crate::load::Load;
@@ -38,7 +39,11 @@ impl<L: Load> Records<L> {
         requires table { IsPassOf self.now pass.old }
         requires number { met_number met < record_count self.now }
         requires hand { (up : End) × HasMet (view pass.old) (met_number met) up }
-        ensures freed { (x : ℕ) × (view pass.new ≡ with_hand (read (read (view pass.old) (met_number met + 1) x) (met_number met + 1) x) (drop_record (met_number met) (view pass.old).hand)) }
+        ensures freed { (x : ℕ)
+            × (view pass.new
+            ≡ with_hand
+            (read (read (view pass.old) (met_number met + 1) x) (met_number met + 1) x)
+            (drop_record (met_number met) (view pass.old).hand)) }
         ensures pass { IsSamePass pass.old pass.new }
     {
         let k = met.number;

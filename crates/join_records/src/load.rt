@@ -1,7 +1,7 @@
 // What a pool puts into records.
 
-/// What lies in records, and what is known of it. A type that implements it has no functions: the facts
-/// are relations that contracts speak of, and the laws are what the pool must prove of them.
+/// What lies in records, and what is known of it. A type that implements it has no functions: the
+/// facts are relations that contracts speak of, and the laws are what the pool must prove of them.
 pub trait Load {
     ghost use Rattle.std.specs.Prelude.{◌≡◌};
     ghost use Rattle.tpal_machine.specs.declared.ends.End.{End};
@@ -30,15 +30,16 @@ pub trait Load {
     /// Whether a side that arrives at this end is this ending.
     ghost is_ending: { Self.Side → End → Self.Ending → Type 0 };
 
-    /// Whether a rest owes the last of these endings, where the first two are those of its record's left
-    /// and right ends.
+    /// Whether a rest owes the last of these endings, where the first two are those of its record's
+    /// left and right ends.
     ghost rest_owes: { Self.Rest → Self.Ending → Self.Ending → Self.Ending → Type 0 };
 
     /// A child owes at most one ending.
     ghost child_owes_one: { (c : Self.Child) (a b : Self.Ending) → owes c a → owes c b → a ≡ b };
 
     /// A side is at most one ending for an end.
-    ghost side_is_one: { (s : Self.Side) (e : End) (a b : Self.Ending) → is_ending s e a → is_ending s e b → a ≡ b };
+    ghost side_is_one: { (s : Self.Side) (e : End) (a b : Self.Ending) → is_ending s e a → is_ending s e b
+        → a ≡ b };
 
     /// A rest owes at most one ending for two endings.
     ghost rest_owes_one: { (r : Self.Rest) (p q a b : Self.Ending) → rest_owes r p q a → rest_owes r p q b → a ≡ b };

@@ -3,7 +3,8 @@
 ghost use Rattle.std.specs.Prelude.{◌≡◌, ◌<◌, ◌≤◌, IfOk, Some};
 ghost use Rattle.tpal_machine.specs.declared.ends.End.TheVariants.{Root};
 ghost use Rattle.join_records.specs.Views.{fresh, split_left};
-ghost use Rattle.join_records.specs.Passes.{AreNew, IsPassOf, IsSamePass, record_count, root_view, view};
+ghost use Rattle.join_records.specs.Passes.{AreNew, IsPassOf, IsSamePass, record_count, root_view};
+ghost use Rattle.join_records.specs.Passes.{view};
 
 use crate::load::Load;
 use crate::rule::{SeatOpened, SeatSplit};
@@ -21,7 +22,10 @@ impl<L: Load> Records<L> {
     ) -> Result<(Records<L>, Pass<L>), NoMemory>
         requires count { records ≤ 1024 }
         requires owed { (e : L.Ending) × L.owes first.now e }
-        ensures { IfOk result (λ r. (record_count r.0 ≡ records) × IsPassOf r.0 r.1 × ((e : L.Ending) × L.owes first.now e × (view r.1 ≡ root_view e))) }
+        ensures { IfOk result
+            (λ r. (record_count r.0 ≡ records)
+            × IsPassOf r.0 r.1
+            × ((e : L.Ending) × L.owes first.now e × (view r.1 ≡ root_view e))) }
     {
         let words = Vec::from_elem(alloc, 0u64, records as usize + 1)?;
         let (table, mut seat) = Table::vacant(
@@ -60,8 +64,8 @@ impl<L: Load> Records<L> {
         }
     }
 
-    /// A table of free records, 1 to 1,024, and the passes to it, 1 to 16. The first pass holds Root,
-    /// with the ending that `first` owes. It is the only call that takes memory.
+    /// A table of free records, 1 to 1,024, and the passes to it, 1 to 16. The first pass holds
+    /// Root, with the ending that `first` owes. It is the only call that takes memory.
     pub fn new(
         alloc: Global,
         records: u32,

@@ -7,7 +7,8 @@ ghost use Rattle.join_records.specs.declared.slot.Item.TheVariants.{Rest, Child}
 ghost use Rattle.join_records.specs.declared.views.Grip.TheVariants.{Reserved, Filling};
 ghost use Rattle.join_records.specs.Ends.{code_of};
 ghost use Rattle.join_records.specs.Views.{in_hand, NoneMet, opened_view, read};
-ghost use Rattle.join_records.specs.Passes.{IsPassOf, IsSamePass, IsSameSeat, IsSeatOf, record_count, taken_number, view};
+ghost use Rattle.join_records.specs.Passes.{IsPassOf, IsSamePass, IsSameSeat, IsSeatOf};
+ghost use Rattle.join_records.specs.Passes.{record_count, taken_number, view};
 ghost use Rattle.join_records.specs.Answers.{filling_view, Merges, MergesAt};
 
 use crate::load::Load;
@@ -24,7 +25,8 @@ impl<L: Load> Records<L> {
         requires table { IsPassOf self.now pass.old }
         requires hand { in_hand (view pass.old).hand k ≡ Some Reserved }
         requires number { k < record_count self.now }
-        ensures slots { pass.new.seat.me.1 ≡ (4 * k + 1, Some (Child child)) ∷ (4 * k, Some (Rest rest)) ∷ [] }
+        ensures slots { pass.new.seat.me.1
+            ≡ (4 * k + 1, Some (Child child)) ∷ (4 * k, Some (Rest rest)) ∷ [] }
         ensures seen { (x : ℕ) × (view pass.new ≡ filling_view (view pass.old) k x) }
         ensures pass { IsSameSeat pass.old pass.new }
     {
@@ -54,10 +56,20 @@ impl<L: Load> Records<L> {
     )
         requires table { IsSeatOf self.now pass.old }
         requires number { k < record_count self.now }
-        requires hand { (in_hand (view pass.old).hand k ≡ Some Filling) × NoneMet (view pass.old) × ((view pass.old).opens < 2 ^ 32) }
+        requires hand { (in_hand (view pass.old).hand k ≡ Some Filling)
+            × NoneMet (view pass.old)
+            × ((view pass.old).opens < 2 ^ 32) }
         requires picks { J.ending ≡ Some left.now.promise.0 }
-        requires fits { (rest : L.Rest) × (child : L.Child) × (pass.old.seat.me.1 ≡ (4 * k + 1, Some (Child child)) ∷ (4 * k, Some (Rest rest)) ∷ []) × L.keeps rest up × L.has_end child (At k Right) × MergesAt L.owes L.rest_owes (view pass.old) up rest left.now.promise.0 child }
-        ensures seen { (e : L.Ending) → L.owes left.now.child.now e → view pass.new ≡ opened_view (view pass.old) k e }
+        requires fits { (rest : L.Rest)
+            × (child : L.Child)
+            × (pass.old.seat.me.1
+            ≡ (4 * k + 1, Some (Child child)) ∷ (4 * k, Some (Rest rest)) ∷ [])
+            × L.keeps rest up
+            × L.has_end child (At k Right)
+            × MergesAt L.owes L.rest_owes (view pass.old) up rest left.now.promise.0 child }
+        ensures seen { (e : L.Ending)
+            → L.owes left.now.child.now e
+            → view pass.new ≡ opened_view (view pass.old) k e }
         ensures pass { IsSameSeat pass.old pass.new × (pass.new.seat.me.1 ≡ []) }
     {
         let _ = left;
@@ -69,8 +81,9 @@ impl<L: Load> Records<L> {
         pass.opens += 1;
     }
 
-    /// Opens a record: the rest waits there for both sides, and the child to be claimed. The pass goes on
-    /// with the left end, in place of the end `up` that the rest keeps. Answers the record's number.
+    /// Opens a record: the rest waits there for both sides, and the child to be claimed. The pass
+    /// goes on with the left end, in place of the end `up` that the rest keeps. Answers the
+    /// record's number.
     pub fn open_at(
         &self,
         pass: &mut Pass<L>,
@@ -90,7 +103,12 @@ impl<L: Load> Records<L> {
         requires keeps { L.keeps rest up }
         requires merges { Merges L.owes L.rest_owes (view pass.old) up rest left.now child }
         ensures number { result ≡ taken_number taken }
-        ensures opened { (e : L.Ending) × L.owes left.now e × ((x : ℕ) × (view pass.new ≡ opened_view (read (view pass.old) (taken_number taken + 1) x) (taken_number taken) e)) }
+        ensures opened { (e : L.Ending)
+            × L.owes left.now e
+            × ((x : ℕ)
+            × (view pass.new
+            ≡ opened_view (read (view pass.old) (taken_number taken + 1) x)
+            (taken_number taken) e)) }
         ensures pass { IsSamePass pass.old pass.new }
     {
         let k = taken.number;

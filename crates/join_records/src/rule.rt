@@ -21,7 +21,14 @@ impl<L: Load> TableRule<
     ghost use Rattle.join_records.specs.Rule.{Kept};
     ghost use Rattle.join_records.specs.Views.{blank};
 
-    ghost holds = { Kept record { has_end = L.has_end; keeps = L.keeps; owes = L.owes; is_ending = L.is_ending; rest_owes = L.rest_owes } };
+    ghost holds = { Kept record {
+      has_end = L.has_end;
+      keeps = L.keeps;
+      owes = L.owes;
+      is_ending = L.is_ending;
+      rest_owes =
+          L.rest_owes;
+    } };
 
     ghost first = { blank };
 }

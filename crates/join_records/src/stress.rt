@@ -1,6 +1,6 @@
-// Four threads at 64 records. Each opening is counted where its two sides meet, and the count goes up
-// with the end that its rest kept. So what comes back to Root is the number of openings that were met,
-// and one that was lost or met twice would show.
+// Four threads at 64 records. Each opening is counted where its two sides meet, and the count goes
+// up with the end that its rest kept. So what comes back to Root is the number of openings that
+// were met, and one that was lost or met twice would show.
 
 ghost use Rattle.std.specs.Prelude.{◌≡◌, ◌<◌, MatchOption, IfOk, Some};
 ghost use Rattle.std.specs.Thread.{IsSync};
@@ -100,7 +100,9 @@ fn open_under(
     requires end { Holds (view pass.old) up 0 }
     requires none_met { NoneMet (view pass.old) }
     ensures end { MatchOption result (Holds (view pass.new) up 0) (λ k. Holds (view pass.new) (At k Left) 0) }
-    ensures pass { IsPassOf table.now pass.new × NoneMet (view pass.new) × ((view pass.new).parts ≡ (view pass.old).parts) }
+    ensures pass { IsPassOf table.now pass.new
+        × NoneMet (view pass.new)
+        × ((view pass.new).parts ≡ (view pass.old).parts) }
 {
     if pass.opens() >= 1 << 30 {
         return None;
@@ -110,8 +112,8 @@ fn open_under(
     Some(table.open_at(pass, taken, rest, &0, 0, up))
 }
 
-/// Arrives at a record, and frees it where it was the second to arrive. Answers then the end that the
-/// pass holds, and what was counted there.
+/// Arrives at a record, and frees it where it was the second to arrive. Answers then the end that
+/// the pass holds, and what was counted there.
 fn arrive_at(
     table: &Records<Counts>,
     pass: &mut Pass<Counts>,
@@ -123,7 +125,9 @@ fn arrive_at(
     requires end { Holds (view pass.old) (At rec side) 0 }
     requires none_met { NoneMet (view pass.old) }
     ensures end { MatchOption result (HoldsNothing (view pass.new)) (λ r. Holds (view pass.new) r.0 0) }
-    ensures pass { IsPassOf table.now pass.new × NoneMet (view pass.new) × ((view pass.new).parts ≡ (view pass.old).parts) }
+    ensures pass { IsPassOf table.now pass.new
+        × NoneMet (view pass.new)
+        × ((view pass.new).parts ≡ (view pass.old).parts) }
 {
     match table.arrive(pass, rec, side, counted) {
         Arrival::First => None,
@@ -144,7 +148,8 @@ impl Worker {
     fn open(&mut self, table: &Records<Counts>, up: End)
         requires sits { Sits table.now self.old.end self.old.pass }
         requires end { self.old.end ≡ Some up }
-        ensures sits { Sits table.now self.new.end self.new.pass × ((view self.new.pass).parts ≡ (view self.old.pass).parts) }
+        ensures sits { Sits table.now self.new.end self.new.pass
+            × ((view self.new.pass).parts ≡ (view self.old.pass).parts) }
     {
         if let Some(rec) = open_under(table, &mut self.pass, up, self.counted) {
             self.end = Some(End::At {
@@ -159,7 +164,8 @@ impl Worker {
     fn arrive(&mut self, table: &Records<Counts>, up: End)
         requires sits { Sits table.now self.old.end self.old.pass × (record_count table.now ≡ 64) }
         requires end { self.old.end ≡ Some up }
-        ensures sits { Sits table.now self.new.end self.new.pass × ((view self.new.pass).parts ≡ (view self.old.pass).parts) }
+        ensures sits { Sits table.now self.new.end self.new.pass
+            × ((view self.new.pass).parts ≡ (view self.old.pass).parts) }
     {
         let End::At { rec, side } = up else {
             return;
@@ -183,7 +189,8 @@ impl Worker {
     /// Claims a record's child, where there is one and the worker holds no end.
     fn claim(&mut self, table: &Records<Counts>, rec: u32)
         requires sits { Sits table.now self.old.end self.old.pass × (rec < record_count table.now) }
-        ensures sits { Sits table.now self.new.end self.new.pass × ((view self.new.pass).parts ≡ (view self.old.pass).parts) }
+        ensures sits { Sits table.now self.new.end self.new.pass
+            × ((view self.new.pass).parts ≡ (view self.old.pass).parts) }
     {
         let None = self.end else {
             return;
@@ -202,7 +209,8 @@ impl Worker {
     /// Goes through the records until it holds an end.
     fn claim_any(&mut self, table: &Records<Counts>)
         requires sits { Sits table.now self.old.end self.old.pass × (record_count table.now ≡ 64) }
-        ensures sits { Sits table.now self.new.end self.new.pass × ((view self.new.pass).parts ≡ (view self.old.pass).parts) }
+        ensures sits { Sits table.now self.new.end self.new.pass
+            × ((view self.new.pass).parts ≡ (view self.old.pass).parts) }
     {
         for rec in 0..RECORDS {
             self.claim(table, rec);
@@ -212,7 +220,8 @@ impl Worker {
     /// One step towards the end of all that is open.
     fn drain(&mut self, table: &Records<Counts>)
         requires sits { Sits table.now self.old.end self.old.pass × (record_count table.now ≡ 64) }
-        ensures sits { Sits table.now self.new.end self.new.pass × ((view self.new.pass).parts ≡ (view self.old.pass).parts) }
+        ensures sits { Sits table.now self.new.end self.new.pass
+            × ((view self.new.pass).parts ≡ (view self.old.pass).parts) }
     {
         match self.end {
             None => self.claim_any(table),
@@ -223,7 +232,8 @@ impl Worker {
     /// One step by the dice. It opens about as many records as it arrives at the second time.
     fn turn(&mut self, table: &Records<Counts>)
         requires sits { Sits table.now self.old.end self.old.pass × (record_count table.now ≡ 64) }
-        ensures sits { Sits table.now self.new.end self.new.pass × ((view self.new.pass).parts ≡ (view self.old.pass).parts) }
+        ensures sits { Sits table.now self.new.end self.new.pass
+            × ((view self.new.pass).parts ≡ (view self.old.pass).parts) }
     {
         self.dice = self
             .dice
@@ -238,7 +248,8 @@ impl Worker {
     /// Makes the finish where it holds Root. Answers what was counted there.
     fn finish(&mut self, table: &Records<Counts>) -> u64
         requires sits { Sits table.now self.old.end self.old.pass }
-        ensures sits { Sits table.now self.new.end self.new.pass × ((view self.new.pass).parts ≡ (view self.old.pass).parts) }
+        ensures sits { Sits table.now self.new.end self.new.pass
+            × ((view self.new.pass).parts ≡ (view self.old.pass).parts) }
     {
         match self.end {
             Some(End::Root) => {
@@ -254,7 +265,8 @@ impl Worker {
 /// All turns of a worker, for a thread of its own.
 fn work(table: &Records<Counts>, mut worker: Worker) -> Worker
     requires sits { Sits table.now worker.end worker.pass × (record_count table.now ≡ 64) }
-    ensures sits { Sits table.now result.end result.pass × ((view result.pass).parts ≡ (view worker.pass).parts) }
+    ensures sits { Sits table.now result.end result.pass
+        × ((view result.pass).parts ≡ (view worker.pass).parts) }
 {
     for _turn in 0..TURNS {
         worker.turn(table);
@@ -271,18 +283,22 @@ fn work_two<R: Threads + Sync>(
 ) -> (Worker, Worker)
     requires one { Sits table.now one.end one.pass × (record_count table.now ≡ 64) }
     requires two { Sits table.now two.end two.pass }
-    ensures one { Sits table.now result.0.end result.0.pass × ((view result.0.pass).parts ≡ (view one.pass).parts) }
-    ensures two { Sits table.now result.1.end result.1.pass × ((view result.1.pass).parts ≡ (view two.pass).parts) }
+    ensures one { Sits table.now result.0.end result.0.pass
+        × ((view result.0.pass).parts ≡ (view one.pass).parts) }
+    ensures two { Sits table.now result.1.end result.1.pass
+        × ((view result.1.pass).parts ≡ (view two.pass).parts) }
 {
     join(
         rt,
         move || -> Worker
             requires { Sits table.now one.end one.pass × (record_count table.now ≡ 64) }
-            ensures { Sits table.entry.now result.end result.pass × ((view result.pass).parts ≡ (view one.pass).parts) }
+            ensures { Sits table.entry.now result.end result.pass
+                × ((view result.pass).parts ≡ (view one.pass).parts) }
         { work(table, one) },
         move || -> Worker
             requires { Sits table.now two.end two.pass × (record_count table.now ≡ 64) }
-            ensures { Sits table.entry.now result.end result.pass × ((view result.pass).parts ≡ (view two.pass).parts) }
+            ensures { Sits table.entry.now result.end result.pass
+                × ((view result.pass).parts ≡ (view two.pass).parts) }
         { work(table, two) },
     )
 }
@@ -328,10 +344,14 @@ fn work_four<R: Threads + Sync>(rt: &R, table: &Records<Counts>, crew: Crew) -> 
     requires two { Sits table.now crew.two.end crew.two.pass }
     requires three { Sits table.now crew.three.end crew.three.pass }
     requires four { Sits table.now crew.four.end crew.four.pass }
-    ensures one { Sits table.now result.one.end result.one.pass × ((view result.one.pass).parts ≡ (view crew.one.pass).parts) }
-    ensures two { Sits table.now result.two.end result.two.pass × ((view result.two.pass).parts ≡ (view crew.two.pass).parts) }
-    ensures three { Sits table.now result.three.end result.three.pass × ((view result.three.pass).parts ≡ (view crew.three.pass).parts) }
-    ensures four { Sits table.now result.four.end result.four.pass × ((view result.four.pass).parts ≡ (view crew.four.pass).parts) }
+    ensures one { Sits table.now result.one.end result.one.pass
+        × ((view result.one.pass).parts ≡ (view crew.one.pass).parts) }
+    ensures two { Sits table.now result.two.end result.two.pass
+        × ((view result.two.pass).parts ≡ (view crew.two.pass).parts) }
+    ensures three { Sits table.now result.three.end result.three.pass
+        × ((view result.three.pass).parts ≡ (view crew.three.pass).parts) }
+    ensures four { Sits table.now result.four.end result.four.pass
+        × ((view result.four.pass).parts ≡ (view crew.four.pass).parts) }
 {
     let Crew {
         one,
@@ -342,14 +362,24 @@ fn work_four<R: Threads + Sync>(rt: &R, table: &Records<Counts>, crew: Crew) -> 
     let ((one, two), (three, four)) = join(
         rt,
         move || -> (Worker, Worker)
-            requires { IsSync R.row × Sits table.now one.end one.pass × (record_count table.now ≡ 64) × Sits table.now two.end two.pass }
-            ensures one { Sits table.entry.now result.0.end result.0.pass × ((view result.0.pass).parts ≡ (view one.pass).parts) }
-            ensures two { Sits table.entry.now result.1.end result.1.pass × ((view result.1.pass).parts ≡ (view two.pass).parts) }
+            requires { IsSync R.row
+                × Sits table.now one.end one.pass
+                × (record_count table.now ≡ 64)
+                × Sits table.now two.end two.pass }
+            ensures one { Sits table.entry.now result.0.end result.0.pass
+                × ((view result.0.pass).parts ≡ (view one.pass).parts) }
+            ensures two { Sits table.entry.now result.1.end result.1.pass
+                × ((view result.1.pass).parts ≡ (view two.pass).parts) }
         { work_two(rt, table, one, two) },
         move || -> (Worker, Worker)
-            requires { IsSync R.row × Sits table.now three.end three.pass × (record_count table.now ≡ 64) × Sits table.now four.end four.pass }
-            ensures three { Sits table.entry.now result.0.end result.0.pass × ((view result.0.pass).parts ≡ (view three.pass).parts) }
-            ensures four { Sits table.entry.now result.1.end result.1.pass × ((view result.1.pass).parts ≡ (view four.pass).parts) }
+            requires { IsSync R.row
+                × Sits table.now three.end three.pass
+                × (record_count table.now ≡ 64)
+                × Sits table.now four.end four.pass }
+            ensures three { Sits table.entry.now result.0.end result.0.pass
+                × ((view result.0.pass).parts ≡ (view three.pass).parts) }
+            ensures four { Sits table.entry.now result.1.end result.1.pass
+                × ((view result.1.pass).parts ≡ (view four.pass).parts) }
         { work_two(rt, table, three, four) },
     );
     Crew {
@@ -367,10 +397,14 @@ fn work_shifts<R: Threads + Sync>(rt: &R, table: &Records<Counts>, mut crew: Cre
     requires two { Sits table.now crew.two.end crew.two.pass }
     requires three { Sits table.now crew.three.end crew.three.pass }
     requires four { Sits table.now crew.four.end crew.four.pass }
-    ensures one { Sits table.now result.one.end result.one.pass × ((view result.one.pass).parts ≡ (view crew.one.pass).parts) }
-    ensures two { Sits table.now result.two.end result.two.pass × ((view result.two.pass).parts ≡ (view crew.two.pass).parts) }
-    ensures three { Sits table.now result.three.end result.three.pass × ((view result.three.pass).parts ≡ (view crew.three.pass).parts) }
-    ensures four { Sits table.now result.four.end result.four.pass × ((view result.four.pass).parts ≡ (view crew.four.pass).parts) }
+    ensures one { Sits table.now result.one.end result.one.pass
+        × ((view result.one.pass).parts ≡ (view crew.one.pass).parts) }
+    ensures two { Sits table.now result.two.end result.two.pass
+        × ((view result.two.pass).parts ≡ (view crew.two.pass).parts) }
+    ensures three { Sits table.now result.three.end result.three.pass
+        × ((view result.three.pass).parts ≡ (view crew.three.pass).parts) }
+    ensures four { Sits table.now result.four.end result.four.pass
+        × ((view result.four.pass).parts ≡ (view crew.four.pass).parts) }
 {
     for _shift in 0..SHIFTS {
         if crew.calls().opens >= OPENINGS {
@@ -405,7 +439,8 @@ fn crewed(alloc: Global) -> Result<(Records<Counts>, Crew), NoMemory>
     ensures table { IfOk result (λ r. record_count r.0 ≡ 64) }
     ensures one { IfOk result (λ r. Sits r.0 r.1.one.end r.1.one.pass × ((view r.1.one.pass).parts ≡ 13)) }
     ensures two { IfOk result (λ r. Sits r.0 r.1.two.end r.1.two.pass × ((view r.1.two.pass).parts ≡ 1)) }
-    ensures three { IfOk result (λ r. Sits r.0 r.1.three.end r.1.three.pass × ((view r.1.three.pass).parts ≡ 1)) }
+    ensures three { IfOk result
+        (λ r. Sits r.0 r.1.three.end r.1.three.pass × ((view r.1.three.pass).parts ≡ 1)) }
     ensures four { IfOk result (λ r. Sits r.0 r.1.four.end r.1.four.pass × ((view r.1.four.pass).parts ≡ 1)) }
 {
     let (table, mut passes) = Records::new(alloc, RECORDS, 4, &0)?;
@@ -438,10 +473,14 @@ impl Crew {
         requires two { Sits table.now self.old.two.end self.old.two.pass }
         requires three { Sits table.now self.old.three.end self.old.three.pass }
         requires four { Sits table.now self.old.four.end self.old.four.pass }
-        ensures one { Sits table.now self.new.one.end self.new.one.pass × ((view self.new.one.pass).parts ≡ (view self.old.one.pass).parts) }
-        ensures two { Sits table.now self.new.two.end self.new.two.pass × ((view self.new.two.pass).parts ≡ (view self.old.two.pass).parts) }
-        ensures three { Sits table.now self.new.three.end self.new.three.pass × ((view self.new.three.pass).parts ≡ (view self.old.three.pass).parts) }
-        ensures four { Sits table.now self.new.four.end self.new.four.pass × ((view self.new.four.pass).parts ≡ (view self.old.four.pass).parts) }
+        ensures one { Sits table.now self.new.one.end self.new.one.pass
+            × ((view self.new.one.pass).parts ≡ (view self.old.one.pass).parts) }
+        ensures two { Sits table.now self.new.two.end self.new.two.pass
+            × ((view self.new.two.pass).parts ≡ (view self.old.two.pass).parts) }
+        ensures three { Sits table.now self.new.three.end self.new.three.pass
+            × ((view self.new.three.pass).parts ≡ (view self.old.three.pass).parts) }
+        ensures four { Sits table.now self.new.four.end self.new.four.pass
+            × ((view self.new.four.pass).parts ≡ (view self.old.four.pass).parts) }
     {
         for _round in 0..ROUNDS {
             self.one.drain(table);
@@ -457,10 +496,14 @@ impl Crew {
         requires two { Sits table.now self.old.two.end self.old.two.pass }
         requires three { Sits table.now self.old.three.end self.old.three.pass }
         requires four { Sits table.now self.old.four.end self.old.four.pass }
-        ensures one { Sits table.now self.new.one.end self.new.one.pass × ((view self.new.one.pass).parts ≡ (view self.old.one.pass).parts) }
-        ensures two { Sits table.now self.new.two.end self.new.two.pass × ((view self.new.two.pass).parts ≡ (view self.old.two.pass).parts) }
-        ensures three { Sits table.now self.new.three.end self.new.three.pass × ((view self.new.three.pass).parts ≡ (view self.old.three.pass).parts) }
-        ensures four { Sits table.now self.new.four.end self.new.four.pass × ((view self.new.four.pass).parts ≡ (view self.old.four.pass).parts) }
+        ensures one { Sits table.now self.new.one.end self.new.one.pass
+            × ((view self.new.one.pass).parts ≡ (view self.old.one.pass).parts) }
+        ensures two { Sits table.now self.new.two.end self.new.two.pass
+            × ((view self.new.two.pass).parts ≡ (view self.old.two.pass).parts) }
+        ensures three { Sits table.now self.new.three.end self.new.three.pass
+            × ((view self.new.three.pass).parts ≡ (view self.old.three.pass).parts) }
+        ensures four { Sits table.now self.new.four.end self.new.four.pass
+            × ((view self.new.four.pass).parts ≡ (view self.old.four.pass).parts) }
     {
         let one = self.one.finish(table);
         let two = self.two.finish(table);

@@ -1,5 +1,5 @@
-// A record's life, in one thread and in two. Each step is a function with a contract, so that the calls
-// of a test are short to prove.
+// A record's life, in one thread and in two. Each step is a function with a contract, so that the
+// calls of a test are short to prove.
 
 ghost use Rattle.std.specs.Prelude.{◌≡◌, ℕ, ◌+◌, IfOk, IfSome, IfNone};
 ghost use Rattle.tpal_machine.specs.declared.ends.End.TheVariants.{Root, At};
@@ -15,8 +15,8 @@ use std::thread::{Threads, join};
 use tp_value::NoMemory;
 use tpal_machine::{End, SideName};
 
-/// Plain numbers: every child has each end and owes its own number, every side is its own number as an
-/// ending, and every rest keeps Root and owes the sum of its own number and both endings.
+/// Plain numbers: every child has each end and owes its own number, every side is its own number as
+/// an ending, and every rest keeps Root and owes the sum of its own number and both endings.
 struct Numbers;
 
 impl Load for Numbers {
@@ -52,8 +52,18 @@ impl Load for Numbers {
 /// A table of one record and its two passes. What is owed at Root is 7.
 fn two_passes(alloc: Global) -> Result<(Records<Numbers>, Pass<Numbers>, Pass<Numbers>), NoMemory>
     ensures table { IfOk result (λ r. record_count r.0 ≡ 1) }
-    ensures first { IfOk result (λ r. IsPassOf r.0 r.1 × Holds (view r.1) Root 7 × NoneMet (view r.1) × ((view r.1).opens ≡ 0) × ((view r.1).parts ≡ 15)) }
-    ensures second { IfOk result (λ r. IsPassOf r.0 r.2 × HoldsNothing (view r.2) × NoneMet (view r.2) × ((view r.2).opens ≡ 0) × ((view r.2).parts ≡ 1)) }
+    ensures first { IfOk result
+        (λ r. IsPassOf r.0 r.1
+        × Holds (view r.1) Root 7
+        × NoneMet (view r.1)
+        × ((view r.1).opens ≡ 0)
+        × ((view r.1).parts ≡ 15)) }
+    ensures second { IfOk result
+        (λ r. IsPassOf r.0 r.2
+        × HoldsNothing (view r.2)
+        × NoneMet (view r.2)
+        × ((view r.2).opens ≡ 0)
+        × ((view r.2).parts ≡ 1)) }
 {
     let (table, mut passes) = Records::new(alloc, 1, 2, &7)?;
     let Some(second) = passes.pop() else {
@@ -70,7 +80,11 @@ fn finds_none(table: &Records<Numbers>, pass: &mut Pass<Numbers>) -> bool
     requires table { IsPassOf table.now pass.old }
     requires end { HoldsNothing (view pass.old) }
     requires none_met { NoneMet (view pass.old) }
-    ensures pass { IsPassOf table.now pass.new × HoldsNothing (view pass.new) × NoneMet (view pass.new) × ((view pass.new).parts ≡ (view pass.old).parts) × ((view pass.new).opens ≡ (view pass.old).opens) }
+    ensures pass { IsPassOf table.now pass.new
+        × HoldsNothing (view pass.new)
+        × NoneMet (view pass.new)
+        × ((view pass.new).parts ≡ (view pass.old).parts)
+        × ((view pass.new).opens ≡ (view pass.old).opens) }
 {
     match table.find_free(pass) {
         None => true,
@@ -84,8 +98,11 @@ fn open_one(table: &Records<Numbers>, pass: &mut Pass<Numbers>) -> Option<u32>
     requires root { Holds (view pass.old) Root 7 }
     requires none_met { NoneMet (view pass.old) }
     requires opens { (view pass.old).opens ≡ 0 }
-    ensures opened { IfSome result (λ k. (k ≡ 0) × Holds (view pass.new) (At 0 Left) 2 × ((view pass.new).opens ≡ 1)) }
-    ensures pass { IsPassOf table.now pass.new × NoneMet (view pass.new) × ((view pass.new).parts ≡ (view pass.old).parts) }
+    ensures opened { IfSome result
+        (λ k. (k ≡ 0) × Holds (view pass.new) (At 0 Left) 2 × ((view pass.new).opens ≡ 1)) }
+    ensures pass { IsPassOf table.now pass.new
+        × NoneMet (view pass.new)
+        × ((view pass.new).parts ≡ (view pass.old).parts) }
 {
     let taken = table.find_free(pass)?;
     Some(table.open_at(pass, taken, 1, &2, 4, End::Root))
@@ -103,7 +120,10 @@ fn settle(
     requires none_met { NoneMet (view pass.old) }
     ensures first { IfNone result (HoldsNothing (view pass.new)) }
     ensures second { IfSome result (λ r. Holds (view pass.new) Root (r.0 + r.1 + r.2)) }
-    ensures pass { IsPassOf table.now pass.new × NoneMet (view pass.new) × ((view pass.new).parts ≡ (view pass.old).parts) × ((view pass.new).opens ≡ (view pass.old).opens) }
+    ensures pass { IsPassOf table.now pass.new
+        × NoneMet (view pass.new)
+        × ((view pass.new).parts ≡ (view pass.old).parts)
+        × ((view pass.new).opens ≡ (view pass.old).opens) }
 {
     match table.arrive(pass, 0, side, out) {
         Arrival::First => None,
@@ -127,7 +147,10 @@ fn right_half(table: &Records<Numbers>, pass: &mut Pass<Numbers>) -> Option<Opti
     ensures none { IfNone result (HoldsNothing (view pass.new)) }
     ensures first { IfSome result (λ r. IfNone r (HoldsNothing (view pass.new))) }
     ensures second { IfSome result (λ r. IfSome r (λ t. Holds (view pass.new) Root (t.0 + t.1 + t.2))) }
-    ensures pass { IsPassOf table.now pass.new × NoneMet (view pass.new) × ((view pass.new).parts ≡ (view pass.old).parts) × ((view pass.new).opens ≡ (view pass.old).opens) }
+    ensures pass { IsPassOf table.now pass.new
+        × NoneMet (view pass.new)
+        × ((view pass.new).parts ≡ (view pass.old).parts)
+        × ((view pass.new).opens ≡ (view pass.old).opens) }
 {
     let child = table.claim(pass, 0)?;
     Some(settle(table, pass, SideName::Right, child))
@@ -138,7 +161,9 @@ fn finish_seen(table: &Records<Numbers>, pass: &mut Pass<Numbers>, owed: u64) ->
     requires table { IsPassOf table.now pass.old }
     requires root { Holds (view pass.old) Root owed }
     requires none_met { NoneMet (view pass.old) }
-    ensures pass { IsPassOf table.now pass.new × ((view pass.new).parts ≡ (view pass.old).parts) × ((view pass.new).opens ≡ (view pass.old).opens) }
+    ensures pass { IsPassOf table.now pass.new
+        × ((view pass.new).parts ≡ (view pass.old).parts)
+        × ((view pass.new).opens ≡ (view pass.old).opens) }
 {
     let _ = owed;
     table.finish(pass);
@@ -201,7 +226,10 @@ fn left_there(
     requires end { Holds (view pass) (At 0 Left) 2 }
     requires none_met { NoneMet (view pass) }
     ensures second { IfSome result.1 (λ r. Holds (view result.0) Root (r.0 + r.1 + r.2)) }
-    ensures pass { IsPassOf table.now result.0 × NoneMet (view result.0) × ((view result.0).parts ≡ (view pass).parts) × ((view result.0).opens ≡ (view pass).opens) }
+    ensures pass { IsPassOf table.now result.0
+        × NoneMet (view result.0)
+        × ((view result.0).parts ≡ (view pass).parts)
+        × ((view result.0).opens ≡ (view pass).opens) }
 {
     let met = settle(table, &mut pass, SideName::Left, 2);
     (pass, met)
@@ -216,7 +244,10 @@ fn right_there(
     requires end { HoldsNothing (view pass) }
     requires none_met { NoneMet (view pass) }
     ensures second { IfSome result.1 (λ r. IfSome r (λ t. Holds (view result.0) Root (t.0 + t.1 + t.2))) }
-    ensures pass { IsPassOf table.now result.0 × NoneMet (view result.0) × ((view result.0).parts ≡ (view pass).parts) × ((view result.0).opens ≡ (view pass).opens) }
+    ensures pass { IsPassOf table.now result.0
+        × NoneMet (view result.0)
+        × ((view result.0).parts ≡ (view pass).parts)
+        × ((view result.0).opens ≡ (view pass).opens) }
 {
     let met = right_half(table, &mut pass);
     (pass, met)
@@ -237,20 +268,39 @@ fn both_halves<R: Threads + Sync>(
     requires second { IsPassOf table.now second × HoldsNothing (view second) × NoneMet (view second) }
     ensures left { IfSome result.0.1 (λ r. Holds (view result.0.0) Root (r.0 + r.1 + r.2)) }
     ensures right { IfSome result.1.1 (λ r. IfSome r (λ t. Holds (view result.1.0) Root (t.0 + t.1 + t.2))) }
-    ensures first { IsPassOf table.now result.0.0 × NoneMet (view result.0.0) × ((view result.0.0).parts ≡ (view first).parts) × ((view result.0.0).opens ≡ (view first).opens) }
-    ensures second { IsPassOf table.now result.1.0 × NoneMet (view result.1.0) × ((view result.1.0).parts ≡ (view second).parts) × ((view result.1.0).opens ≡ (view second).opens) }
+    ensures first { IsPassOf table.now result.0.0
+        × NoneMet (view result.0.0)
+        × ((view result.0.0).parts ≡ (view first).parts)
+        × ((view result.0.0).opens ≡ (view first).opens) }
+    ensures second { IsPassOf table.now result.1.0
+        × NoneMet (view result.1.0)
+        × ((view result.1.0).parts ≡ (view second).parts)
+        × ((view result.1.0).opens ≡ (view second).opens) }
 {
     join(
         rt,
         move || -> (Pass<Numbers>, Option<(u64, u64, u64)>)
-            requires { IsPassOf table.now first × (record_count table.now ≡ 1) × Holds (view first) (At 0 Left) 2 × NoneMet (view first) }
+            requires { IsPassOf table.now first
+                × (record_count table.now ≡ 1)
+                × Holds (view first) (At 0 Left) 2
+                × NoneMet (view first) }
             ensures second { IfSome result.1 (λ r. Holds (view result.0) Root (r.0 + r.1 + r.2)) }
-            ensures pass { IsPassOf table.entry.now result.0 × NoneMet (view result.0) × ((view result.0).parts ≡ (view first).parts) × ((view result.0).opens ≡ (view first).opens) }
+            ensures pass { IsPassOf table.entry.now result.0
+                × NoneMet (view result.0)
+                × ((view result.0).parts ≡ (view first).parts)
+                × ((view result.0).opens ≡ (view first).opens) }
         { left_there(table, first) },
         move || -> (Pass<Numbers>, Option<Option<(u64, u64, u64)>>)
-            requires { IsPassOf table.now second × (record_count table.now ≡ 1) × HoldsNothing (view second) × NoneMet (view second) }
-            ensures second { IfSome result.1 (λ r. IfSome r (λ t. Holds (view result.0) Root (t.0 + t.1 + t.2))) }
-            ensures pass { IsPassOf table.entry.now result.0 × NoneMet (view result.0) × ((view result.0).parts ≡ (view second).parts) × ((view result.0).opens ≡ (view second).opens) }
+            requires { IsPassOf table.now second
+                × (record_count table.now ≡ 1)
+                × HoldsNothing (view second)
+                × NoneMet (view second) }
+            ensures second { IfSome result.1
+                (λ r. IfSome r (λ t. Holds (view result.0) Root (t.0 + t.1 + t.2))) }
+            ensures pass { IsPassOf table.entry.now result.0
+                × NoneMet (view result.0)
+                × ((view result.0).parts ≡ (view second).parts)
+                × ((view result.0).opens ≡ (view second).opens) }
         { right_there(table, second) },
     )
 }

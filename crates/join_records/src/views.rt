@@ -19,7 +19,8 @@ pub enum Grip {
     Reserved,
     /// In the middle of an opening: the slots of the rest and of the child are out with the pass.
     Filling,
-    /// Just met: the slots of the rest, which keeps this end, and of both sides are out with the pass.
+    /// Just met: the slots of the rest, which keeps this end, and of both sides are out with the
+    /// pass.
     Emptying(End),
     /// Met by both sides, and the slots are home again. The rest kept this end.
     Emptied(End),
@@ -50,7 +51,7 @@ pub struct View<C, E> {
     pub opens: u64,
     /// How many finishes it has made, 0 or 1.
     pub made: u64,
-    /// The words that its steps read, each with the value found, in order. Word 0 is the finish word,
-    /// and word 1 + k is that of record k.
+    /// The words that its steps read, each with the value found, in order. Word 0 is the finish
+    /// word, and word 1 + k is that of record k.
     pub reads: LinkedList<(u64, u64)>,
 }

@@ -1,5 +1,5 @@
-// The word of a record. Bit 0 is taken, bit 1 open, bit 2 claimed, bit 3 left arrived and bit 4 right
-// arrived. From bit 8 on stands the end that the rest keeps, as its code. A free word is 0.
+// The word of a record. Bit 0 is taken, bit 1 open, bit 2 claimed, bit 3 left arrived and bit 4
+// right arrived. From bit 8 on stands the end that the rest keeps, as its code. A free word is 0.
 
 ghost use Rattle.std.specs.Prelude.{◌≡◌, ◌<◌, ◌^◌, ◌%◌, ◌/◌, ◌==◌};
 ghost use Rattle.join_records.specs.Ends.{code_of};
@@ -24,8 +24,8 @@ pub(crate) const RIGHT_ARRIVED: u64 = 16;
 /// What one more in the code of an end adds to a word.
 pub(crate) const END_STEP: u64 = 256;
 
-/// The number that stands for an end in a word: 0 for Root, else 1 + 2 * record, and one more for the
-/// right end.
+/// The number that stands for an end in a word: 0 for Root, else 1 + 2 * record, and one more for
+/// the right end.
 pub(crate) fn end_code(end: End) -> u64
     ensures code { result ≡ code_of end }
     ensures small { result < 2 ^ 34 }

@@ -7,7 +7,8 @@ use Rattle.tpal_tool.specs.declared.words.WordKind.{WordKind}
 use Rattle.tpal_tool.specs.declared.words.WordKind.TheVariants as kind
 use Rattle.tpal_tool.specs.declared.words.NextWord.{NextWord}
 use Rattle.tpal_tool.specs.declared.words.NextWord.TheVariants as next
-use Rattle.tpal_tool.specs.Words.{Command, Run, Compile, Given, Kind, Positional, EndOfOptions, FuelNext, FuelIs, Unlisted, Due, AnyWord, FuelValue}
+use Rattle.tpal_tool.specs.Words.{Command, Run, Compile, Given, Kind, Positional, EndOfOptions}
+use Rattle.tpal_tool.specs.Words.{FuelNext, FuelIs, Unlisted, Due, AnyWord, FuelValue}
 
 -- the command that a value stands for
 abbrev pub command_of : Request → Command
@@ -15,7 +16,12 @@ command_of (asked.Run run) = Run run.program.now (option_map (λ t. t.now) run.t
 command_of (asked.Compile program) = Compile program.now
 
 abbrev pub given_of : Gathered → Given
-given_of g = record { program = option_map (λ t. t.now) g.program; tables = option_map (λ t. t.now) g.tables; fuel = g.fuel }
+given_of g =
+    record {
+      program = option_map (λ t. t.now) g.program;
+      tables = option_map (λ t. t.now) g.tables;
+      fuel = g.fuel;
+    }
 
 abbrev pub kind_seen : WordKind → Kind
 kind_seen kind.Positional = Positional

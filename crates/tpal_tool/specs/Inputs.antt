@@ -12,7 +12,8 @@ is_given given name = list_any (λ table. bytes_eq table.name name) given
 -- the first declared input, in order, that has no table of its name
 abbrev pub first_missing : List TableDecl → List Table → Option (List ℕ)
 first_missing [] given = None
-first_missing (Input x ∷ ds) given = cond (is_given given x.text.items) (first_missing ds given) (Some x.text.items)
+first_missing (Input x ∷ ds) given =
+    cond (is_given given x.text.items) (first_missing ds given) (Some x.text.items)
 first_missing (Made x a b ∷ ds) given = first_missing ds given
 
 -- the tables without the first one of that name

@@ -1,5 +1,6 @@
 -- What a call owes.
-use Rattle.std.specs.Prelude.{◌≡◌, ◌≢◌, ◌⊎◌, ℕ, ◌<◌, ◌≤◌, List, [], Option, Some, None, IfSome, length}
+use Rattle.std.specs.Prelude.{◌≡◌, ◌≢◌, ◌⊎◌, ℕ, ◌<◌, ◌≤◌, List, [], Option, Some, None, IfSome}
+use Rattle.std.specs.Prelude.{length}
 use Rattle.tp_value.specs.declared.limits.TheConstants.{MAX_SOURCE_BYTES, MAX_TABLES_BYTES}
 use Rattle.tp_value.specs.declared.values.Table.{Table}
 use Rattle.loop_syntax.specs.declared.program.Program.{Program}
@@ -11,7 +12,9 @@ use Rattle.tpal_syntax.specs.Listing.{Listing}
 use Rattle.tpal_syntax.specs.Text.{CodeText}
 use Rattle.block_lower.specs.Owing.{OwesMeaning}
 use Rattle.tpal_tool.specs.declared.status.Status.{Status}
-use Rattle.tpal_tool.specs.declared.status.Status.TheVariants.{Done, Trap, OutOfFuel, Refused, NoMemory, ReadFault, WriteFault, BadWords}
+use Rattle.tpal_tool.specs.declared.status.Status.TheVariants.{Done, Trap, OutOfFuel, Refused}
+use Rattle.tpal_tool.specs.declared.status.Status.TheVariants.{NoMemory, ReadFault, WriteFault}
+use Rattle.tpal_tool.specs.declared.status.Status.TheVariants.{BadWords}
 use Rattle.tpal_tool.specs.Inputs.{first_missing}
 use Rattle.tpal_tool.specs.Lines.{bad_words_line, missing_line, tables_line, too_long_line}
 use Rattle.tpal_tool.specs.Shelf.{HasRisen}
@@ -22,13 +25,22 @@ use Rattle.tpal_tool.specs.Words.{Command, Run, Compile, program_name, tables_na
 -- ---- what a program owes
 
 -- what a run of a program over a tables text owes, with so much fuel: this status, and this text
-pub data RunOwes (program : Program) (tables : List ℕ) (fuel : ℕ) (status : Status) (text : List ℕ) : Type 0 where
-  faulty_tables : (fault : TableFault) → FirstTableFault tables fault → status ≡ Refused → text ≡ tables_line fault →
+pub data RunOwes (program : Program) (tables : List ℕ) (fuel : ℕ) (status : Status) (text : List ℕ)
+    : Type 0 where
+  faulty_tables : (fault : TableFault)
+      → FirstTableFault tables fault
+      → status ≡ Refused
+      → text ≡ tables_line fault →
       RunOwes program tables fuel status text
-  missing : (inputs : List Table) (name : List ℕ) → TablesOf tables inputs → first_missing program.tables.items inputs ≡ Some name →
+  missing : (inputs : List Table) (name : List ℕ)
+      → TablesOf tables inputs
+      → first_missing program.tables.items inputs ≡ Some name →
       status ≡ Refused → text ≡ missing_line name → RunOwes program tables fuel status text
-  ran : (inputs : List Table) → TablesOf tables inputs → first_missing program.tables.items inputs ≡ None →
-      status ≡ status_of Done Trap OutOfFuel (meaning program inputs fuel) → text ≡ text_of (meaning program inputs fuel) →
+  ran : (inputs : List Table)
+      → TablesOf tables inputs
+      → first_missing program.tables.items inputs ≡ None →
+      status ≡ status_of Done Trap OutOfFuel (meaning program inputs fuel)
+      → text ≡ text_of (meaning program inputs fuel) →
       RunOwes program tables fuel status text
 
 -- the text is that of a code whose first task owes the program's meaning, where nothing is diverted
@@ -39,20 +51,41 @@ pub record CompilesTo (program : Program) (text : List ℕ) : Type 0 where
 
 -- ---- what a call owes
 
--- what a call owes whose words ask for this, or are not of the form, where the texts that they name are these
-pub data Owes (wanted : Option Command) (source tables : List ℕ) (status : Status) (text : List ℕ) : Type 0 where
-  bad_words : wanted ≡ None → status ≡ BadWords → text ≡ bad_words_line → Owes wanted source tables status text
+-- what a call owes whose words ask for this, or are not of the form, where the texts that they name
+-- are these
+pub data Owes (wanted : Option Command) (source tables : List ℕ) (status : Status) (text : List ℕ) :
+    Type 0 where
+  bad_words : wanted ≡ None
+      → status ≡ BadWords
+      → text ≡ bad_words_line
+      → Owes wanted source tables status text
   too_long : {command : Command} → wanted ≡ Some command → MAX_SOURCE_BYTES < length source →
-      status ≡ Refused → text ≡ too_long_line (program_name command) → Owes wanted source tables status text
-  refused : {command : Command} → wanted ≡ Some command → length source ≤ MAX_SOURCE_BYTES → RefusesOnly source text →
+      status ≡ Refused
+      → text ≡ too_long_line (program_name command)
+      → Owes wanted source tables status text
+  refused : {command : Command}
+      → wanted ≡ Some command
+      → length source ≤ MAX_SOURCE_BYTES
+      → RefusesOnly source text →
       status ≡ Refused → Owes wanted source tables status text
-  compiled : {name : List ℕ} {program : Program} → wanted ≡ Some (Compile name) → length source ≤ MAX_SOURCE_BYTES →
-      AcceptsOnly source program → status ≡ Done → CompilesTo program text → Owes wanted source tables status text
-  tables_too_long : {name over : List ℕ} {fuel : ℕ} {program : Program} → wanted ≡ Some (Run name (Some over) fuel) →
-      length source ≤ MAX_SOURCE_BYTES → AcceptsOnly source program → MAX_TABLES_BYTES < length tables →
+  compiled : {name : List ℕ} {program : Program}
+      → wanted ≡ Some (Compile name)
+      → length source ≤ MAX_SOURCE_BYTES →
+      AcceptsOnly source program
+      → status ≡ Done
+      → CompilesTo program text
+      → Owes wanted source tables status text
+  tables_too_long : {name over : List ℕ} {fuel : ℕ} {program : Program}
+      → wanted ≡ Some (Run name (Some over) fuel) →
+      length source ≤ MAX_SOURCE_BYTES
+      → AcceptsOnly source program
+      → MAX_TABLES_BYTES < length tables →
       status ≡ Refused → text ≡ too_long_line over → Owes wanted source tables status text
-  ran : {name : List ℕ} {over : Option (List ℕ)} {fuel : ℕ} {program : Program} → wanted ≡ Some (Run name over fuel) →
-      length source ≤ MAX_SOURCE_BYTES → AcceptsOnly source program → length tables ≤ MAX_TABLES_BYTES →
+  ran : {name : List ℕ} {over : Option (List ℕ)} {fuel : ℕ} {program : Program}
+      → wanted ≡ Some (Run name over fuel) →
+      length source ≤ MAX_SOURCE_BYTES
+      → AcceptsOnly source program
+      → length tables ≤ MAX_TABLES_BYTES →
       RunOwes program tables fuel status text → Owes wanted source tables status text
 
 -- the tables text is that of the name, where it is told; without a name it is empty
@@ -66,14 +99,21 @@ IsToldTables told None tables = tables ≡ []
 IsToldTables told (Some name) tables = told name ≡ Some tables
 
 -- the texts of the names that are asked for are these, where they are told
-pub record AreTexts (wanted : Option Command) (told : List ℕ → Option (List ℕ)) (source tables : List ℕ) : Type 0 where
-  pub is_source : (command : Command) → wanted ≡ Some command → IfSome (told (program_name command)) (λ text. text ≡ source)
-  pub is_tables : (command : Command) → wanted ≡ Some command → IsTables told (tables_name command) tables
+pub record AreTexts (wanted : Option Command) (told : List ℕ → Option (List ℕ))
+    (source tables : List ℕ) : Type 0 where
+  pub is_source : (command : Command)
+      → wanted ≡ Some command
+      → IfSome (told (program_name command)) (λ text. text ≡ source)
+  pub is_tables : (command : Command)
+      → wanted ≡ Some command
+      → IsTables told (tables_name command) tables
 
 -- ---- how a call ends
 
--- a call that came to its end: it wrote the whole text that it owed, and answered the status that it owed
-pub record Finished (wanted : Option Command) (told : List ℕ → Option (List ℕ)) (old new : Option (List ℕ)) (status : Status) : Type 0 where
+-- a call that came to its end: it wrote the whole text that it owed, and answered the status that
+-- it owed
+pub record Finished (wanted : Option Command) (told : List ℕ → Option (List ℕ))
+    (old new : Option (List ℕ)) (status : Status) : Type 0 where
   pub source : List ℕ
   pub tables : List ℕ
   pub are_texts : AreTexts wanted told source tables
@@ -82,7 +122,8 @@ pub record Finished (wanted : Option Command) (told : List ℕ → Option (List 
   pub written : Appended old new text
 
 -- a call that was cut short while it wrote: a prefix of the text that it owed was written
-pub record CutShort (wanted : Option Command) (told : List ℕ → Option (List ℕ)) (old new : Option (List ℕ)) : Type 0 where
+pub record CutShort (wanted : Option Command) (told : List ℕ → Option (List ℕ))
+    (old new : Option (List ℕ)) : Type 0 where
   pub source : List ℕ
   pub tables : List ℕ
   pub are_texts : AreTexts wanted told source tables
@@ -96,13 +137,20 @@ pub record CutShort (wanted : Option Command) (told : List ℕ → Option (List 
 abbrev pub Names : Command → List ℕ → Type 0
 Names command name = (name ≡ program_name command) ⊎ (tables_name command ≡ Some name)
 
--- the count of the faults of a name rose: that of the program's text, or, where that text was accepted,
--- that of the tables' text
-pub data ReadFailed (wanted : Option Command) (told : List ℕ → Option (List ℕ)) (old new : List ℕ → ℕ) : Type 0 where
-  program_failed : {command : Command} → wanted ≡ Some command → HasRisen (old (program_name command)) (new (program_name command)) →
+-- the count of the faults of a name rose: that of the program's text, or, where that text was
+-- accepted, that of the tables' text
+pub data ReadFailed (wanted : Option Command) (told : List ℕ → Option (List ℕ))
+    (old new : List ℕ → ℕ) : Type 0 where
+  program_failed : {command : Command}
+      → wanted ≡ Some command
+      → HasRisen (old (program_name command)) (new (program_name command)) →
       ReadFailed wanted told old new
-  tables_failed : {name over : List ℕ} {fuel : ℕ} {program : Program} → wanted ≡ Some (Run name (Some over) fuel) →
-      (source : List ℕ) → IfSome (told name) (λ text. text ≡ source) → length source ≤ MAX_SOURCE_BYTES → AcceptsOnly source program →
+  tables_failed : {name over : List ℕ} {fuel : ℕ} {program : Program}
+      → wanted ≡ Some (Run name (Some over) fuel) →
+      (source : List ℕ)
+      → IfSome (told name) (λ text. text ≡ source)
+      → length source ≤ MAX_SOURCE_BYTES
+      → AcceptsOnly source program →
       HasRisen (old over) (new over) → ReadFailed wanted told old new
 
 -- a status with which the whole text was written
@@ -117,27 +165,56 @@ IsFinal ReadFault = ⊥
 IsFinal WriteFault = ⊥
 
 -- how a call ends
-pub data Ends (wanted : Option Command) (told : List ℕ → Option (List ℕ)) (reads reads' : List ℕ → ℕ) (old new : Option (List ℕ)) (writes writes' : ℕ) (status : Status) : Type 0 where
-  finished : IsFinal status → Finished wanted told old new status → Ends wanted told reads reads' old new writes writes' status
-  read_failed : status ≡ ReadFault → ReadFailed wanted told reads reads' → Appended old new [] → Ends wanted told reads reads' old new writes writes' status
-  write_failed : status ≡ WriteFault → HasRisen writes writes' → CutShort wanted told old new → Ends wanted told reads reads' old new writes writes' status
-  no_memory : status ≡ NoMemory → Appended old new [] ⊎ CutShort wanted told old new → Ends wanted told reads reads' old new writes writes' status
+pub data Ends (wanted : Option Command) (told : List ℕ → Option (List ℕ))
+    (reads reads' : List ℕ → ℕ) (old new : Option (List ℕ)) (writes writes' : ℕ) (status : Status) :
+    Type 0 where
+  finished : IsFinal status
+      → Finished wanted told old new status
+      → Ends wanted told reads reads' old new writes writes' status
+  read_failed : status ≡ ReadFault
+      → ReadFailed wanted told reads reads'
+      → Appended old new []
+      → Ends wanted told reads reads' old new writes writes' status
+  write_failed : status ≡ WriteFault
+      → HasRisen writes writes'
+      → CutShort wanted told old new
+      → Ends wanted told reads reads' old new writes writes' status
+  no_memory : status ≡ NoMemory
+      → Appended old new [] ⊎ CutShort wanted told old new
+      → Ends wanted told reads reads' old new writes writes' status
 
 -- what came of writing a text with a status
-pub data IsWritten (old new : Option (List ℕ)) (writes writes' : ℕ) (owed : Status) (text : List ℕ) (status : Status) : Type 0 where
+pub data IsWritten (old new : Option (List ℕ)) (writes writes' : ℕ) (owed : Status) (text : List ℕ)
+    (status : Status) : Type 0 where
   whole : status ≡ owed → Appended old new text → IsWritten old new writes writes' owed text status
-  failed : status ≡ WriteFault → HasRisen writes writes' → text ≢ [] → PrefixAppended old new text → IsWritten old new writes writes' owed text status
-  no_room : status ≡ NoMemory → text ≢ [] → PrefixAppended old new text → IsWritten old new writes writes' owed text status
+  failed : status ≡ WriteFault
+      → HasRisen writes writes'
+      → text ≢ []
+      → PrefixAppended old new text
+      → IsWritten old new writes writes' owed text status
+  no_room : status ≡ NoMemory
+      → text ≢ []
+      → PrefixAppended old new text
+      → IsWritten old new writes writes' owed text status
 
 -- ---- the parts of a call
 
 -- what a call owes, over some texts that are the named ones where those are told
-abbrev pub Owed : (wanted : Option Command) (told : List ℕ → Option (List ℕ)) (status : Status) (text : List ℕ) → Type 0
-Owed wanted told status text = (source : List ℕ) × (tables : List ℕ) × AreTexts wanted told source tables × Owes wanted source tables status text
+abbrev pub Owed : (wanted : Option Command) (told : List ℕ → Option (List ℕ)) (status : Status)
+    (text : List ℕ)
+    → Type 0
+Owed wanted told status text =
+    (source : List ℕ)
+    × (tables : List ℕ)
+    × AreTexts wanted told source tables
+    × Owes wanted source tables status text
 
 -- what a run of a program owes over the tables text of a name, or over the empty one
-pub data NamedRunOwes (program : Program) (told : List ℕ → Option (List ℕ)) (over : Option (List ℕ)) (fuel : ℕ) (status : Status) (text : List ℕ) : Type 0 where
-  long : {name : List ℕ} → over ≡ Some name → IfSome (told name) (λ tables. MAX_TABLES_BYTES < length tables) →
+pub data NamedRunOwes (program : Program) (told : List ℕ → Option (List ℕ)) (over : Option (List ℕ))
+    (fuel : ℕ) (status : Status) (text : List ℕ) : Type 0 where
+  long : {name : List ℕ}
+      → over ≡ Some name
+      → IfSome (told name) (λ tables. MAX_TABLES_BYTES < length tables) →
       status ≡ Refused → text ≡ too_long_line name → NamedRunOwes program told over fuel status text
   fits : (tables : List ℕ) → IsTables told over tables → length tables ≤ MAX_TABLES_BYTES →
       RunOwes program tables fuel status text → NamedRunOwes program told over fuel status text

@@ -26,7 +26,9 @@ IsReading source (Fault fault) = FirstTextFault source (fault_of fault)
 
 -- and the text reads as nothing else
 abbrev pub IsOnlyReading : List ℕ → Reading → Type 0
-IsOnlyReading source (Tree program) = IsOnlyTree source (program_of program) × ((fault : text.TextFault) → FirstTextFault source fault → ⊥)
+IsOnlyReading source (Tree program) =
+    IsOnlyTree source (program_of program)
+    × ((fault : text.TextFault) → FirstTextFault source fault → ⊥)
 IsOnlyReading source (Fault fault) = IsOnlyFault source (fault_of fault)
 
 -- the text reads as this program's tree, and as nothing else

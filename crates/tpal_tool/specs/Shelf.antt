@@ -1,5 +1,6 @@
 -- Where texts come from, and the counts of faults that shelves and sinks keep.
-use Rattle.std.specs.Prelude.{◌≡◌, ◌⊎◌, ◌+◌, ◌-◌, ◌^◌, ◌<◌, ℕ, min, List, [], Option, option_map, unwrap_or, String, string_bytes, Vec}
+use Rattle.std.specs.Prelude.{◌≡◌, ◌⊎◌, ◌+◌, ◌-◌, ◌^◌, ◌<◌, ℕ, min, List, [], Option, option_map}
+use Rattle.std.specs.Prelude.{unwrap_or, String, string_bytes, Vec}
 use Rattle.std.specs.List.{find}
 use Rattle.std.specs.Str.{bytes_eq}
 
@@ -21,7 +22,8 @@ call_after call = min (call + 1) (2 ^ 32 - 1)
 
 -- the text that stands first under a name
 abbrev pub text_of : {X Y : Type 0} → List (String X × Vec ℕ Y) → List ℕ → Option (List ℕ)
-text_of texts name = option_map (λ entry. entry.1.items) (find (λ entry. bytes_eq (string_bytes entry.0) name) texts)
+text_of texts name =
+    option_map (λ entry. entry.1.items) (find (λ entry. bytes_eq (string_bytes entry.0) name) texts)
 
 -- the same, where an absent name stands for the empty text
 abbrev pub text_or_empty : {X Y : Type 0} → List (String X × Vec ℕ Y) → List ℕ → List ℕ

@@ -13,7 +13,8 @@ Appended old new text = IfSome old (λ bytes. new ≡ Some (bytes ++ text))
 
 -- the same with the first bytes of the text, some of them or all
 abbrev pub PrefixAppended : Option (List ℕ) → Option (List ℕ) → List ℕ → Type 0
-PrefixAppended old new text = IfSome old (λ bytes. (front : List ℕ) × IsPrefix front text × (new ≡ Some (bytes ++ front)))
+PrefixAppended old new text =
+    IfSome old (λ bytes. (front : List ℕ) × IsPrefix front text × (new ≡ Some (bytes ++ front)))
 
 -- how many bytes of its piece a call keeps, where it is listed
 abbrev pub kept_at : List (ℕ × ℕ) → ℕ → Option ℕ

@@ -1,7 +1,9 @@
 -- The numbers of statuses.
 use Rattle.std.specs.Prelude.{ℕ}
 use Rattle.tpal_tool.specs.declared.status.Status.{Status}
-use Rattle.tpal_tool.specs.declared.status.Status.TheVariants.{Done, Trap, OutOfFuel, Refused, NoMemory, ReadFault, WriteFault, BadWords}
+use Rattle.tpal_tool.specs.declared.status.Status.TheVariants.{Done, Trap, OutOfFuel, Refused}
+use Rattle.tpal_tool.specs.declared.status.Status.TheVariants.{NoMemory, ReadFault, WriteFault}
+use Rattle.tpal_tool.specs.declared.status.Status.TheVariants.{BadWords}
 
 -- the number with which the process ends
 abbrev pub number_of : Status → ℕ

@@ -30,7 +30,8 @@ goes_to test Strays = false
 -- a task goes on for so many steps, and ends with the next one
 unfoldable pub is_last : ℕ → Listing → ℕ → State → Bool
 is_last zero code heartbeat state = is_end (step code heartbeat false state)
-is_last (suc n) code heartbeat state = goes_to (is_last n code heartbeat) (step code heartbeat false state)
+is_last (suc n) code heartbeat state =
+    goes_to (is_last n code heartbeat) (step code heartbeat false state)
 
 -- a task comes to its end: it has a number of steps that it goes on for
 abbrev pub ComesToAnEnd : Listing → ℕ → State → Type 0
@@ -47,7 +48,11 @@ not_both (Forks parts) test ends goes = true≢false (sym ends)
 not_both (Stuck fault) test ends goes = true≢false (sym ends)
 not_both Strays test ends goes = true≢false (sym ends)
 
-goes_both : (one : Step) (n m : ℕ) (p q : State → Bool) → ((after : State) → p after ≡ true → q after ≡ true → n ≡ m) → goes_to p one ≡ true → goes_to q one ≡ true → suc n ≡ suc m
+goes_both : (one : Step) (n m : ℕ) (p q : State → Bool)
+    → ((after : State) → p after ≡ true → q after ≡ true → n ≡ m)
+    → goes_to p one ≡ true
+    → goes_to q one ≡ true
+    → suc n ≡ suc m
 goes_both (Goes after) n m p q same a b = ap suc (same after a b)
 goes_both (Beats diverted) n m p q same a b = absurd (true≢false (sym a))
 goes_both (Ends e) n m p q same a b = absurd (true≢false (sym a))
@@ -56,12 +61,22 @@ goes_both (Forks parts) n m p q same a b = absurd (true≢false (sym a))
 goes_both (Stuck fault) n m p q same a b = absurd (true≢false (sym a))
 goes_both Strays n m p q same a b = absurd (true≢false (sym a))
 
-same_number : (n m : ℕ) (code : Listing) (heartbeat : ℕ) (state : State) → is_last n code heartbeat state ≡ true → is_last m code heartbeat state ≡ true → n ≡ m
+same_number : (n m : ℕ) (code : Listing) (heartbeat : ℕ) (state : State)
+    → is_last n code heartbeat state ≡ true
+    → is_last m code heartbeat state ≡ true
+    → n ≡ m
 unfolding is_last
 same_number zero zero code heartbeat state a b = refl
-same_number zero (suc m) code heartbeat state a b = absurd (not_both (step code heartbeat false state) (is_last m code heartbeat) a b)
-same_number (suc n) zero code heartbeat state a b = absurd (not_both (step code heartbeat false state) (is_last n code heartbeat) b a)
-same_number (suc n) (suc m) code heartbeat state a b = goes_both (step code heartbeat false state) n m (is_last n code heartbeat) (is_last m code heartbeat) (same_number n m code heartbeat) a b
+same_number zero (suc m) code heartbeat state a b =
+    absurd (not_both (step code heartbeat false state) (is_last m code heartbeat) a b)
+same_number (suc n) zero code heartbeat state a b =
+    absurd (not_both (step code heartbeat false state) (is_last n code heartbeat) b a)
+same_number (suc n) (suc m) code heartbeat state a b =
+    goes_both (step code heartbeat false state) n m (is_last n code heartbeat)
+    (is_last m code heartbeat) (same_number n m code heartbeat) a b
 
-pub ComesToAnEnd-prop : (code : Listing) (heartbeat : ℕ) (state : State) → IsProp (ComesToAnEnd code heartbeat state)
-ComesToAnEnd-prop code heartbeat state a b = Σ_prop_path (λ n. Bool-set (is_last n code heartbeat state) true) (same_number a.0 b.0 code heartbeat state a.1 b.1)
+pub ComesToAnEnd-prop : (code : Listing) (heartbeat : ℕ) (state : State)
+    → IsProp (ComesToAnEnd code heartbeat state)
+ComesToAnEnd-prop code heartbeat state a b =
+    Σ_prop_path (λ n. Bool-set (is_last n code heartbeat state) true)
+    (same_number a.0 b.0 code heartbeat state a.1 b.1)

@@ -16,12 +16,24 @@ use Rattle.tpal_tool.specs.Lines.{blocks_line, fault_line, parallel_line, rule_l
 
 -- a source text of at most the greatest length is refused with this line
 pub data Refuses (source : List ℕ) (line : List ℕ) : Type 0 where
-  faulty : (fault : TextFault) → FirstTextFault source fault → line ≡ fault_line fault → Refuses source line
-  broken : (program : Program) (rule : ℕ) (place : Place) → Reads source (program_of program) → IsFirstBroken program rule place →
+  faulty : (fault : TextFault)
+      → FirstTextFault source fault
+      → line ≡ fault_line fault
+      → Refuses source line
+  broken : (program : Program) (rule : ℕ) (place : Place)
+      → Reads source (program_of program)
+      → IsFirstBroken program rule place →
       line ≡ rule_line rule place → Refuses source line
-  broken_parallel : (program : Program) (rule : ℕ) (place : Place) → Reads source (program_of program) → IsResolved program →
-      parallel.IsFirstBroken program rule place → line ≡ parallel_line rule place → Refuses source line
-  too_many_blocks : (program : Program) → Reads source (program_of program) → NoneBroken program → MAX_BLOCKS < blocks_of_program program →
+  broken_parallel : (program : Program) (rule : ℕ) (place : Place)
+      → Reads source (program_of program)
+      → IsResolved program →
+      parallel.IsFirstBroken program rule place
+      → line ≡ parallel_line rule place
+      → Refuses source line
+  too_many_blocks : (program : Program)
+      → Reads source (program_of program)
+      → NoneBroken program
+      → MAX_BLOCKS < blocks_of_program program →
       line ≡ blocks_line (blocks_of_program program) → Refuses source line
 
 -- a source text is that of this program, which breaks no rule and whose code has few enough blocks

@@ -1,6 +1,7 @@
 // Files as a shelf.
 
-ghost use Rattle.std.specs.Prelude.{◌≡◌, ◌≢◌, ◌≤◌, ℕ, List, length, take, None, Err, IfOk, IfSome, IsErrOf};
+ghost use Rattle.std.specs.Prelude.{◌≡◌, ◌≢◌, ◌≤◌, ℕ, List, length, take, None, Err, IfOk, IfSome};
+ghost use Rattle.std.specs.Prelude.{IsErrOf};
 ghost use Rattle.tpal_tool.specs.Shelf.{HasRisen, count_after};
 
 use crate::shelf::{Shelf, ShelfFault};
@@ -52,7 +53,8 @@ fn read_file<R: Files>(rt: &R, alloc: Global, path: &str, most: u64) -> io::Resu
 
 // The first bytes that a reader has left, at most so many.
 fn read_first<F: Read + Drop>(alloc: Global, reader: F, most: u64) -> io::Result<Vec<u8>>
-    ensures { IfOk result (λ bytes. IfSome (F.remaining reader) (λ left. bytes.items ≡ take most left)) }
+    ensures { IfOk result
+        (λ bytes. IfSome (F.remaining reader) (λ left. bytes.items ≡ take most left)) }
 {
     let mut bytes = Vec::new(alloc);
     reader.take(most).read_to_end(&mut bytes)?;

@@ -1,9 +1,9 @@
 //! The program's top call, and the outside that it works on: the words of a call, texts that are
-//! fetched by name from a shelf, bytes that are written to a sink, refusals and statuses.
-//! Shelf and sink are traits whose ghost members are their meaning: texts and bytes where they are
-//! told, and a count of faults, without which neither may fail.
-//! It stands on the front of the compiler, the machine and the meaning. Start with `tool`, whose
-//! contract says what a call writes and answers; `specs/Owed.antt` has the definitions that it cites.
+//! fetched by name from a shelf, bytes that are written to a sink, refusals and statuses. Shelf and
+//! sink are traits whose ghost members are their meaning: texts and bytes where they are told, and
+//! a count of faults, without which neither may fail. It stands on the front of the compiler, the
+//! machine and the meaning. Start with `tool`, whose contract says what a call writes and answers;
+//! `specs/Owed.antt` has the definitions that it cites.
 #![tactic(auto)]
 
 mod files;

@@ -1,7 +1,9 @@
 // The lines of refusals.
 
 ghost use Rattle.std.specs.Prelude.{◌≡◌, ◌≢◌, IfOk};
-ghost use Rattle.tpal_tool.specs.Lines.{bad_words_line, blocks_line, fault_line, fault_of, line_at, line_at_byte, missing_line, parallel_line, rule_line, tables_line, too_long_line};
+ghost use Rattle.tpal_tool.specs.Lines.{bad_words_line, blocks_line, fault_line, fault_of, line_at};
+ghost use Rattle.tpal_tool.specs.Lines.{line_at_byte, missing_line, parallel_line, rule_line};
+ghost use Rattle.tpal_tool.specs.Lines.{tables_line, too_long_line};
 
 use std::alloc::{AllocError, Global};
 use table_text::TableFault;

@@ -1,6 +1,8 @@
 // Shelves in memory.
 
-ghost use Rattle.std.specs.Prelude.{◌≡◌, ◌≢◌, ◌⊎◌, ◌↔◌, ◌<◌, ◌≤◌, ℕ, List, Some, None, Contains, length, option_copied, Err, IfOk, OnOk, IfSome, IsNone, IsErrOf};
+ghost use Rattle.std.specs.Prelude.{◌≡◌, ◌≢◌, ◌⊎◌, ◌↔◌, ◌<◌, ◌≤◌, ℕ, List, Some, None, Contains};
+ghost use Rattle.std.specs.Prelude.{length, option_copied, Err, IfOk, OnOk, IfSome, IsNone};
+ghost use Rattle.std.specs.Prelude.{IsErrOf};
 ghost use Rattle.tpal_tool.specs.Shelf.{HasRisen, call_after, count_after, text_of, text_or_empty};
 
 use crate::shelf::{Shelf, ShelfFault};
@@ -27,14 +29,16 @@ impl Shelf for MemShelf {
     ghost faults = { λ shelf _. shelf.faults };
 
     fn fetch(&mut self, alloc: Global, name: &str, limit: u32) -> Result<Vec<u8>, ShelfFault>
-        ensures told { IfOk result (λ bytes. IfSome (text_of self.old.texts.items name.now) (λ told. bytes.items ≡ told)) }
+        ensures told { IfOk result
+            (λ bytes. IfSome (text_of self.old.texts.items name.now) (λ told. bytes.items ≡ told)) }
         ensures within { IfOk result (λ bytes. length bytes.items ≤ limit) }
 
         ensures failed { IsErrOf result ShelfFault.Failed → HasRisen self.old.faults self.new.faults }
         ensures long { IsErrOf result ShelfFault.Long
             → IfSome (text_of self.old.texts.items name.now) (λ told. limit < length told) }
 
-        ensures texts { (other : List ℕ) → text_of self.new.texts.items other ≡ text_of self.old.texts.items other }
+        ensures texts { (other : List ℕ)
+            → text_of self.new.texts.items other ≡ text_of self.old.texts.items other }
         ensures counts { self.old.faults ≤ self.new.faults }
 
         // It fails where it is told to, and at absent names.
@@ -44,7 +48,9 @@ impl Shelf for MemShelf {
         // What it leaves.
         ensures after_ok { OnOk result (self.new ≡ record self.old { calls = call_after self.old.calls }) }
         ensures after_failed { IsErrOf result ShelfFault.Failed
-            → self.new ≡ record self.old { calls = call_after self.old.calls; faults = count_after self.old.faults } }
+            → self.new
+            ≡ record self.old
+            { calls = call_after self.old.calls; faults = count_after self.old.faults } }
         ensures after_long { IsErrOf result ShelfFault.Long
             → self.new ≡ record self.old { calls = call_after self.old.calls } }
         ensures after_no_memory { IsErrOf result ShelfFault.NoMemory → self.new ≡ self.old }

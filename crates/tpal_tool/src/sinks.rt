@@ -1,6 +1,7 @@
 // A sink in memory.
 
-ghost use Rattle.std.specs.Prelude.{◌≡◌, ◌≤◌, ◌++◌, [], Some, None, take, OnOk, IsNone, IsSomeAnd, IsErrOf};
+ghost use Rattle.std.specs.Prelude.{◌≡◌, ◌≤◌, ◌++◌, [], Some, None, take, OnOk, IsNone, IsSomeAnd};
+ghost use Rattle.std.specs.Prelude.{IsErrOf};
 ghost use Rattle.tpal_tool.specs.Shelf.{HasRisen, call_after, count_after};
 ghost use Rattle.tpal_tool.specs.Sink.{Appended, PrefixAppended, kept_at};
 
@@ -27,7 +28,8 @@ impl Sink for MemSink {
     ghost faults = { λ sink. sink.faults };
 
     fn write(&mut self, piece: &[u8]) -> Result<(), SinkFault>
-        ensures appended { OnOk result (Appended (Some self.old.bytes.items) (Some self.new.bytes.items) piece.now) }
+        ensures appended { OnOk result
+            (Appended (Some self.old.bytes.items) (Some self.new.bytes.items) piece.now) }
 
         ensures failed { IsErrOf result SinkFault.Failed → HasRisen self.old.faults self.new.faults }
         ensures prefix { IsErrOf result SinkFault.Failed
@@ -38,15 +40,18 @@ impl Sink for MemSink {
         ensures count { self.old.faults ≤ self.new.faults }
 
         // It fails where it is told to, and keeps what it is told to.
-        ensures listed { IsErrOf result SinkFault.Failed → IsSomeAnd (kept_at self.old.fails.items self.old.calls)
+        ensures listed { IsErrOf result SinkFault.Failed
+            → IsSomeAnd (kept_at self.old.fails.items self.old.calls)
             (λ kept. self.new.bytes.items ≡ self.old.bytes.items ++ take kept piece.now) }
         ensures unlisted { OnOk result (IsNone (kept_at self.old.fails.items self.old.calls)) }
 
         // What it leaves.
         ensures fails { self.new.fails ≡ self.old.fails }
-        ensures after_ok { OnOk result ((self.new.calls ≡ call_after self.old.calls) × (self.new.faults ≡ self.old.faults)) }
+        ensures after_ok { OnOk result
+            ((self.new.calls ≡ call_after self.old.calls) × (self.new.faults ≡ self.old.faults)) }
         ensures after_failed { IsErrOf result SinkFault.Failed
-            → (self.new.calls ≡ call_after self.old.calls) × (self.new.faults ≡ count_after self.old.faults) }
+            → (self.new.calls ≡ call_after self.old.calls)
+            × (self.new.faults ≡ count_after self.old.faults) }
         ensures after_no_memory { IsErrOf result SinkFault.NoMemory
             → (self.new.calls ≡ self.old.calls) × (self.new.faults ≡ self.old.faults)
             × (self.new.bytes.items ≡ self.old.bytes.items) }

@@ -26,9 +26,12 @@ struct Finite<'a> {
 /// Turn after turn, to the end.
 fn run_turns(run: Finite) -> Result<Outcome, NoMemory>
     requires heartbeat { 1 ≤ run.heartbeat }
-    requires owes { (n : ℕ) × (o : Outcome) × OwesSerially run.code.now run.heartbeat n run.task (ending.Root o) }
+    requires owes { (n : ℕ)
+        × (o : Outcome)
+        × OwesSerially run.code.now run.heartbeat n run.task (ending.Root o) }
     requires no_record { run.task.pending ≡ None }
-    ensures { (n : ℕ) (e : Ending) → OwesSerially run.entry.code.now run.entry.heartbeat n run.entry.task e
+    ensures { (n : ℕ) (e : Ending)
+        → OwesSerially run.entry.code.now run.entry.heartbeat n run.entry.task e
         → IfOk result (λ outcome. e ≡ ending.Root outcome) }
 {
     let Finite {

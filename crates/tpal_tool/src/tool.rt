@@ -1,7 +1,10 @@
 // The top call.
 
-ghost use Rattle.std.specs.Prelude.{◌≡◌, ◌≢◌, ◌⊎◌, ◌↔◌, ℕ, ◌<◌, ◌≤◌, All, Option, List, [], IfOk, IfSome, Some, None, Err, IsSomeAnd, length, map, option_map, string_bytes};
-ghost use Rattle.tp_value.specs.declared.limits.TheConstants.{MAX_BLOCKS, MAX_FUEL, MAX_SOURCE_BYTES, MAX_TABLES_BYTES};
+ghost use Rattle.std.specs.Prelude.{◌≡◌, ◌≢◌, ◌⊎◌, ◌↔◌, ℕ, ◌<◌, ◌≤◌, All, Option, List, [], IfOk};
+ghost use Rattle.std.specs.Prelude.{IfSome, Some, None, Err, IsSomeAnd, length, map, option_map};
+ghost use Rattle.std.specs.Prelude.{string_bytes};
+ghost use Rattle.tp_value.specs.declared.limits.TheConstants.{MAX_BLOCKS, MAX_FUEL};
+ghost use Rattle.tp_value.specs.declared.limits.TheConstants.{MAX_SOURCE_BYTES, MAX_TABLES_BYTES};
 ghost use Rattle.tp_value.specs.declared.values.Table.{Table};
 ghost use Rattle.loop_syntax.specs.declared.program.Program.{Program};
 ghost use Rattle.block_lower.specs.Count.{blocks_of_program};
@@ -12,7 +15,8 @@ ghost use Rattle.table_text.specs.TablesText.{TablesOf};
 ghost use Rattle.tpal_tool.specs.Asking.{command_of};
 ghost use Rattle.tpal_tool.specs.Inputs.{first_missing};
 ghost use Rattle.tpal_tool.specs.Lines.{bad_words_line, missing_line, too_long_line};
-ghost use Rattle.tpal_tool.specs.Owed.{CompilesTo, CutShort, Ends, Finished, IsFinal, IsToldTables, IsWritten, NamedRunOwes, Names, Owed, ReadFailed, RunOwes};
+ghost use Rattle.tpal_tool.specs.Owed.{CompilesTo, CutShort, Ends, Finished, IsFinal, IsToldTables};
+ghost use Rattle.tpal_tool.specs.Owed.{IsWritten, NamedRunOwes, Names, Owed, ReadFailed, RunOwes};
 ghost use Rattle.tpal_tool.specs.Shelf.{HasRisen};
 ghost use Rattle.tpal_tool.specs.Sink.{Appended};
 ghost use Rattle.tpal_tool.specs.Verdict.{Accepts, Refuses};
@@ -43,7 +47,8 @@ struct Answer {
 }
 
 fn bad_words_answer(alloc: Global) -> Result<Answer, NoMemory>
-    ensures { IfOk result (λ answer. (answer.status ≡ Status.BadWords) × (answer.text.items ≡ bad_words_line)) }
+    ensures { IfOk result
+        (λ answer. (answer.status ≡ Status.BadWords) × (answer.text.items ≡ bad_words_line)) }
 {
     let text = bad_words_line(alloc)?;
     let status = Status::BadWords;
@@ -51,7 +56,8 @@ fn bad_words_answer(alloc: Global) -> Result<Answer, NoMemory>
 }
 
 fn too_long_answer(alloc: Global, name: &str) -> Result<Answer, NoMemory>
-    ensures { IfOk result (λ answer. (answer.status ≡ Status.Refused) × (answer.text.items ≡ too_long_line name.now)) }
+    ensures { IfOk result
+        (λ answer. (answer.status ≡ Status.Refused) × (answer.text.items ≡ too_long_line name.now)) }
 {
     let text = too_long_line(alloc, name)?;
     let status = Status::Refused;
@@ -122,7 +128,8 @@ fn run_answer(
     requires blocks { blocks_of_program program.now ≤ MAX_BLOCKS }
     requires tables { length tables.now ≤ MAX_TABLES_BYTES }
     requires fuel { fuel ≤ MAX_FUEL }
-    ensures { IfOk result (λ answer. RunOwes program.now tables.now fuel answer.status answer.text.items) }
+    ensures { IfOk result
+        (λ answer. RunOwes program.now tables.now fuel answer.status answer.text.items) }
 {
     match read_tables(alloc, tables) {
         Ok(given) => given_answer(alloc, program, given, fuel),
@@ -162,8 +169,11 @@ fn fetched_run_answer<S: Shelf>(
 ) -> Result<Answer, Silence>
     requires blocks { blocks_of_program program.now ≤ MAX_BLOCKS }
     requires fuel { fuel ≤ MAX_FUEL }
-    ensures answer { IfOk result (λ answer. NamedRunOwes program.now (S.text shelf.old) (Some name.now) fuel answer.status answer.text.items) }
-    ensures read_failed { result ≡ Err Silence.ReadFailed → HasRisen (S.faults shelf.old name.now) (S.faults shelf.new name.now) }
+    ensures answer { IfOk result
+        (λ answer. NamedRunOwes program.now (S.text shelf.old) (Some name.now) fuel answer.status
+        answer.text.items) }
+    ensures read_failed { result ≡ Err Silence.ReadFailed
+        → HasRisen (S.faults shelf.old name.now) (S.faults shelf.new name.now) }
 {
     match shelf.fetch(alloc, name, MAX_TABLES_BYTES) {
         Ok(tables) => Ok(run_answer(alloc, program, &tables, fuel)?),
@@ -184,7 +194,8 @@ fn named_run_answer<S: Shelf>(
     ensures answer { IfOk result (λ answer. NamedRunOwes program.now (S.text shelf.old)
         (option_map (λ t. t.now) run.entry.tables) run.entry.fuel answer.status answer.text.items) }
     ensures read_failed { result ≡ Err Silence.ReadFailed
-        → IsSomeAnd (option_map (λ t. t.now) run.entry.tables) (λ name. HasRisen (S.faults shelf.old name) (S.faults shelf.new name)) }
+        → IsSomeAnd (option_map (λ t. t.now) run.entry.tables)
+        (λ name. HasRisen (S.faults shelf.old name) (S.faults shelf.new name)) }
 {
     match run.tables {
         None => Ok(run_answer(alloc, program, &[], run.fuel)?),
@@ -201,9 +212,12 @@ fn source_answer<S: Shelf>(
 ) -> Result<Answer, Silence>
     requires within { length source.now ≤ MAX_SOURCE_BYTES }
     requires told { IfSome (S.text shelf.old (program_name (command_of request))) (λ text. source.now ≡ text) }
-    ensures answer { IfOk result (λ answer. Owed (Some (command_of request.entry)) (S.text shelf.old) answer.status answer.text.items) }
+    ensures answer { IfOk result
+        (λ answer. Owed (Some (command_of request.entry)) (S.text shelf.old) answer.status
+        answer.text.items) }
     ensures read_failed { result ≡ Err Silence.ReadFailed
-        → ReadFailed (Some (command_of request.entry)) (S.text shelf.old) (S.faults shelf.old) (S.faults shelf.new) }
+        → ReadFailed (Some (command_of request.entry)) (S.text shelf.old) (S.faults shelf.old)
+        (S.faults shelf.new) }
 {
     match judge(alloc, source)? {
         Verdict::Refused(text) => {
@@ -223,9 +237,12 @@ fn request_answer<S: Shelf>(
     request: Request,
     shelf: &mut S,
 ) -> Result<Answer, Silence>
-    ensures answer { IfOk result (λ answer. Owed (Some (command_of request.entry)) (S.text shelf.old) answer.status answer.text.items) }
+    ensures answer { IfOk result
+        (λ answer. Owed (Some (command_of request.entry)) (S.text shelf.old) answer.status
+        answer.text.items) }
     ensures read_failed { result ≡ Err Silence.ReadFailed
-        → ReadFailed (Some (command_of request.entry)) (S.text shelf.old) (S.faults shelf.old) (S.faults shelf.new) }
+        → ReadFailed (Some (command_of request.entry)) (S.text shelf.old) (S.faults shelf.old)
+        (S.faults shelf.new) }
 {
     let name = request.program();
     match shelf.fetch(alloc, name, MAX_SOURCE_BYTES) {
@@ -238,9 +255,12 @@ fn request_answer<S: Shelf>(
 
 /// The answer to the words, with the texts that they name fetched from the shelf.
 fn words_answer<S: Shelf>(alloc: Global, words: &[String], shelf: &mut S) -> Result<Answer, Silence>
-    ensures answer { IfOk result (λ answer. Owed (asked (map string_bytes words.now)) (S.text shelf.old) answer.status answer.text.items) }
+    ensures answer { IfOk result
+        (λ answer. Owed (asked (map string_bytes words.now)) (S.text shelf.old) answer.status
+        answer.text.items) }
     ensures read_failed { result ≡ Err Silence.ReadFailed
-        → ReadFailed (asked (map string_bytes words.now)) (S.text shelf.old) (S.faults shelf.old) (S.faults shelf.new) }
+        → ReadFailed (asked (map string_bytes words.now)) (S.text shelf.old) (S.faults shelf.old)
+        (S.faults shelf.new) }
 {
     match asked(words) {
         None => Ok(bad_words_answer(alloc)?),
@@ -250,7 +270,8 @@ fn words_answer<S: Shelf>(alloc: Global, words: &[String], shelf: &mut S) -> Res
 
 /// Writes an answer's text, and answers its status where the whole text was written.
 fn written<K: Sink>(sink: &mut K, answer: &Answer) -> Status
-    ensures { IsWritten (K.written sink.old) (K.written sink.new) (K.faults sink.old) (K.faults sink.new) answer.now.status answer.now.text.items result }
+    ensures { IsWritten (K.written sink.old) (K.written sink.new) (K.faults sink.old)
+        (K.faults sink.new) answer.now.status answer.now.text.items result }
 {
     match write_text(sink, &answer.text) {
         Ok(()) => answer.status,
@@ -260,7 +281,9 @@ fn written<K: Sink>(sink: &mut K, answer: &Answer) -> Status
 }
 
 fn call<S: Shelf, K: Sink>(alloc: Global, words: &[String], shelf: &mut S, sink: &mut K) -> Status
-    ensures { Ends (asked (map string_bytes words.now)) (S.text shelf.old) (S.faults shelf.old) (S.faults shelf.new) (K.written sink.old) (K.written sink.new) (K.faults sink.old) (K.faults sink.new) result }
+    ensures { Ends (asked (map string_bytes words.now)) (S.text shelf.old) (S.faults shelf.old)
+        (S.faults shelf.new) (K.written sink.old) (K.written sink.new) (K.faults sink.old)
+        (K.faults sink.new) result }
 {
     match words_answer(alloc, words, shelf) {
         Ok(answer) => written(sink, &answer),
@@ -271,16 +294,16 @@ fn call<S: Shelf, K: Sink>(alloc: Global, words: &[String], shelf: &mut S, sink:
 
 /// Does what the words ask for, and writes what comes of it.
 ///
-/// The words are `run`, a name, and optionally a second name, with `--fuel` and a number of ticks, at
-/// most 1,000,000,000,000, in one word with `=` or in two; or `compile` and a name. `--` ends the
-/// options. All others are bad words. `run` runs the program whose text has the first name, over the
-/// tables text of the second, or over the empty one, with a fuel of 1,000,000,000 ticks where none is
-/// given. `compile` writes the program's code. The texts are fetched from the shelf.
+/// The words are `run`, a name, and optionally a second name, with `--fuel` and a number of ticks,
+/// at most 1,000,000,000,000, in one word with `=` or in two; or `compile` and a name. `--` ends
+/// the options. All others are bad words. `run` runs the program whose text has the first name,
+/// over the tables text of the second, or over the empty one, with a fuel of 1,000,000,000 ticks
+/// where none is given. `compile` writes the program's code. The texts are fetched from the shelf.
 ///
-/// `ReadFault` comes only where the count of the first name's faults rose, or, where the program was
-/// accepted, that of the second name's, and nothing is written then; `WriteFault` only where the
-/// sink's count rose, and a prefix of a text that isn't empty was written. `NoMemory` is free. Every
-/// other status comes with the whole text.
+/// `ReadFault` comes only where the count of the first name's faults rose, or, where the program
+/// was accepted, that of the second name's, and nothing is written then; `WriteFault` only where
+/// the sink's count rose, and a prefix of a text that isn't empty was written. `NoMemory` is free.
+/// Every other status comes with the whole text.
 pub fn tpal<S: Shelf, K: Sink>(
     alloc: Global,
     words: &[String],
@@ -289,66 +312,104 @@ pub fn tpal<S: Shelf, K: Sink>(
 ) -> Status
     // The headline: a call that ends without a fault and with memory wrote what it owes.
     ensures answered { IsFinal result
-        → Finished (asked (map string_bytes words.now)) (S.text shelf.old) (K.written sink.old) (K.written sink.new) result }
+        → Finished (asked (map string_bytes words.now)) (S.text shelf.old) (K.written sink.old)
+        (K.written sink.new) result }
 
     // Each way to end without that has its cause.
     ensures read_fault { result ≡ Status.ReadFault
-        → ReadFailed (asked (map string_bytes words.now)) (S.text shelf.old) (S.faults shelf.old) (S.faults shelf.new) }
+        → ReadFailed (asked (map string_bytes words.now)) (S.text shelf.old) (S.faults shelf.old)
+        (S.faults shelf.new) }
     ensures read_fault_writes_nothing { result ≡ Status.ReadFault → Appended (K.written sink.old) (K.written sink.new) [] }
     ensures write_fault { result ≡ Status.WriteFault → HasRisen (K.faults sink.old) (K.faults sink.new) }
     ensures write_fault_prefix { result ≡ Status.WriteFault
-        → CutShort (asked (map string_bytes words.now)) (S.text shelf.old) (K.written sink.old) (K.written sink.new) }
+        → CutShort (asked (map string_bytes words.now)) (S.text shelf.old) (K.written sink.old)
+        (K.written sink.new) }
     ensures no_memory { result ≡ Status.NoMemory
         → Appended (K.written sink.old) (K.written sink.new) []
-        ⊎ CutShort (asked (map string_bytes words.now)) (S.text shelf.old) (K.written sink.old) (K.written sink.new) }
+        ⊎ CutShort (asked (map string_bytes words.now)) (S.text shelf.old) (K.written sink.old)
+        (K.written sink.new) }
 
     // Each refusal comes exactly where its cause stands.
-    ensures bad_words { IsFinal result → (result ≡ Status.BadWords) ↔ (asked (map string_bytes words.now) ≡ None) }
-    ensures bad_words_line { result ≡ Status.BadWords → Appended (K.written sink.old) (K.written sink.new) bad_words_line }
+    ensures bad_words { IsFinal result
+        → (result ≡ Status.BadWords) ↔ (asked (map string_bytes words.now) ≡ None) }
+    ensures bad_words_line { result ≡ Status.BadWords
+        → Appended (K.written sink.old) (K.written sink.new) bad_words_line }
     ensures too_long { (command : Command) (source : List ℕ) → IsFinal result
-        → asked (map string_bytes words.now) ≡ Some command → S.text shelf.old (program_name command) ≡ Some source
+        → asked (map string_bytes words.now) ≡ Some command
+        → S.text shelf.old (program_name command) ≡ Some source
         → MAX_SOURCE_BYTES < length source
-        → (result ≡ Status.Refused) × Appended (K.written sink.old) (K.written sink.new) (too_long_line (program_name command)) }
+        → (result ≡ Status.Refused)
+        × Appended (K.written sink.old) (K.written sink.new)
+        (too_long_line (program_name command)) }
     ensures refused { (command : Command) (source line : List ℕ) → IsFinal result
-        → asked (map string_bytes words.now) ≡ Some command → S.text shelf.old (program_name command) ≡ Some source
+        → asked (map string_bytes words.now) ≡ Some command
+        → S.text shelf.old (program_name command) ≡ Some source
         → length source ≤ MAX_SOURCE_BYTES → Refuses source line
         → (result ≡ Status.Refused) × Appended (K.written sink.old) (K.written sink.new) line }
     ensures tables_too_long { (name over source tables : List ℕ) (fuel : ℕ) (program : Program) → IsFinal result
-        → asked (map string_bytes words.now) ≡ Some (Run name (Some over) fuel) → S.text shelf.old name ≡ Some source
-        → length source ≤ MAX_SOURCE_BYTES → Accepts source program → S.text shelf.old over ≡ Some tables
+        → asked (map string_bytes words.now) ≡ Some (Run name (Some over) fuel)
+        → S.text shelf.old name ≡ Some source
+        → length source ≤ MAX_SOURCE_BYTES
+        → Accepts source program
+        → S.text shelf.old over ≡ Some tables
         → MAX_TABLES_BYTES < length tables
-        → (result ≡ Status.Refused) × Appended (K.written sink.old) (K.written sink.new) (too_long_line over) }
+        → (result ≡ Status.Refused)
+        × Appended (K.written sink.old) (K.written sink.new) (too_long_line over) }
 
-    ensures missing { (name source tables input : List ℕ) (over : Option (List ℕ)) (fuel : ℕ) (program : Program) (inputs : List Table)
+    ensures missing { (name source tables input : List ℕ) (over : Option (List ℕ)) (fuel : ℕ)
+        (program : Program) (inputs : List Table)
         → IsFinal result
-        → asked (map string_bytes words.now) ≡ Some (Run name over fuel) → S.text shelf.old name ≡ Some source
-        → length source ≤ MAX_SOURCE_BYTES → Accepts source program → IsToldTables (S.text shelf.old) over tables
-        → length tables ≤ MAX_TABLES_BYTES → TablesOf tables inputs → first_missing program.tables.items inputs ≡ Some input
-        → (result ≡ Status.Refused) × Appended (K.written sink.old) (K.written sink.new) (missing_line input) }
+        → asked (map string_bytes words.now) ≡ Some (Run name over fuel)
+        → S.text shelf.old name ≡ Some source
+        → length source ≤ MAX_SOURCE_BYTES
+        → Accepts source program
+        → IsToldTables (S.text shelf.old) over tables
+        → length tables ≤ MAX_TABLES_BYTES
+        → TablesOf tables inputs
+        → first_missing program.tables.items inputs ≡ Some input
+        → (result ≡ Status.Refused)
+        × Appended (K.written sink.old) (K.written sink.new) (missing_line input) }
 
     // A program that is accepted runs over its tables text, or is compiled.
-    ensures ran { (name source tables text : List ℕ) (over : Option (List ℕ)) (fuel : ℕ) (program : Program) (status : Status)
+    ensures ran { (name source tables text : List ℕ) (over : Option (List ℕ)) (fuel : ℕ) (program : Program)
+        (status : Status)
         → IsFinal result
-        → asked (map string_bytes words.now) ≡ Some (Run name over fuel) → S.text shelf.old name ≡ Some source
-        → length source ≤ MAX_SOURCE_BYTES → Accepts source program → IsToldTables (S.text shelf.old) over tables
+        → asked (map string_bytes words.now) ≡ Some (Run name over fuel)
+        → S.text shelf.old name ≡ Some source
+        → length source ≤ MAX_SOURCE_BYTES
+        → Accepts source program
+        → IsToldTables (S.text shelf.old) over tables
         → length tables ≤ MAX_TABLES_BYTES → RunOwes program tables fuel status text
         → (result ≡ status) × Appended (K.written sink.old) (K.written sink.new) text }
     ensures compiled { (name source : List ℕ) (program : Program) → IsFinal result
-        → asked (map string_bytes words.now) ≡ Some (Compile name) → S.text shelf.old name ≡ Some source
+        → asked (map string_bytes words.now) ≡ Some (Compile name)
+        → S.text shelf.old name ≡ Some source
         → length source ≤ MAX_SOURCE_BYTES → Accepts source program
         → result ≡ Status.Done }
 
-    // Words of the form, a program that is accepted, tables that are of the form and have each input,
-    // and no counted fault: as the program's meaning ends, or no memory.
-    ensures runs { (name source tables : List ℕ) (over : Option (List ℕ)) (fuel : ℕ) (program : Program) (inputs : List Table)
-        → asked (map string_bytes words.now) ≡ Some (Run name over fuel) → S.text shelf.old name ≡ Some source
-        → length source ≤ MAX_SOURCE_BYTES → Accepts source program → IsToldTables (S.text shelf.old) over tables
-        → length tables ≤ MAX_TABLES_BYTES → TablesOf tables inputs → first_missing program.tables.items inputs ≡ None
-        → ((read : List ℕ) → Names (Run name over fuel) read → HasRisen (S.faults shelf.old read) (S.faults shelf.new read) → ⊥)
+    // Words of the form, a program that is accepted, tables that are of the form and have each
+    // input, and no counted fault: as the program's meaning ends, or no memory.
+    ensures runs { (name source tables : List ℕ) (over : Option (List ℕ)) (fuel : ℕ) (program : Program)
+        (inputs : List Table)
+        → asked (map string_bytes words.now) ≡ Some (Run name over fuel)
+        → S.text shelf.old name ≡ Some source
+        → length source ≤ MAX_SOURCE_BYTES
+        → Accepts source program
+        → IsToldTables (S.text shelf.old) over tables
+        → length tables ≤ MAX_TABLES_BYTES
+        → TablesOf tables inputs
+        → first_missing program.tables.items inputs ≡ None
+        → ((read : List ℕ)
+        → Names (Run name over fuel) read
+        → HasRisen (S.faults shelf.old read) (S.faults shelf.new read)
+        → ⊥)
         → (HasRisen (K.faults sink.old) (K.faults sink.new) → ⊥)
-        → (result ≡ status_of Status.Done Status.Trap Status.OutOfFuel (meaning program inputs fuel)) ⊎ (result ≡ Status.NoMemory) }
+        → (result
+        ≡ status_of Status.Done Status.Trap Status.OutOfFuel (meaning program inputs fuel))
+        ⊎ (result ≡ Status.NoMemory) }
     ensures compiles { (name source : List ℕ) (program : Program)
-        → asked (map string_bytes words.now) ≡ Some (Compile name) → S.text shelf.old name ≡ Some source
+        → asked (map string_bytes words.now) ≡ Some (Compile name)
+        → S.text shelf.old name ≡ Some source
         → length source ≤ MAX_SOURCE_BYTES → Accepts source program
         → (HasRisen (S.faults shelf.old name) (S.faults shelf.new name) → ⊥)
         → (HasRisen (K.faults sink.old) (K.faults sink.new) → ⊥)

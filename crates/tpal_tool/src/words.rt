@@ -2,7 +2,9 @@
 
 ghost use Rattle.std.specs.Prelude.{◌≡◌, ◌≤◌, IfSome, map, option_map, string_bytes};
 ghost use Rattle.tp_value.specs.declared.limits.TheConstants.{MAX_FUEL};
-ghost use Rattle.tpal_tool.specs.Words.{asked, compile_of, is_dashed, kind_of, number_up_to, run_of, spelled, with_fuel, with_rest, with_word, with_words};
+ghost use Rattle.tpal_tool.specs.Words.{asked, compile_of, is_dashed, kind_of, number_up_to};
+ghost use Rattle.tpal_tool.specs.Words.{run_of, spelled, with_fuel, with_rest, with_word};
+ghost use Rattle.tpal_tool.specs.Words.{with_words};
 ghost use Rattle.tpal_tool.specs.Asking.{command_of, given_of, kind_seen, due_of};
 
 use crate::request::{Gathered, Request, RunRequest};
@@ -139,7 +141,8 @@ fn with_fuel<'a>(value: &[u8], given: Gathered<'a>) -> Option<Gathered<'a>>
 
 /// Words that are positional whatever they are.
 fn with_words<'a>(words: &'a [String], given: Gathered<'a>) -> Option<Gathered<'a>>
-    ensures { option_map given_of result ≡ with_words (map string_bytes words.now) (given_of given.entry) }
+    ensures { option_map given_of result
+        ≡ with_words (map string_bytes words.now) (given_of given.entry) }
 {
     match words.split_first() {
         None => Some(given),
@@ -149,7 +152,8 @@ fn with_words<'a>(words: &'a [String], given: Gathered<'a>) -> Option<Gathered<'
 
 /// The words behind the command, in order.
 fn with_rest<'a>(next: NextWord, words: &'a [String], given: Gathered<'a>) -> Option<Gathered<'a>>
-    ensures { option_map given_of result ≡ with_rest (due_of next) (map string_bytes words.now) (given_of given.entry) }
+    ensures { option_map given_of result
+        ≡ with_rest (due_of next) (map string_bytes words.now) (given_of given.entry) }
 {
     let Some((word, rest)) = words.split_first() else {
         return match next {
