@@ -16,7 +16,6 @@ use Rattle.tpal_syntax.specs.declared.words.Word.TheVariants as word
 use Rattle.tpal_syntax.specs.Listing.{Listing}
 use Rattle.tpal_machine.specs.declared.ends.Goal.{Goal}
 use Rattle.tpal_machine.specs.declared.ends.Tie.{Tie}
-use Rattle.tpal_machine.specs.Effect.{is_marked_from}
 use Rattle.tpal_machine.specs.Reading.{register}
 use Rattle.tpal_machine.specs.State as machine
 use Rattle.tpal_machine.proofs.Kit.{IsCalm}
@@ -73,15 +72,14 @@ module _ (code : Listing) (heartbeat z : ℕ) where
 -- ---- scenes of functions
 
 module _ (code : Listing) (heartbeat fuel z : ℕ) (act : Activation) where
-  -- behind a function whose activation begins at z: where control returns, and what holds there once the
-  -- activation is gone and the function's value is in register 0
+  -- behind a function whose activation begins at z: where control returns, and what holds there while the
+  -- activation still stands and the function's value is in register 0
   pub record Returns (C : Scene code heartbeat z) : Type 0 where
     pub label : C.World → ℕ
     pub calm : (w : C.World) → IsCalm code (label w)
     pub held : (w : C.World) (s : StackValue) → C.kept w s → word_at s (pos (z + return_cell)) ≡ Some (word.Label (label w))
-    pub clear : (w : C.World) → is_marked_from (C.marks w) z ≡ false
     pub goes_on : (w : C.World) (names : List (List ℕ)) (st : meaning.State) (state : machine.State) (n : ℤ) (beat : BeatState) → ShowsIn code heartbeat z act fuel C w names st state → InRange n → register state.registers 0 ≡ word.Int n
-        → (C.owing w (fin (with_value n st))).Holds (record state { stack = popped state.stack act.size; beat = beat; block = label w; at = 0 })
+        → (C.owing w (fin (with_value n st))).Holds (record state { beat = beat; block = label w; at = 0 })
 
 -- an activation has room for its variables, and the stack for it and for all that may be called from it
 pub record HasPlace (z : ℕ) (act : Activation) (levels : ℕ) : Type 0 where

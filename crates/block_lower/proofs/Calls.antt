@@ -1,5 +1,5 @@
 -- The law of a call: from the tick on, where the arguments stand in the new activation.
-use Rattle.std.proofs.Common.{◌≡◌, ◌≢◌, ℕ, zero, suc, ◌+◌, ◌<◌, ◌≤◌, ◌^◌, false, List, [], ◌∷◌, length, Option, Some, Ok, refl, sym, ap, subst, ◌∙◌, arith, ◌⊎◌, inl, inr}
+use Rattle.std.proofs.Common.{◌≡◌, ◌≢◌, ℕ, zero, suc, ◌+◌, ◌-◌, ◌<◌, ◌≤◌, ◌^◌, false, List, [], ◌∷◌, length, Option, Some, Ok, refl, sym, ap, subst, ◌∙◌, arith, ◌⊎◌, inl, inr}
 use Rattle.std.specs.Prelude.{ℤ, pos, ◌-ℤ◌, ◌+ℤ◌, ⊤, slice_set}
 use Rattle.std.specs.Int.{w64}
 use Rattle.std.proofs.lemmas.Bool.{cases_lt}
@@ -41,7 +41,7 @@ use Rattle.tpal_machine.specs.Effect.{is_marked_from}
 use Rattle.tpal_machine.specs.Reading.{register, with_register}
 use Rattle.tpal_machine.specs.State as machine
 use Rattle.tpal_machine.specs.Step.{advanced, at_block}
-use Rattle.tpal_machine.proofs.Kit.{Back, on_calc, on_load, on_if, on_if_not}
+use Rattle.tpal_machine.proofs.Kit.{Back, on_calc, on_load, on_sfree, on_if, on_if_not}
 use Rattle.expr_lower.specs.Standing.{Remains}
 use Rattle.expr_lower.proofs.Registers.{register_set, register_other}
 use Rattle.expr_lower.proofs.Standing.{next, behind, regrouped}
@@ -422,7 +422,7 @@ module _ (code : Listing) (heartbeat z : ℕ) (act : Activation) (fuel : ℕ) (S
       on_if_not code heartbeat (S.owing w.world (out (Trap Deep place) (later w.state))) one 0 go (next code one _ _ term.Halt here) (left ∙ ap (λ n. word.Int (pos n)) none)
       (S.stops w.world (Trap Deep place) (later w.state) two (advanced two) tt shows.ticks shows.printed shows.ends (traps code heartbeat two Deep place (next code two _ _ term.Halt last) shows.free)))
 
-  module _ (lowest : S.lowest ≤ length names) (has_room : HasRoom act) (low : z + act.size ≤ 2 ^ 62) (room back : ℕ) (most : ℕ) (more : List Instr) (last : Term) (behind_it : Opens code back (call_exit act.size more) last) (goes : GoesOn more last) where
+  module _ (lowest : S.lowest ≤ length names) (has_room : HasRoom act) (low : z + act.size ≤ 2 ^ 62) (room back : ℕ) (most : ℕ) (more : List Instr) (last : Term) (behind_it : Opens code back (call_exit entry.size act.size more) last) (goes : GoesOn more last) where
     abbrev scene : Scene code heartbeat (z + act.size)
     scene = callee code heartbeat z act fuel S names lowest has_room A kept next_in k room back
 
@@ -433,25 +433,31 @@ module _ (code : Listing) (heartbeat z : ℕ) (act : Activation) (fuel : ℕ) (S
     returns : Returns code heartbeat fuel (z + act.size) act_in scene
     returns = record {
       label = λ w. back;
-      calm = λ w. calm code back (call_exit act.size more) last behind_it;
+      calm = λ w. calm code back (call_exit entry.size act.size more) last behind_it;
       held = λ w s held. held.label;
-      clear = λ w. clear code heartbeat z act fuel S names lowest has_room A kept next_in k room back w (z + act.size) (omega arith);
       goes_on = again;
     }
       where
         again : (w : Waiting) (names_in : List (List ℕ)) (st : meaning.State) (state : machine.State) (n : ℤ) (beat : BeatState) → ShowsIn code heartbeat (z + act.size) act_in fuel scene w names_in st state → InRange n → register state.registers 0 ≡ word.Int n
-            → (scene.owing w (fin (with_value n st))).Holds (record state { stack = popped state.stack entry.size; beat = beat; block = back; at = 0 })
+            → (scene.owing w (fin (with_value n st))).Holds (record state { beat = beat; block = back; at = 0 })
         again w names_in st state n beat shows fits is =
-            let one : machine.State = record state { stack = popped state.stack entry.size; beat = beat; block = back; at = 0 } in
-            let here : Remains code back 0 (call_exit act.size more) last = opened code back (call_exit act.size more) last behind_it in
+            let one : machine.State = record state { beat = beat; block = back; at = 0 } in
+            let two : machine.State = effect.with_stack (advanced one) (popped state.stack entry.size) in
+            let here : Remains code back 0 (call_exit entry.size act.size more) last = opened code back (call_exit entry.size act.size more) last behind_it in
+            let second : Remains code back 1 (instr.Calc 31 31 alu.Sub (value.Int (pos act.size)) ∷ more) last = behind code back 0 _ _ last here in
+            let top : z + act.size ≡ state.stack.base + (length state.stack.cells - entry.size) = omega (arith, shows.top, shows.low) in
+            let unmarked : is_marked_from state.stack.marks (z + act.size) ≡ false =
+            subst (λ (ms : List Mark). is_marked_from ms (z + act.size) ≡ false) (sym shows.marked) (clear code heartbeat z act fuel S names lowest has_room A kept next_in k room back w (z + act.size) (omega arith)) in
             let words : List Word = slice_set state.registers 31 (word.Int (pos z)) in
-            on_calc code heartbeat (scene.owing w (fin (with_value n st))) one 31 31 alu.Sub (value.Int (pos act.size)) (word.Int (pos z)) (next code one _ more last here) (rw shows.base (ap (λ m. Ok (word.Int m)) (base_less z act.size low)))
-            (goes w n st (with_register (advanced one) 31 (word.Int (pos z))) fits
+            on_sfree code heartbeat (scene.owing w (fin (with_value n st))) one entry.size (next code one _ _ last here) (omega (arith, shows.top, shows.low))
+            (subst (λ (a : ℕ). is_marked_from state.stack.marks a ≡ false) top unmarked)
+            (on_calc code heartbeat (scene.owing w (fin (with_value n st))) two 31 31 alu.Sub (value.Int (pos act.size)) (word.Int (pos z)) (next code two _ more last second) (rw shows.base (ap (λ m. Ok (word.Int m)) (base_less z act.size low)))
+            (goes w n st (with_register (advanced two) 31 (word.Int (pos z))) fits
             (shows_back code heartbeat z act fuel S names lowest has_room A kept next_in k room back entry w state.stack shows.keeps shows.top most names_in st state.registers words state.tables state.fuel state.output state.goal (state.pending, state.met) shows
             (length-set state.registers 31 (word.Int (pos z)) ∙ shows.size) (register_set state.registers 31 (word.Int (pos z)) (omega (arith, shows.size))))
             (also_back code heartbeat z act fuel S names lowest has_room A kept next_in k room back entry w state.stack shows.keeps shows.top)
             (register_other state.registers 31 0 (word.Int (pos z)) (λ (q : 0 ≡ 31). absurd (omega (arith, q))) ∙ is)
-            (behind code back 0 _ more last here))
+            (behind code back 1 _ more last second)))
 
   module _ (lowest : S.lowest ≤ length names) (fs : List Func) (f : Name) (is_entry : entry_of act.functions f.text.items ≡ Some entry) (begin : List Note) (begin_passes : Passes code heartbeat z S begin) (instrs more : List Instr) (end last : Term) (call : Calls code act f.place entry instrs end more last) (goes : GoesOn more last) where
     -- what a task owes at the tick, where calls have so many levels left

@@ -1,9 +1,8 @@
 -- The functions of a code owe what their bodies and their results give, however many levels of calls are left.
-use Rattle.std.proofs.Common.{◌≡◌, ℕ, zero, suc, ◌+◌, ◌-◌, ◌≤◌, false, List, [], ◌∷◌, length, sym, subst, ◌∙◌, arith}
+use Rattle.std.proofs.Common.{◌≡◌, ℕ, zero, suc, ◌+◌, ◌≤◌, List, [], ◌∷◌, ◌∙◌, arith}
 use Rattle.std.specs.Prelude.{pos, slice_set}
 use Rattle.std.proofs.lemmas.List.{length-set}
 use Rattle.beat_count.specs.Heartbeat.{counted}
-use Rattle.stack_marks.specs.Stacks.{popped}
 use Rattle.tp_value.specs.declared.limits.TheConstants.{MAX_CALL_DEPTH}
 use Rattle.loop_syntax.specs.declared.Func.{Func}
 use Rattle.loop_rules.specs.Names.{texts}
@@ -15,12 +14,10 @@ use Rattle.tpal_syntax.specs.declared.instructions.Value.TheVariants as value
 use Rattle.tpal_syntax.specs.declared.words.Word.{Word}
 use Rattle.tpal_syntax.specs.declared.words.Word.TheVariants as word
 use Rattle.tpal_syntax.specs.Listing.{Listing}
-use Rattle.tpal_machine.specs.Effect as effect
-use Rattle.tpal_machine.specs.Effect.{is_marked_from}
 use Rattle.tpal_machine.specs.Reading.{with_register}
 use Rattle.tpal_machine.specs.State as machine
 use Rattle.tpal_machine.specs.Step.{advanced}
-use Rattle.tpal_machine.proofs.Kit.{Back, on_load, on_sfree, on_jump}
+use Rattle.tpal_machine.proofs.Kit.{Back, on_load, on_jump}
 use Rattle.expr_lower.specs.Leaving.{moved}
 use Rattle.expr_lower.specs.Standing.{Remains}
 use Rattle.expr_lower.proofs.Registers.{register_set, register_other}
@@ -43,7 +40,7 @@ module _ (code : Listing) (heartbeat z : ℕ) (act : Activation) (fuel : ℕ) (e
   -- behind the body of a function its result is left in register 0, and control returns
   gives_value : (f : Func) (label : ℕ) (is : IsFunction code act f label) → Owed code heartbeat z act fuel C (names_after_list (texts f.params.items) f.body.items) is.last (term.Jump (value.Reg 1)) (value_then f.result)
   gives_value f label is w st state shows stands =
-      computes code heartbeat z act fuel expr_law C w (names_after_list (texts f.params.items) f.body.items) st state shows f.result 0 is.last (load 1 return_cell ∷ instr.Sfree act.size ∷ []) (term.Jump (value.Reg 1)) is.value stands (λ n. done (with_value n st)) fin
+      computes code heartbeat z act fuel expr_law C w (names_after_list (texts f.params.items) f.body.items) st state shows f.result 0 is.last (load 1 return_cell ∷ []) (term.Jump (value.Reg 1)) is.value stands (λ n. done (with_value n st)) fin
       (λ n fits words beat at keeps is_n here.
       let K : Back code heartbeat = C.owing w (fin (with_value n st)) in
       let one : machine.State = moved state words beat at in
@@ -52,14 +49,9 @@ module _ (code : Listing) (heartbeat z : ℕ) (act : Activation) (fuel : ℕ) (e
       let two : machine.State = with_register (advanced one) 1 back in
       let shows_two : ShowsIn code heartbeat z act fuel C w (names_after_list (texts f.params.items) f.body.items) st two =
       shows_words code heartbeat z act fuel C w shows_one (slice_set words 1 back) (length-set words 1 back) (register_other words 1 31 back (λ (q : 31 ≡ 1). absurd (omega (arith, q)))) in
-      let second : Remains code state.block (at + 1) (instr.Sfree act.size ∷ []) (term.Jump (value.Reg 1)) = behind code state.block at _ _ (term.Jump (value.Reg 1)) here in
-      let three : machine.State = effect.with_stack (advanced two) (popped state.stack act.size) in
-      let same : z ≡ state.stack.base + (length state.stack.cells - act.size) = omega (arith, shows.top, shows.low) in
       on_load code heartbeat K one 1 31 return_cell (pos z) back (next code one _ _ (term.Jump (value.Reg 1)) here) shows_one.base (returns.held w state.stack shows.keeps)
-      (on_sfree code heartbeat K two act.size (next code two _ _ (term.Jump (value.Reg 1)) second) (omega (arith, shows.top, shows.low))
-      (subst (λ (a : ℕ). is_marked_from state.stack.marks a ≡ false) same (subst (λ ms. is_marked_from ms z ≡ false) (sym shows.marked) (returns.clear w)))
-      (on_jump code heartbeat K three (value.Reg 1) (returns.label w) (at_end code three (term.Jump (value.Reg 1)) (behind code state.block (at + 1) _ [] (term.Jump (value.Reg 1)) second)) (register_set words 1 back (omega (arith, shows_one.size))) (returns.calm w)
-      (returns.goes_on w (names_after_list (texts f.params.items) f.body.items) st two n (counted (counted (counted beat))) shows_two fits (register_other words 1 0 back (λ (q : 0 ≡ 1). absurd (omega (arith, q))) ∙ is_n)))))
+      (on_jump code heartbeat K two (value.Reg 1) (returns.label w) (at_end code two (term.Jump (value.Reg 1)) (behind code state.block at _ [] (term.Jump (value.Reg 1)) here)) (register_set words 1 back (omega (arith, shows_one.size))) (returns.calm w)
+      (returns.goes_on w (names_after_list (texts f.params.items) f.body.items) st two n (counted (counted beat)) shows_two fits (register_other words 1 0 back (λ (q : 0 ≡ 1). absurd (omega (arith, q))) ∙ is_n))))
 
 module _ (code : Listing) (heartbeat fuel : ℕ) (expr_law : ExprLaw code heartbeat) (tables : List (List ℕ)) (entries : List Entry) (fs : List Func) where
   -- a function, where those that it calls owe what they give

@@ -144,13 +144,13 @@ module _ (on : Body) (reduces : List Reduce) (scope : Scope) where
     pub size_is : (entry : Entry) → entry_of (entries on.callees.items) x ≡ Some entry → size ≡ entry.size
 
   pub call_statement_written : (x : Name) (f : App) (at size first : ℕ) (old allocs stored called new : Output) → IsTarget f.callee.text.items at size → first ≡ on.size + value_cell 0
-      → Pushes (instr.Salloc size ∷ []) old allocs → WritesArguments scope f.args.items (λ i. first + i * 2) allocs stored → WritesCall on f.callee.place at stored called
+      → Pushes (instr.Salloc size ∷ []) old allocs → WritesArguments scope f.args.items (λ i. first + i * 2) allocs stored → WritesCall on f.callee.place at size stored called
       → Pushes (store (offset_of scope x.text.items) (value.Reg 0) ∷ []) called new → Lowers on reduces scope (Call x f) old new
   call_statement_written x f at size first old allocs stored called new target first_is alloc arguments call push code tables names fixed more last sees fits c =
       let act : Activation = activation on tables in
       let own : Instr = store (offset_of scope x.text.items) (value.Reg 0) in
       let w : Leads code stored (λ instrs end. Calls code act f.callee.place fits.1.entry instrs end (own ∷ more) last) =
-      call code tables fits.1.entry (own ∷ more) last (sym (target.at_is fits.1.entry fits.1.is_entry)) (pushed code called new (own ∷ []) more last push c) in
+      call code tables fits.1.entry (own ∷ more) last (sym (target.at_is fits.1.entry fits.1.is_entry)) (sym (target.size_is fits.1.entry fits.1.is_entry)) (pushed code called new (own ∷ []) more last push c) in
       let v : Leads code allocs (λ instrs end. (end ≡ w.end) × Arguments code act names (λ i. first + i * 2) 0 f.args.items instrs w.instrs) =
       arguments code act names w.instrs w.end sees fits.1.seen w.continues in
       let stored_at : Arguments code act names (parameter_cell code act) 0 f.args.items v.instrs w.instrs =
@@ -167,9 +167,9 @@ module _ (on : Body) (reduces : List Reduce) (scope : Scope) where
 
   pub both_written : (x y : Name) (f g : App) (first_at first_size second_at second_size : ℕ) (old allocs stored called kept again passes calls loads stores new : Output)
       → IsTarget f.callee.text.items first_at first_size → IsTarget g.callee.text.items second_at second_size → HasRoomFor on 9 → length g.args.items ≤ 8
-      → Pushes (instr.Salloc first_size ∷ []) old allocs → WritesBothArguments on scope f.args.items g.args.items allocs stored → WritesCall on f.callee.place first_at stored called
+      → Pushes (instr.Salloc first_size ∷ []) old allocs → WritesBothArguments on scope f.args.items g.args.items allocs stored → WritesCall on f.callee.place first_at first_size stored called
       → Pushes (store (value_cell on.most + 8) (value.Reg 0) ∷ []) called kept → Pushes (instr.Salloc second_size ∷ []) kept again → WritesPassed on (length g.args.items) again passes
-      → WritesCall on g.callee.place second_at passes calls → Pushes (load 1 (value_cell on.most + 8) ∷ []) calls loads → Pushes (store (offset_of scope x.text.items) (value.Reg 1) ∷ []) loads stores
+      → WritesCall on g.callee.place second_at second_size passes calls → Pushes (load 1 (value_cell on.most + 8) ∷ []) calls loads → Pushes (store (offset_of scope x.text.items) (value.Reg 1) ∷ []) loads stores
       → Pushes (store (offset_of scope y.text.items) (value.Reg 0) ∷ []) stores new → Lowers on reduces scope (Both x f y g) old new
   both_written x y f g first_at first_size second_at second_size old allocs stored called kept again passes calls loads stores new first second room few
       alloc arguments call_first keep realloc pass call_second push_load store_x store_y code tables names fixed more last sees fits c =
@@ -179,13 +179,13 @@ module _ (on : Body) (reduces : List Reduce) (scope : Scope) where
       pushed code calls loads (load 1 (kept_cell act 8) ∷ []) _ last push_load
       (pushed code loads stores (store (offset_of scope x.text.items) (value.Reg 1) ∷ []) _ last store_x (pushed code stores new (store (offset_of scope y.text.items) (value.Reg 0) ∷ []) more last store_y c)) in
       let u : Leads code passes (λ instrs end. Calls code act g.callee.place fits.3.entry instrs end own last) =
-      call_second code tables fits.3.entry own last (sym (second.at_is fits.3.entry fits.3.is_entry)) ends in
+      call_second code tables fits.3.entry own last (sym (second.at_is fits.3.entry fits.3.is_entry)) (sym (second.size_is fits.3.entry fits.3.is_entry)) ends in
       let passing : List Instr = passed code act (length g.args.items) 0 u.instrs in
       let half : ℕ → List Instr = λ n. store (kept_cell act 8) (value.Reg 0) ∷ instr.Salloc n ∷ passing in
       let middle : Continues code called (half second_size) u.end =
       pushed code called kept (store (kept_cell act 8) (value.Reg 0) ∷ []) _ u.end keep (pushed code kept again (instr.Salloc second_size ∷ []) passing u.end realloc (pass code tables u.instrs u.end u.continues)) in
       let w : Leads code stored (λ instrs end. Calls code act f.callee.place fits.2.entry instrs end (half second_size) u.end) =
-      call_first code tables fits.2.entry (half second_size) u.end (sym (first.at_is fits.2.entry fits.2.is_entry)) middle in
+      call_first code tables fits.2.entry (half second_size) u.end (sym (first.at_is fits.2.entry fits.2.is_entry)) (sym (first.size_is fits.2.entry fits.2.is_entry)) middle in
       let calls_first : Calls code act f.callee.place fits.2.entry w.instrs w.end (half fits.3.entry.size) u.end =
       subst (λ (n : ℕ). Calls code act f.callee.place fits.2.entry w.instrs w.end (half n) u.end) (second.size_is fits.3.entry fits.3.is_entry) w.told in
       let v : Leads code allocs (λ instrs end. (end ≡ w.end) × AreBothArguments code act names f.args.items g.args.items instrs w.instrs) =

@@ -97,13 +97,13 @@ func_room on f small most size = record { few = rw most small.few; room = rw (mo
 pub func_written : (on : Body) (scope declared after : Scope) (f : Func) (kept : ℕ) (old inner valued new : Output) → HasRoomFor on kept → length f.params.items ≤ on.most → IsFresh old
     → SeesAfter (λ names. names ++ texts f.params.items) scope declared → LowersAll on [] declared f.body.items old inner → SeesAfter (λ names. names_after_list names f.body.items) declared after
     → WritesValue after f.result 0 inner valued
-    → ((code : Listing) → Stands code new → Continues code valued (load 1 return_cell ∷ instr.Sfree on.size ∷ []) (term.Jump (value.Reg 1)))
+    → ((code : Listing) → Stands code new → Continues code valued (load 1 return_cell ∷ []) (term.Jump (value.Reg 1)))
     → LowersFunc on scope f old new
 func_written on scope declared after f kept old inner valued new room params fresh declares all keeps writes returns code tables sees fits visible stands =
     let names : List (List ℕ) = texts f.params.items in
     let act : Activation = activation on tables in
     let inside : Sees declared names tables = declares [] tables sees in
-    let tail : List Instr = load 1 return_cell ∷ instr.Sfree on.size ∷ [] in
+    let tail : List Instr = load 1 return_cell ∷ [] in
     let v : Leads code inner (λ instrs end. (end ≡ term.Jump (value.Reg 1)) × Computes code act (names_after_list names f.body.items) f.result 0 instrs tail) =
     writes code act (names_after_list names f.body.items) tail (term.Jump (value.Reg 1)) (keeps names tables inside) visible (returns code stands) in
     let b : Leads code old (λ instrs end. Codes code act [] names [] f.body.items instrs end v.instrs v.end) = all code tables names [] v.instrs v.end inside fits v.continues in (
@@ -121,11 +121,10 @@ func_written on scope declared after f kept old inner valued new room params fre
     )
 
 -- the end of a function
-pub return_written : (size : ℕ) (old loads frees new : Output) → Pushes (load 1 return_cell ∷ []) old loads → Pushes (instr.Sfree size ∷ []) loads frees → Closes (term.Jump (value.Reg 1)) frees new
-    → (code : Listing) → Stands code new → Continues code old (load 1 return_cell ∷ instr.Sfree size ∷ []) (term.Jump (value.Reg 1))
-return_written size old loads frees new one two close code stands =
-    pushed code old loads (load 1 return_cell ∷ []) _ (term.Jump (value.Reg 1)) one
-    (pushed code loads frees (instr.Sfree size ∷ []) [] (term.Jump (value.Reg 1)) two (closed_block code frees new (term.Jump (value.Reg 1)) close stands))
+pub return_written : (old loads new : Output) → Pushes (load 1 return_cell ∷ []) old loads → Closes (term.Jump (value.Reg 1)) loads new
+    → (code : Listing) → Stands code new → Continues code old (load 1 return_cell ∷ []) (term.Jump (value.Reg 1))
+return_written old loads new one close code stands =
+    pushed code old loads (load 1 return_cell ∷ []) [] (term.Jump (value.Reg 1)) one (closed_block code loads new (term.Jump (value.Reg 1)) close stands)
 
 -- ---- functions one behind the other
 

@@ -104,9 +104,10 @@ call_entry size back =
     ∷ store (size + return_cell) (value.Label back)
     ∷ instr.Calc 31 31 Add (value.Int (pos size)) ∷ []
 
--- behind a call the caller's activation runs again
-abbrev pub call_exit : ℕ → List Instr → List Instr
-call_exit size more = instr.Calc 31 31 Sub (value.Int (pos size)) ∷ more
+-- behind a call the callee's activation is gone, and the caller's runs again
+abbrev pub call_exit : ℕ → ℕ → List Instr → List Instr
+call_exit callee size more =
+    instr.Sfree callee ∷ instr.Calc 31 31 Sub (value.Int (pos size)) ∷ more
 
 -- The code of the statements of main, or of a function, that stands on this.
 module _ (code : Listing) (act : Activation) where
@@ -184,7 +185,7 @@ module _ (code : Listing) (act : Activation) where
     pub test : instrs ≡ call_test go place
     pub stops : end ≡ term.Halt
     pub enters : Opens code go (call_entry act.size return) (to entry.label)
-    pub behind : Opens code return (call_exit act.size back) last
+    pub behind : Opens code return (call_exit entry.size act.size back) last
 
   mutual
     -- The code of a statement, where the nearest `par` round it reduces these, these variables are

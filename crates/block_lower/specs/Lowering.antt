@@ -154,10 +154,11 @@ WritesPassed on n old new =
     → Continues code old (passed code (activation on tables) n 0 more) last
 
 -- a call of the function at a label was written, and the block behind it is open
-abbrev pub WritesCall : Body → Place → ℕ → Output → Output → Type 0
-WritesCall on place at old new =
+abbrev pub WritesCall : Body → Place → ℕ → ℕ → Output → Output → Type 0
+WritesCall on place at size old new =
     (code : Listing) (tables : List (List ℕ)) (entry : Entry) (more : List Instr) (last : Term)
     → entry.label ≡ at
+    → entry.size ≡ size
     → Continues code new more last
     → Leads code old
     (λ instrs end. Calls code (activation on tables) place entry instrs end more last)

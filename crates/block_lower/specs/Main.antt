@@ -56,8 +56,8 @@ pub data Makes (code : Listing) (act : Activation) : List (List ℕ) → List Ta
 
 -- ---- functions
 
--- The code of a function at its first block: its statements, then its result in register 0; then
--- its activation is gone and the label to return to is entered.
+-- The code of a function at its first block: its statements, then its result in register 0; then the
+-- label to return to is entered. Its activation stays, and goes behind the call.
 pub record IsFunction (code : Listing) (act : Activation) (f : Func) (label : ℕ) : Type 0 where
   pub has_room : HasRoom act
   pub params : length f.params.items ≤ act.most
@@ -68,7 +68,7 @@ pub record IsFunction (code : Listing) (act : Activation) (f : Func) (label : �
   pub statements : Codes code act [] (texts f.params.items) [] f.body.items instrs end last
       (term.Jump (value.Reg 1))
   pub value : Computes code act (names_after_list (texts f.params.items) f.body.items) f.result 0
-      last (load 1 return_cell ∷ instr.Sfree act.size ∷ [])
+      last (load 1 return_cell ∷ [])
 
 -- the function of a name in a program, with its code at its entry
 pub record FunctionAt (code : Listing) (tables : List (List ℕ)) (entries : List Entry)

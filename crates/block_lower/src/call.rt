@@ -14,7 +14,7 @@ ghost use Rattle.block_lower.specs.Sizes as sizes;
 ghost use Rattle.block_lower.specs.Writing as writing;
 ghost use Rattle.block_lower.specs.Writing.{IsFresh, Pushes, Stands, Continues};
 
-use crate::body::{Body, kept_cell, parameter_cell, target_of};
+use crate::body::{Body, Target, kept_cell, parameter_cell, target_of};
 use crate::layout::{BASE, LEVELS, RETURN};
 use crate::output::{Output, close, next_label, push};
 use crate::piece::{jump, load, push_operand, store};
@@ -138,23 +138,25 @@ fn push_entry(
     Ok(())
 }
 
-/// A call of the function at a label, whose arguments stand in its activation. The block behind it
-/// is open.
+/// A call of a function, whose arguments stand in its activation. The block behind it, in which that
+/// activation goes, is open.
 fn push_call(
     alloc: Global,
     out: &mut Output,
     on: &Body,
-    label: u32,
+    target: Target,
     place: Place,
 ) -> Result<(), NoMemory>
     requires labels { writing.next_label out.old + 2 ≤ 65536 }
     requires size { on.now.size ≤ 512 }
     ensures labels { OnOk result (writing.next_label out.new ≡ writing.next_label out.old + 2) }
-    ensures code { OnOk result (WritesCall on.now place label out.old out.new) }
+    ensures code { OnOk result
+        (WritesCall on.now place target.label target.size out.old out.new) }
 {
     let go = next_label(out);
     push_call_test(alloc, out, go, place)?;
-    push_entry(alloc, out, on, label, go + 1)?;
+    push_entry(alloc, out, on, target.label, go + 1)?;
+    push(out, Instr::Sfree(target.size))?;
     push_move(out, on, Alu::Sub)?;
     Ok(())
 }
@@ -182,7 +184,7 @@ pub fn lower_call(
     let target = target_of(on, &f.callee.text);
     push(out, Instr::Salloc(target.size))?;
     push_arguments(alloc, out, scope, &f.args, parameter_cell(on, 0), 2)?;
-    push_call(alloc, out, on, target.label, f.callee.place)?;
+    push_call(alloc, out, on, target, f.callee.place)?;
     store(out, offset_of(scope, &x.text), Value::Reg(0))?;
     Ok(())
 }
@@ -243,11 +245,11 @@ pub fn lower_both(
     let second = target_of(on, &g.callee.text);
     push(out, Instr::Salloc(first.size))?;
     push_both_arguments(alloc, out, scope, on, f, g)?;
-    push_call(alloc, out, on, first.label, f.callee.place)?;
+    push_call(alloc, out, on, first, f.callee.place)?;
     store(out, kept_cell(on, 8), Value::Reg(0))?;
     push(out, Instr::Salloc(second.size))?;
     push_passed(out, on, g.args.len() as u16)?;
-    push_call(alloc, out, on, second.label, g.callee.place)?;
+    push_call(alloc, out, on, second, g.callee.place)?;
     load(out, 1, kept_cell(on, 8))?;
     store(out, offset_of(scope, &x.text), Value::Reg(1))?;
     store(out, offset_of(scope, &y.text), Value::Reg(0))?;

@@ -80,20 +80,19 @@ fn declare_all(alloc: Global, scope: &mut Scope, params: &[Name]) -> Result<(), 
     Ok(())
 }
 
-/// The end of a function, whose result is in register 0: its activation is gone, and control
-/// returns.
-fn push_return(alloc: Global, out: &mut Output, on: &Body) -> Result<(), NoMemory>
+/// The end of a function, whose result is in register 0: control returns. Its activation still
+/// stands, and goes behind the call.
+fn push_return(alloc: Global, out: &mut Output) -> Result<(), NoMemory>
     requires { writing.next_label out.old ≤ 65536 }
     ensures labels { OnOk result (writing.next_label out.new ≡ writing.next_label out.old + 1) }
     ensures fresh { OnOk result (IsFresh out.new) }
     ensures code { OnOk result
         ((code : Listing)
         → Stands code out.new
-        → Continues code out.old (codes.load 1 return_cell ∷ Instr.Sfree on.now.size ∷ [])
+        → Continues code out.old (codes.load 1 return_cell ∷ [])
         (Term.Jump (Value.Reg 1))) }
 {
     load(out, 1, RETURN)?;
-    push(out, Instr::Sfree(on.size))?;
     close(alloc, out, Term::Jump(Value::Reg(1)))?;
     Ok(())
 }
@@ -124,7 +123,7 @@ fn lower_func(
     declare_all(alloc, scope, &f.params)?;
     lower_list(alloc, out, scope, on, &[], &f.body)?;
     push_value(alloc, out, scope, &f.result, 0)?;
-    push_return(alloc, out, on)?;
+    push_return(alloc, out)?;
     leave(scope, 0);
     Ok(())
 }

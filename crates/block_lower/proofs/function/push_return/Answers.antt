@@ -3,4 +3,4 @@ use Rattle.block_lower.proofs.function.push_return.Goals as goal
 
 pub returns-clause-code : goal.returns-clause-code
 returns-clause-code c =
-    return_written c.args.on.now.size c.args.out.now c.load.new.out c.push.new.out c.close.new.out c.in_ok-load.ensures.pushed c.in_ok-push.ensures.pushed c.in_ok-close.ensures.closed
+    return_written c.args.out.now c.load.new.out c.close.new.out c.in_ok-load.ensures.pushed c.in_ok-close.ensures.closed
