@@ -1,2 +1,6 @@
+-- how the chain of marks is kept
+pub mod Chains
+-- how a change of one link changes the marks and their chain
+pub mod Linking
 -- lists of marks whose positions rise
 pub mod Rising

@@ -1,12 +1,12 @@
 -- Lists of marks whose positions rise.
-use Rattle.std.proofs.Common.{◌≡◌, ℕ, zero, suc, ◌+◌, ◌-◌, ◌<◌, ◌≤◌, inl, inr, true, false, cond, not, List, [], ◌∷◌, ◌++◌, length, drop, get_or, refl, sym, ◌∙◌, ap, subst, arith}
+use Rattle.std.proofs.Common.{◌≡◌, ℕ, zero, suc, ◌+◌, ◌-◌, ◌<◌, ◌≤◌, inl, inr, Bool, true, false, cond, not, List, [], ◌∷◌, ◌++◌, length, drop, get_or, refl, sym, ◌∙◌, ap, subst, arith}
 use Rattle.std.proofs.lemmas.Bool.{cases_lt, lt-leb, le-leb, lt-ltb, le-ltb, false≢true}
 use Rattle.std.specs.Ordering.{int_eq, is_eq}
 use Rattle.std.specs.declared.cmp.Ordering.TheVariants.{Less, Equal, Greater}
 use Rattle.std.specs.Cmp.{int_eq_equiv}
 use Rattle.tpal_syntax.specs.declared.words.Word.{Word}
 use Rattle.std.specs.List.{remove}
-use Rattle.std.specs.Prelude.{ℤ, pos, nat_le, nat_lt, filter, slice_get, Option, None, Some, IsSome, MatchOption}
+use Rattle.std.specs.Prelude.{ℤ, pos, nat_le, nat_lt, filter, slice_get, Option, None, Some, IsSome, is_some, MatchOption}
 use Rattle.stack_marks.specs.declared.mark.Mark.{Mark}
 use Rattle.stack_marks.specs.Stacks.{InOrder, StackValue, word_at}
 
@@ -56,11 +56,14 @@ pub without_first : (low high : ℕ) (ms : List Mark) → InOrder low high ms �
 without_first low high [] o = tt
 without_first low high (m ∷ ms) o = widen (suc m.at) low high high ms (omega (arith, o.0)) (omega arith) o.2
 
-pub without_one : (low high : ℕ) (ms : List Mark) (k : ℕ) → InOrder low high ms → InOrder low high (remove ms k)
-without_one low high [] zero o = tt
-without_one low high [] (suc k) o = tt
-without_one low high (m ∷ ms) zero o = widen (suc m.at) low high high ms (omega (arith, o.0)) (omega arith) o.2
-without_one low high (m ∷ ms) (suc k) o = (o.0, o.1, without_one (suc m.at) high ms k o.2)
+-- some of the marks
+pub some_kept : (keeps : Mark → Bool) (low high : ℕ) (ms : List Mark) → InOrder low high ms → InOrder low high (filter keeps ms)
+some_kept keeps low high [] o = tt
+some_kept keeps low high (m ∷ ms) o = go (some_kept keeps (suc m.at) high ms o.2) (keeps m)
+  where
+    go : InOrder (suc m.at) high (filter keeps ms) → (b : Bool) → InOrder low high (cond b (m ∷ filter keeps ms) (filter keeps ms))
+    go r true = (o.0, o.1, r)
+    go r false = widen (suc m.at) low high high (filter keeps ms) (omega (arith, o.0)) (omega arith) r
 
 -- those from a position on
 pub from_position : (low high x : ℕ) (ms : List Mark) → InOrder low high ms → InOrder x high (filter (λ m. nat_le x m.at) ms)
@@ -125,7 +128,7 @@ on_some (Some x) p s = p
 pub no_mark : Mark
 no_mark = record { at = 0; base = 0; cells = 0; split = 0 }
 
-get_or_any : (ys : List Mark) (n : ℕ) (a b : Mark) → n < length ys → get_or ys n a ≡ get_or ys n b
+pub get_or_any : (ys : List Mark) (n : ℕ) (a b : Mark) → n < length ys → get_or ys n a ≡ get_or ys n b
 get_or_any [] n a b q = absurd (omega (arith, q))
 get_or_any (y ∷ ys) zero a b q = refl
 get_or_any (y ∷ ys) (suc n) a b q = get_or_any ys n a b (omega (arith, q))
@@ -143,3 +146,35 @@ none_between low high x n ms e o h l f k d j q =
             omega (arith, here, l, q)
       ]
     ]
+
+-- all from a position on that the first is at or above
+all_from : (low high x : ℕ) (ms : List Mark) → InOrder low high ms → x ≤ low → filter (λ m. nat_le x m.at) ms ≡ ms
+all_from low high x [] o h = refl
+all_from low high x (m ∷ ms) o h =
+    ap (λ b. cond b (m ∷ filter (λ z. nat_le x z.at) ms) (filter (λ z. nat_le x z.at) ms)) (le-leb x m.at (omega (arith, h, o.0)))
+    ∙ ap (λ ys. m ∷ ys) (all_from (suc m.at) high x ms o.2 (omega (arith, h, o.0)))
+
+abbrev at_of : Option Mark → ℕ
+at_of None = 0
+at_of (Some m) = m.at
+
+-- the first mark, and the list without it
+pub first_from : (low high x : ℕ) (ms : List Mark) (m : Mark) → InOrder low high ms → slice_get ms 0 ≡ Some m → x ≤ m.at → filter (λ z. nat_le x z.at) ms ≡ ms
+first_from low high x [] m o e h = refl
+first_from low high x (first ∷ rest) m o e h = all_from first.at high x (first ∷ rest) (omega arith, o.1, o.2) (let same : first.at ≡ m.at = ap at_of e in omega (arith, h, same))
+
+pub first_gone : (low high : ℕ) (ms : List Mark) (m : Mark) → InOrder low high ms → slice_get ms 0 ≡ Some m → filter (λ z. not (int_eq (pos z.at) (pos m.at))) ms ≡ drop 1 ms
+first_gone low high [] m o e = refl
+first_gone low high (first ∷ rest) m o e = sym (removed_is_filtered low high m.at (first ∷ rest) 0 o (omega arith) (λ _. ap at_of e))
+
+pub below_gone : (low high x : ℕ) (ms : List Mark) (m : Mark) → InOrder low high ms → slice_get ms 0 ≡ Some m → m.at < x → filter (λ z. nat_le x z.at) (drop 1 ms) ≡ filter (λ z. nat_le x z.at) ms
+below_gone low high x [] m o e h = refl
+below_gone low high x (first ∷ rest) m o e h = sym (ap (λ b. cond b (first ∷ filter (λ z. nat_le x z.at) rest) (filter (λ z. nat_le x z.at) rest)) (lt-leb x first.at (let same : first.at ≡ m.at = ap at_of e in omega (arith, h, same))))
+
+pub shorter : (ms : List Mark) (m : Mark) → slice_get ms 0 ≡ Some m → length (drop 1 ms) < length ms
+shorter [] m e = absurd (false≢true (ap is_some e))
+shorter (first ∷ rest) m e = omega arith
+
+pub no_first : (ms : List Mark) → slice_get ms 0 ≡ None → ms ≡ []
+no_first [] e = refl
+no_first (first ∷ rest) e = absurd (false≢true (sym (ap is_some e)))

@@ -5,20 +5,22 @@ ghost use Rattle.std.specs.Bool.{OnTrue, OnFalse};
 ghost use Rattle.stack_marks.specs.Stacks.{word_at, pushed, popped, with_word, InOrder};
 ghost use Rattle.stack_marks.specs.Causes.{HasRoom, PushCause, PopCause, new_top, IsNoPosition, IsIndex};
 
-use crate::mark::{Mark, StackFault};
+use crate::links::Links;
+use crate::mark::StackFault;
 use std::alloc::Global;
-use std::collections::VecDeque;
 use std::marker::Model;
 use tp_value::MAX_STACK_POSITION;
 use tpal_syntax::Word;
 
 /// A stack of words with marks on some of its cells. It is seen as the position of its lowest cell,
 /// the list of its cells from there upward, and the list of its marks in the order of their cells.
+/// What a cell has beside its word, its mark and its links, lies apart from the word: so a word
+/// takes 16 bytes, and `get` and `set` touch nothing else.
 #[derive(Drop)]
 pub struct Stack {
     pub(crate) base: u64,
     pub(crate) cells: Vec<Word>,
-    pub(crate) marks: VecDeque<Mark>,
+    pub(crate) links: Links,
 }
 
 impl Model for Stack {
@@ -44,7 +46,7 @@ impl Stack {
         Stack {
             base,
             cells: Vec::new(alloc),
-            marks: VecDeque::new(alloc),
+            links: Links::new(alloc, base),
         }
     }
 
@@ -58,7 +60,7 @@ impl Stack {
     {
         let height = self.cells.len() + cells as usize;
         if self.base + height as u64 > MAX_STACK_POSITION
-            || self.marks.capacity() < height
+            || self.links.room() < skipped(self.base, &self.links) + height
             || self.cells.capacity() < height
         {
             return self.push_growing(cells);
@@ -80,7 +82,7 @@ impl Stack {
         if self.base + len as u64 > MAX_STACK_POSITION {
             return Err(StackFault::TooLong);
         }
-        self.marks.reserve(len - self.marks.len())?;
+        self.links.reserve(skipped(self.base, &self.links) + len)?;
         self.cells.resize(len, Word::Nil)?;
         Ok(())
     }
@@ -99,7 +101,7 @@ impl Stack {
             return Err(StackFault::OutOfRange);
         }
         let len = self.cells.len() - cells;
-        if stands_from(&self.marks, self.base + len as u64) {
+        if stands_from(&self.links, self.base + len as u64) {
             return Err(StackFault::MarkedCell);
         }
         self.cells.truncate(len);
@@ -145,16 +147,21 @@ pub(crate) fn index_of(base: u64, len: usize, at: i64) -> Option<usize>
     if index < len { Some(index) } else { None }
 }
 
-/// Whether a mark stands at a position or above.
-pub(crate) fn stands_from(marks: &VecDeque<Mark>, low: u64) -> bool
-    requires { InOrder 0 (2 ^ 62) marks.now.items }
-    ensures yes { OnTrue result (Any (λ m. low ≤ m.at) marks.now.items) }
-    ensures no { OnFalse result (All (λ m. m.at < low) marks.now.items) }
+/// How many links lie below a position: a cut leaves them there.
+fn skipped(base: u64, links: &Links) -> usize
+    requires { links.now.lowest ≤ base }
+    ensures { links.now.lowest + result ≡ base }
 {
-    if let Some(newest) = marks.back() {
-        if newest.at >= low {
-            return true;
-        }
+    (base - links.lowest()) as usize
+}
+
+/// Whether a mark stands at a position or above.
+pub(crate) fn stands_from(links: &Links, low: u64) -> bool
+    ensures yes { OnTrue result (Any (λ m. low ≤ m.at) links.now.marks) }
+    ensures no { OnFalse result (All (λ m. m.at < low) links.now.marks) }
+{
+    match links.newest() {
+        Some(newest) => newest >= low,
+        None => false,
     }
-    false
 }

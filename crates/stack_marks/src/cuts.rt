@@ -1,14 +1,14 @@
 // A stack cut at an activation.
 
 ghost use Rattle.std.specs.Prelude.{◌≡◌, ◌+◌, ◌≤◌, ◌-◌, [], length, take, drop, filter, nat_le, OnOk, IfOk, IfErr};
-ghost use Rattle.std.specs.VecDeque.{deque_capacity};
+ghost use Rattle.stack_marks.specs.Links.{HasLinks};
 ghost use Rattle.stack_marks.specs.Stacks.{IsSound, rest_of, left_of, child_of};
 ghost use Rattle.stack_marks.specs.Causes.{Holds, CutCause};
 
 use crate::cells::Stack;
-use crate::mark::{Mark, StackFault};
+use crate::links::Links;
+use crate::mark::StackFault;
 use std::alloc::{AllocError, Global};
-use std::collections::VecDeque;
 use tpal_syntax::{CutKind, Word};
 
 /// The three parts of a stack that is cut. Each has room for a mark on each of its cells.
@@ -58,9 +58,9 @@ impl Stack {
 #[derive(Drop)]
 struct CutMemory {
     child: Vec<Word>,
-    child_marks: VecDeque<Mark>,
+    child_links: Links,
     left: Vec<Word>,
-    rest_marks: VecDeque<Mark>,
+    rest_links: Links,
 }
 
 /// CutMemory of the cells from index `low` up to `high` and from `from` on, and room for marks.
@@ -69,19 +69,19 @@ fn copies(stack: &Stack, low: usize, high: usize, from: usize) -> Result<CutMemo
     requires within { from ≤ length stack.now.cells }
     ensures child { IfOk result (λ c. c.child.items ≡ take (high - low) (drop low stack.now.cells)) }
     ensures left { IfOk result (λ c. c.left.items ≡ drop from stack.now.cells) }
-    ensures no_marks { IfOk result (λ c. (c.child_marks.items ≡ []) × (c.rest_marks.items ≡ [])) }
-    ensures room { IfOk result (λ c. (high - low ≤ deque_capacity c.child_marks) × (high ≤ deque_capacity c.rest_marks)) }
+    ensures child_links { IfOk result (λ c. HasLinks c.child_links (stack.now.base + low) (high - low)) }
+    ensures rest_links { IfOk result (λ c. HasLinks c.rest_links stack.now.base high) }
 {
     let alloc = *stack.cells.allocator();
     let child = Vec::from_slice(alloc, &stack.cells[low..high])?;
     let left = Vec::from_slice(alloc, &stack.cells[from..])?;
-    let child_marks = VecDeque::with_capacity(alloc, high - low)?;
-    let rest_marks = VecDeque::with_capacity(alloc, high)?;
+    let child_links = Links::with_room(alloc, stack.base + low as u64, high - low)?;
+    let rest_links = Links::with_room(alloc, stack.base, high)?;
     Ok(CutMemory {
         child,
-        child_marks,
+        child_links,
         left,
-        rest_marks,
+        rest_links,
     })
 }
 
@@ -91,49 +91,42 @@ fn parts(stack: Stack, copies: CutMemory, base: u64, high: usize, left_base: u64
     requires below { (left_base ≤ stack.base + length stack.cells) × (high ≤ length stack.cells) }
     requires child_size { base + length copies.child.items ≤ stack.base + length stack.cells }
     requires left { copies.left.items ≡ drop (left_base - stack.base) stack.cells }
-    requires no_marks { (copies.child_marks.items ≡ []) × (copies.rest_marks.items ≡ []) }
-    requires room { (length copies.child.items ≤ deque_capacity copies.child_marks) × (high ≤ deque_capacity copies.rest_marks) }
+    requires child_links { HasLinks copies.child_links base (length copies.child.items) }
+    requires rest_links { HasLinks copies.rest_links stack.base high }
     ensures rest { result.rest ≡ record { base = stack.base; cells = take high stack.cells; marks = [] } }
     ensures left { result.left ≡ record { base = left_base; cells = copies.left.items; marks = filter (λ m. nat_le left_base m.at) stack.marks } }
     ensures child { result.child ≡ record { base = base; cells = copies.child.items; marks = [] } }
 {
     let CutMemory {
         child,
-        child_marks,
+        child_links,
         left,
-        rest_marks,
+        rest_links,
     } = copies;
     let Stack {
         base: lowest,
         mut cells,
-        mut marks,
+        mut links,
     } = stack;
     cells.truncate(high);
-    keep_from(&mut marks, left_base);
+    links.keep_from(left_base);
     Cut {
         rest: Stack {
             base: lowest,
             cells,
-            marks: rest_marks,
+            links: rest_links,
         },
         left: Stack {
             base: left_base,
             cells: left,
-            marks,
+            links,
         },
         child: Stack {
             base,
             cells: child,
-            marks: child_marks,
+            links: child_links,
         },
     }
-}
-
-fn keep_from(marks: &mut VecDeque<Mark>, low: u64)
-    ensures kept { marks.new.items ≡ filter (λ m. nat_le low m.at) marks.old.items }
-    ensures capacity { deque_capacity marks.new ≡ deque_capacity marks.old }
-{
-    marks.retain(|mark| mark.at >= low);
 }
 
 /// What is true of every stack. The function does nothing: its contract is for those who reason.

@@ -6,6 +6,7 @@
 
 mod cells;
 mod cuts;
+mod links;
 mod mark;
 mod marks;
 

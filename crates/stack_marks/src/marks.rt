@@ -1,4 +1,4 @@
-// The calls on marks. None of them takes memory: each cell came with room for a mark.
+// The calls on marks. None of them takes memory: each cell came with room for a mark and its links.
 
 ghost use Rattle.std.specs.Prelude.{◌≡◌, ◌≢◌, ℕ, pos, ◌<◌, ◌^◌, length, All, Any, IsSome, IfSome, IfNone, IfErr, OnOk, OnErr, slice_get};
 ghost use Rattle.stack_marks.specs.Stacks.{word_at, marked, unmarked, without_oldest, InOrder, IsAt};
@@ -6,7 +6,6 @@ ghost use Rattle.stack_marks.specs.Causes.{HoldsMark, MarkCause, UnmarkCause};
 
 use crate::cells::{Stack, index_of, stands_from};
 use crate::mark::{Mark, StackFault};
-use std::collections::VecDeque;
 
 impl Stack {
     /// Adds a mark, the newest. It is refused where its cells are not in the stack or its cell is
@@ -25,10 +24,10 @@ impl Stack {
         if mark.at < mark.base || mark.at - mark.base >= mark.cells {
             return Err(StackFault::OutOfRange);
         }
-        if stands_from(&self.marks, mark.at) {
+        if stands_from(&self.links, mark.at) {
             return Err(StackFault::MarkOrder);
         }
-        self.marks.push_back_reserved(mark);
+        self.links.add(mark);
         Ok(())
     }
 
@@ -44,20 +43,19 @@ impl Stack {
             Some(index) => index,
             None => return Err(StackFault::OutOfRange),
         };
-        match place_of(&self.marks, self.base + index as u64) {
-            Some(k) => {
-                self.marks.remove(k);
-                Ok(())
-            }
-            None => Err(StackFault::NotMarked),
+        let at = self.base + index as u64;
+        if !self.links.is_marked(at) {
+            return Err(StackFault::NotMarked);
         }
+        self.links.take(at);
+        Ok(())
     }
 
     /// The oldest mark; None exactly where no mark stands.
     pub fn oldest(&self) -> Option<Mark>
         ensures { result ≡ slice_get self.now.marks 0 }
     {
-        self.marks.front().copied()
+        self.links.oldest()
     }
 
     /// Takes the oldest mark away, and gives it; None exactly where no mark stands.
@@ -65,27 +63,10 @@ impl Stack {
         ensures oldest { result ≡ slice_get self.old.marks 0 }
         ensures dropped { self.new ≡ without_oldest self.old }
     {
-        self.marks.pop_front()
-    }
-}
-
-/// The place of the mark at a position, sought from the newest on: that is where the mark of an
-/// activation that ends stands.
-fn place_of(marks: &VecDeque<Mark>, at: u64) -> Option<usize>
-    requires { InOrder 0 (2 ^ 62) marks.now.items }
-    ensures found { IfSome result (λ k. (k < length marks.now.items) × IsAt marks.now.items k at) }
-    ensures none { IfNone result (All (λ m. m.at ≢ at) marks.now.items) }
-{
-    let mut k = marks.len();
-    while k > 0 {
-        k -= 1;
-        let found = marks[k].at;
-        if found == at {
-            return Some(k);
+        let oldest = self.links.oldest();
+        if let Some(mark) = oldest {
+            self.links.take(mark.at);
         }
-        if found < at {
-            return None;
-        }
+        oldest
     }
-    None
 }

@@ -1,7 +1,9 @@
-use Rattle.std.proofs.Common.{◌≡◌, ◌+◌, ◌-◌, length, sym, ap, ◌∙◌, arith}
-use Rattle.stack_marks.proofs.Rising.{from_position}
-use Rattle.std.proofs.Common.{length-drop}
+use Rattle.std.proofs.Common.{◌≡◌, ◌+◌, ◌-◌, ◌^◌, length, sym, ap, ◌∙◌, arith, length-drop}
+use Rattle.stack_marks.proofs.Rising.{widen, from_position}
 use Rattle.stack_marks.proofs.cuts.parts.Goals as goal
+
+pub keep_from-requires : goal.keep_from-requires
+keep_from-requires c = widen c.stack.inside.base 0 _ (2 ^ 62) c.stack.inside.links.marks (omega arith) c.stack.invariant.top_low c.stack.invariant.in_order
 
 pub invariant_of-result-2 : goal.invariant_of-result-2
 invariant_of-result-2 c =
@@ -13,6 +15,7 @@ invariant_of-result-2 c =
     record {
       base_low = omega (arith, top, c.stack.invariant.top_low);
       top_low = omega (arith, top, c.stack.invariant.top_low);
-      in_order = rw (c.keep_from.ensures.kept, top) (from_position s.base (s.base + length s.cells.items) c.args.left_base s.marks.items c.stack.invariant.in_order);
-      room = omega (arith, size, cells, c.keep_from.ensures.capacity, c.stack.invariant.room);
+      in_order = rw (c.keep_from.ensures, top) (from_position s.base (s.base + length s.cells.items) c.args.left_base s.links.marks c.stack.invariant.in_order);
+      lowest = omega (arith, ap (λ v. v.lowest) c.keep_from.ensures, c.stack.invariant.lowest, base, c.requires.above);
+      room = omega (arith, top, ap (λ v. v.lowest) c.keep_from.ensures, ap (λ v. v.room) c.keep_from.ensures, c.stack.invariant.room);
     }
