@@ -11,9 +11,10 @@ use Rattle.stack_marks.specs.declared.mark.Mark.{Mark}
 use Rattle.stack_marks.specs.declared.links.Link.{Link}
 use Rattle.stack_marks.specs.declared.links.Ends.{Ends}
 use Rattle.stack_marks.specs.Stacks.{InOrder}
-use Rattle.stack_marks.specs.Linked.{mark_of, marks_from, bare, no_mark, nth, link_at, newer_at, older_at, IsChain, AreEnds, AreLinked}
+use Rattle.stack_marks.specs.Linked.{mark_of, marks_from, bare, link_at, newer_at, older_at, AreLinked}
 use Rattle.stack_marks.proofs.Rising.{rises, get_or_any, get_or_self, removed_is_filtered}
-use Rattle.stack_marks.proofs.Linking.{Stands, stands, Place, place, rising, same_marks, padded, marked_above, chain_without, chain_added}
+use Rattle.stack_marks.proofs.Following.{AreEnds, AreChained, closed}
+use Rattle.stack_marks.proofs.Linking.{no_mark, nth, IsChain, Stands, stands, Place, place, rising, same_marks, padded, marked_above, chain_without, chain_added}
 
 -- two places with one position are one
 same_place : (low high j k : ℕ) (ms : List Mark) → InOrder low high ms → j < length ms → k < length ms → (nth ms j).at ≡ (nth ms k).at → j ≡ k
@@ -114,7 +115,7 @@ ends_without ms k e two h o0 o1 n0 n1 =
     less q = elim (cases_lt (suc k) (length ms)) [ inl r ↦ omega (arith, r, size) | inr r ↦ absurd (q (omega (arith, r, h))) ]
 
 -- the one mark that stands
-pub alone : (lowest : ℕ) (ls : List Link) (p : ℕ) (l : Link) (e : Ends) → AreLinked lowest ls (Some e) → Any (λ m. m.at ≡ p) (marks_from lowest ls) →
+pub alone : (lowest : ℕ) (ls : List Link) (p : ℕ) (l : Link) (e : Ends) → AreChained lowest ls e → Any (λ m. m.at ≡ p) (marks_from lowest ls) →
   p ≡ e.oldest → p ≡ e.newest → l.marked ≡ false → IsTaken lowest ls (set ls (p - lowest) l) None p
 alone lowest ls p l e s a eo en u =
     let ms : List Mark = marks_from lowest ls in
@@ -124,10 +125,7 @@ alone lowest ls p l e s a eo en u =
     let size : length (remove ms f.k) + 1 ≡ length ms = length-remove ms f.k f.within in
     let empty : marks_from lowest (set ls (p - lowest) l) ≡ [] = f.gone l u ∙ nothing (remove ms f.k) (omega (arith, size, first, last, s.ends.0)) in
     record {
-      linked = record {
-        ends = empty;
-        chain = λ j q. absurd (let z = ap length empty in omega (arith, q, z));
-      };
+      linked = empty;
       marks = f.gone l u ∙ filtered lowest ls p f;
     }
   where
@@ -136,7 +134,7 @@ alone lowest ls p l e s a eo en u =
     nothing (m ∷ ms) z = absurd (omega (arith, z))
 
 -- the oldest of several
-pub oldest_gone : (lowest : ℕ) (ls : List Link) (p x : ℕ) (l : Link) (e : Ends) → AreLinked lowest ls (Some e) → Any (λ m. m.at ≡ p) (marks_from lowest ls) →
+pub oldest_gone : (lowest : ℕ) (ls : List Link) (p x : ℕ) (l : Link) (e : Ends) → AreChained lowest ls e → Any (λ m. m.at ≡ p) (marks_from lowest ls) →
   p ≡ e.oldest → (p ≡ e.newest → ⊥) → x ≡ (get_or ls (p - lowest) bare).newer →
   l.marked ≡ false → l.newer ≡ (get_or ls (p - lowest) bare).newer → l.older ≡ (get_or ls (p - lowest) bare).older →
   IsTaken lowest ls (set ls (p - lowest) l) (Some (record { oldest = x; newest = e.newest })) p
@@ -149,10 +147,10 @@ oldest_gone lowest ls p x l e s a eo en ex u ln lo =
     let two : 1 < length ms = more_than (length ms) f.k first f.within inner in
     let second : x ≡ (nth ms 1).at = ex ∙ ap (newer_at lowest ls) (sym f.there) ∙ (s.chain f.k (omega (arith, first, two))).0 ∙ ap (λ n. (nth ms (suc n)).at) first in
     record {
-      linked = record {
+      linked = closed lowest _ _ (record {
         ends = subst (λ ns. AreEnds ns (record { oldest = x; newest = e.newest })) (sym (f.gone l u)) (ends_without ms f.k (record { oldest = x; newest = e.newest }) two f.within (λ _. second) (λ q. absurd (q first)) (λ q. absurd (inner q)) (λ _. s.ends.2));
         chain = subst (IsChain (newer_at lowest new) (older_at lowest new)) (sym (f.gone l u)) (chain_without (newer_at lowest ls) (newer_at lowest new) (older_at lowest ls) (older_at lowest new) f.k ms f.within s.chain (λ i _ _. kept_field (λ z. z.newer) ls (p - lowest) ((nth ms i).at - lowest) l ln) (λ i _ _. kept_field (λ z. z.older) ls (p - lowest) ((nth ms i).at - lowest) l lo) (λ i q _. absurd (omega (arith, q, first))));
-      };
+      });
       marks = f.gone l u ∙ filtered lowest ls p f;
     }
   where
@@ -160,7 +158,7 @@ oldest_gone lowest ls p x l e s a eo en ex u ln lo =
     more_than n k z h q = elim (cases_lt (suc k) n) [ inl r ↦ omega (arith, r, z) | inr r ↦ absurd (q (omega (arith, r, h))) ]
 
 -- the newest of several
-pub newest_gone : (lowest : ℕ) (ls : List Link) (p x : ℕ) (l : Link) (e : Ends) → AreLinked lowest ls (Some e) → Any (λ m. m.at ≡ p) (marks_from lowest ls) →
+pub newest_gone : (lowest : ℕ) (ls : List Link) (p x : ℕ) (l : Link) (e : Ends) → AreChained lowest ls e → Any (λ m. m.at ≡ p) (marks_from lowest ls) →
   (p ≡ e.oldest → ⊥) → p ≡ e.newest → x ≡ (get_or ls (p - lowest) bare).older →
   l.marked ≡ false → l.newer ≡ (get_or ls (p - lowest) bare).newer → l.older ≡ (get_or ls (p - lowest) bare).older →
   IsTaken lowest ls (set ls (p - lowest) l) (Some (record { oldest = e.oldest; newest = x })) p
@@ -175,10 +173,10 @@ newest_gone lowest ls p x l e s a eo en ex u ln lo =
     let before : f.k ≡ suc (length ms - 2) = omega (arith, last, two) in
     let previous : x ≡ (nth ms (length ms - 2)).at = ex ∙ ap (older_at lowest ls) (sym f.there) ∙ ap (λ n. older_at lowest ls (nth ms n).at) before ∙ (s.chain (length ms - 2) (omega (arith, two))).1 in
     record {
-      linked = record {
+      linked = closed lowest _ _ (record {
         ends = subst (λ ns. AreEnds ns (record { oldest = e.oldest; newest = x })) (sym (f.gone l u)) (ends_without ms f.k (record { oldest = e.oldest; newest = x }) two f.within (λ q. absurd (later q)) (λ _. s.ends.1) (λ _. previous) (λ q. absurd (q outer)));
         chain = subst (IsChain (newer_at lowest new) (older_at lowest new)) (sym (f.gone l u)) (chain_without (newer_at lowest ls) (newer_at lowest new) (older_at lowest ls) (older_at lowest new) f.k ms f.within s.chain (λ i _ _. kept_field (λ z. z.newer) ls (p - lowest) ((nth ms i).at - lowest) l ln) (λ i _ _. kept_field (λ z. z.older) ls (p - lowest) ((nth ms i).at - lowest) l lo) (λ i q h. absurd (omega (arith, outer, h))));
-      };
+      });
       marks = f.gone l u ∙ filtered lowest ls p f;
     }
 
@@ -194,7 +192,7 @@ pub record AreNeighbours (lowest : ℕ) (ls : List Link) (p : ℕ) : Type 0 wher
   pub newer_low : lowest ≤ (get_or ls (p - lowest) bare).newer
   pub newer_high : (get_or ls (p - lowest) bare).newer - lowest < length ls
 
-pub neighbours : (lowest : ℕ) (ls : List Link) (p : ℕ) (e : Ends) → AreLinked lowest ls (Some e) → Any (λ m. m.at ≡ p) (marks_from lowest ls) → (p ≡ e.oldest → ⊥) → (p ≡ e.newest → ⊥) → AreNeighbours lowest ls p
+pub neighbours : (lowest : ℕ) (ls : List Link) (p : ℕ) (e : Ends) → AreChained lowest ls e → Any (λ m. m.at ≡ p) (marks_from lowest ls) → (p ≡ e.oldest → ⊥) → (p ≡ e.newest → ⊥) → AreNeighbours lowest ls p
 neighbours lowest ls p e s a eo en =
     let ms : List Mark = marks_from lowest ls in
     let f : Found lowest ls p = found lowest ls p a in
@@ -222,7 +220,7 @@ neighbours lowest ls p e s a eo en =
     }
 
 -- a mark between others
-pub between_gone : (lowest : ℕ) (ls : List Link) (p a b : ℕ) (l la lb : Link) (e : Ends) → AreLinked lowest ls (Some e) → Any (λ m. m.at ≡ p) (marks_from lowest ls) →
+pub between_gone : (lowest : ℕ) (ls : List Link) (p a b : ℕ) (l la lb : Link) (e : Ends) → AreChained lowest ls e → Any (λ m. m.at ≡ p) (marks_from lowest ls) →
   (p ≡ e.oldest → ⊥) → (p ≡ e.newest → ⊥) → a ≡ (get_or ls (p - lowest) bare).older → b ≡ (get_or ls (p - lowest) bare).newer →
   l.marked ≡ false → l.newer ≡ (get_or ls (p - lowest) bare).newer → l.older ≡ (get_or ls (p - lowest) bare).older →
   la ≡ with_newer (get_or (set ls (p - lowest) l) (a - lowest) bare) b →
@@ -262,7 +260,7 @@ between_gone lowest ls p a b l la lb e s any eo en ea eb u ln lo ela elb =
     let apart : (i j : ℕ) → i < length ms → j < length ms → (i ≡ j → ⊥) → (nth ms i).at - lowest ≡ (nth ms j).at - lowest → ⊥ = λ i j hi hj q z.
       q (same_place lowest (lowest + length ls) i j ms (rising lowest ls) hi hj (let x = (stands lowest ls i hi).low in let y = (stands lowest ls j hj).low in omega (arith, x, y, z))) in
     record {
-      linked = record {
+      linked = closed lowest _ _ (record {
         ends = subst (λ ns. AreEnds ns e) (sym gone) (ends_without ms f.k e (omega (arith, n.within)) f.within (λ q. absurd (omega (arith, q, k))) (λ _. s.ends.1) (λ q. absurd (omega (arith, q, k, n.within))) (λ _. s.ends.2));
         chain = subst (IsChain (newer_at lowest third) (older_at lowest third)) (sym gone) (chain_without (newer_at lowest ls) (newer_at lowest third) (older_at lowest ls) (older_at lowest third) f.k ms f.within s.chain
           (λ i h q. newer_same (nth ms i).at (λ z. apart i n.j h (omega (arith, n.within)) (λ y. q (omega (arith, y, k))) (z ∙ ap (λ y. y - lowest) (sym at_a))))
@@ -273,7 +271,7 @@ between_gone lowest ls p a b l la lb e s any eo en ea eb u ln lo ela elb =
             let here : (nth ms i).at ≡ a = ap (λ y. (nth ms y).at) i_j ∙ at_a in
             let there : (nth ms (suc f.k)).at ≡ b = ap (λ y. (nth ms y).at) next ∙ at_b in
             (ap (newer_at lowest third) here ∙ newer_mended ∙ sym there, ap (older_at lowest third) there ∙ older_mended ∙ sym here)));
-      };
+      });
       marks = gone ∙ filtered lowest ls p f;
     }
 
@@ -289,7 +287,7 @@ pub record Oldest (lowest : ℕ) (ls : List Link) (e : Ends) : Type 0 where
   pub high : e.oldest - lowest < length ls
   pub first : slice_get (marks_from lowest ls) 0 ≡ Some (mark_of e.oldest (link_at lowest ls e.oldest))
 
-pub oldest_stands : (lowest : ℕ) (ls : List Link) (e : Ends) → AreLinked lowest ls (Some e) → Oldest lowest ls e
+pub oldest_stands : (lowest : ℕ) (ls : List Link) (e : Ends) → AreChained lowest ls e → Oldest lowest ls e
 oldest_stands lowest ls e s =
     let ms : List Mark = marks_from lowest ls in
     let t : Stands lowest ls (nth ms 0) = stands lowest ls 0 s.ends.0 in
@@ -303,7 +301,7 @@ oldest_stands lowest ls e s =
     head [] h = absurd (omega (arith, h))
     head (m ∷ ms) h = refl
 
-pub newest_is : (lowest : ℕ) (ls : List Link) (e : Ends) → AreLinked lowest ls (Some e) → Any (λ m. m.at ≡ e.newest) (marks_from lowest ls) × All (λ m. m.at ≤ e.newest) (marks_from lowest ls)
+pub newest_is : (lowest : ℕ) (ls : List Link) (e : Ends) → AreChained lowest ls e → Any (λ m. m.at ≡ e.newest) (marks_from lowest ls) × All (λ m. m.at ≤ e.newest) (marks_from lowest ls)
 newest_is lowest ls e s =
     let ms : List Mark = marks_from lowest ls in
     let within : length ms - 1 < length ms = omega (arith, s.ends.0) in
@@ -333,7 +331,7 @@ bare_there lowest ls p e k d h q =
     false≢true (sym (e (omega (arith, s.high, same))) ∙ subst (λ x. (link_at lowest ls x).marked ≡ true) same s.marked)
 
 -- links of cells that were never marked change nothing
-pub padded_linked : (lowest n : ℕ) (ls : List Link) (e : Ends) → AreLinked lowest ls (Some e) → AreLinked lowest (ls ++ replicate n bare) (Some e)
+pub padded_linked : (lowest n : ℕ) (ls : List Link) (e : Ends) → AreChained lowest ls e → AreChained lowest (ls ++ replicate n bare) e
 padded_linked lowest n ls e s =
     let ms : List Mark = marks_from lowest ls in
     let new : List Link = ls ++ replicate n bare in
@@ -357,15 +355,15 @@ first_added lowest at ls l none low high e =
     let one : marks_from lowest (set ls (at - lowest) l) ≡ marks_from lowest ls ++ mark_of at l ∷ [] = marked_above lowest (at - lowest) ls l high e no_others ∙ ap (λ n. marks_from lowest ls ++ mark_of n l ∷ []) there in
     let only : marks_from lowest (set ls (at - lowest) l) ≡ mark_of at l ∷ [] = one ∙ ap (λ ms. ms ++ mark_of at l ∷ []) none in
     record {
-      linked = record {
+      linked = closed lowest _ _ (record {
         ends = subst (λ ns. AreEnds ns (record { oldest = at; newest = at })) (sym only) (omega arith, refl, refl);
         chain = λ k h. absurd (let z = ap length only in omega (arith, h, z));
-      };
+      });
       marks = one;
     }
 
 -- one after others
-pub later_added : (lowest at : ℕ) (ls : List Link) (l la : Link) (e : Ends) → AreLinked lowest ls (Some e) → All (λ m. m.at < at) (marks_from lowest ls) → lowest ≤ at → at - lowest < length ls → l.marked ≡ true → l.older ≡ e.newest →
+pub later_added : (lowest at : ℕ) (ls : List Link) (l la : Link) (e : Ends) → AreChained lowest ls e → All (λ m. m.at < at) (marks_from lowest ls) → lowest ≤ at → at - lowest < length ls → l.marked ≡ true → l.older ≡ e.newest →
   la ≡ with_newer (get_or (set ls (at - lowest) l) (e.newest - lowest) bare) at →
   IsAdded lowest ls (set (set ls (at - lowest) l) (e.newest - lowest) la) (Some (record { oldest = e.oldest; newest = at })) (mark_of at l)
 later_added lowest at ls l la e s under low high u lo ela =
@@ -396,10 +394,10 @@ later_added lowest at ls l la e s under low high u lo ela =
       ∙ ap (λ (z : Link). z.older) (get_or-set_same ls (at - lowest) l bare high)
       ∙ lo ∙ s.ends.2 in
     record {
-      linked = record {
+      linked = closed lowest _ _ (record {
         ends = subst (λ ns. AreEnds ns (record { oldest = e.oldest; newest = at })) (sym same) (outer ms (mark_of at l) e s.ends);
         chain = subst (IsChain (newer_at lowest second) (older_at lowest second)) (sym same) (chain_added (newer_at lowest ls) (newer_at lowest second) (older_at lowest ls) (older_at lowest second) ms (mark_of at l) s.chain newer_same older_same (λ _. (newer_new, older_new)));
-      };
+      });
       marks = same;
     }
   where
@@ -414,7 +412,7 @@ later_added lowest at ls l la e s under low high u lo ela =
         )
 
 -- the cell that the stack holds as its newest
-pub newest_stands : (lowest : ℕ) (ls : List Link) (e : Ends) → AreLinked lowest ls (Some e) → (lowest ≤ e.newest) × (e.newest - lowest < length ls)
+pub newest_stands : (lowest : ℕ) (ls : List Link) (e : Ends) → AreChained lowest ls e → (lowest ≤ e.newest) × (e.newest - lowest < length ls)
 newest_stands lowest ls e s =
     let t : Stands lowest ls (nth (marks_from lowest ls) (length (marks_from lowest ls) - 1)) = stands lowest ls (length (marks_from lowest ls) - 1) (omega (arith, s.ends.0)) in
     (omega (arith, t.low, s.ends.2), omega (arith, t.high, s.ends.2))

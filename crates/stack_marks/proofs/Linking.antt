@@ -9,8 +9,19 @@ use Rattle.std.specs.List.{remove}
 use Rattle.stack_marks.specs.declared.mark.Mark.{Mark}
 use Rattle.stack_marks.specs.declared.links.Link.{Link}
 use Rattle.stack_marks.specs.Stacks.{InOrder}
-use Rattle.stack_marks.specs.Linked.{mark_of, marks_from, bare, no_mark, nth, link_at, IsChain}
+use Rattle.stack_marks.specs.Linked.{mark_of, marks_from, bare, link_at}
 use Rattle.stack_marks.proofs.Rising.{widen, rises, from_low}
+
+abbrev pub no_mark : Mark
+no_mark = record { at = 0; base = 0; cells = 0; split = 0 }
+
+-- the mark at a place of a list, where there is one
+abbrev pub nth : List Mark → ℕ → Mark
+nth marks k = get_or marks k no_mark
+
+-- the cells of two marks that follow one another name each other
+abbrev pub IsChain : (newer older : ℕ → ℕ) → List Mark → Type 0
+IsChain newer older marks = (k : ℕ) → suc k < length marks → (newer (nth marks k).at ≡ (nth marks (suc k)).at) × (older (nth marks (suc k)).at ≡ (nth marks k).at)
 
 -- the positions of the marks rise
 pub rising : (at : ℕ) (ls : List Link) → InOrder at (at + length ls) (marks_from at ls)

@@ -125,9 +125,6 @@ pub on_some : {T : Type 0} {P : Type 0} (r : Option T) → MatchOption r (Unit {
 on_some None p s = absurd (false≢true s)
 on_some (Some x) p s = p
 
-pub no_mark : Mark
-no_mark = record { at = 0; base = 0; cells = 0; split = 0 }
-
 pub get_or_any : (ys : List Mark) (n : ℕ) (a b : Mark) → n < length ys → get_or ys n a ≡ get_or ys n b
 get_or_any [] n a b q = absurd (omega (arith, q))
 get_or_any (y ∷ ys) zero a b q = refl

@@ -1,5 +1,5 @@
 -- How the links of the cells stand for the list of marks.
-use Rattle.std.specs.Prelude.{◌≡◌, ℕ, suc, ◌+◌, ◌-◌, ◌<◌, ◌≤◌, if◌then◌else◌, Option, MatchOption, Bool, false, List, [], ◌∷◌, length, slice_index_or}
+use Rattle.std.specs.Prelude.{◌≡◌, ℕ, zero, suc, ◌-◌, ◌<◌, if◌then◌else◌, Option, None, Some, false, List, [], ◌∷◌, length, reverse, slice_index_or}
 use Rattle.std.specs.Vec.{vec_capacity}
 use Rattle.stack_marks.specs.declared.mark.Mark.{Mark}
 use Rattle.stack_marks.specs.declared.links.Link.{Link}
@@ -22,13 +22,6 @@ links_value s = record { lowest = s.lowest; room = vec_capacity s.links; marks =
 abbrev pub bare : Link
 bare = record { base = 0; cells = 0; older = 0; newer = 0; split = 0; marked = false }
 
-abbrev pub no_mark : Mark
-no_mark = record { at = 0; base = 0; cells = 0; split = 0 }
-
--- the mark at a place of a list, and its position
-abbrev pub nth : List Mark → ℕ → Mark
-nth marks k = slice_index_or marks k no_mark
-
 -- the link of the cell at a position
 abbrev pub link_at : ℕ → List Link → ℕ → Link
 link_at lowest links at = slice_index_or links (at - lowest) bare
@@ -40,18 +33,22 @@ newer_at lowest links at = (link_at lowest links at).newer
 abbrev pub older_at : ℕ → List Link → ℕ → ℕ
 older_at lowest links at = (link_at lowest links at).older
 
--- the cells of two marks that follow one another name each other
-abbrev pub IsChain : (newer : ℕ → ℕ) (older : ℕ → ℕ) → List Mark → Type 0
-IsChain newer older marks = (k : ℕ) → suc k < length marks → (newer (nth marks k).at ≡ (nth marks (suc k)).at) × (older (nth marks (suc k)).at ≡ (nth marks k).at)
+-- the marks of so many cells, from the one at a position on, each next one by a link
+abbrev pub followed : (lowest : ℕ) (links : List Link) (next : ℕ → ℕ) → ℕ → ℕ → List Mark
+followed lowest links next zero at = []
+followed lowest links next (suc n) at = mark_of at (link_at lowest links at) ∷ followed lowest links next n (next at)
 
--- the oldest and the newest mark stand where the ends say
-abbrev pub AreEnds : List Mark → Ends → Type 0
-AreEnds marks ends = (0 < length marks) × (ends.oldest ≡ (nth marks 0).at) × (ends.newest ≡ (nth marks (length marks - 1)).at)
+-- Between the ends the links pass the marked cells, all and in order: from the oldest by the newer
+-- links, and from the newest by the older links backwards. The marks are those of the cells whose
+-- link is marked, so no other cell has one.
+pub record PassAll (lowest : ℕ) (links : List Link) (outer : Ends) : Type 0 where
+  pub some : 0 < length (marks_from lowest links)
+  pub onward : followed lowest links (newer_at lowest links) (length (marks_from lowest links)) outer.oldest ≡ marks_from lowest links
+  pub backward : followed lowest links (older_at lowest links) (length (marks_from lowest links)) outer.newest ≡ reverse (marks_from lowest links)
 
--- the marks of the links are a chain between the two ends
-pub record AreLinked (lowest : ℕ) (links : List Link) (outer : Option Ends) : Type 0 where
-  pub ends : MatchOption outer (marks_from lowest links ≡ []) (AreEnds (marks_from lowest links))
-  pub chain : IsChain (newer_at lowest links) (older_at lowest links) (marks_from lowest links)
+abbrev pub AreLinked : ℕ → List Link → Option Ends → Type 0
+AreLinked lowest links None = marks_from lowest links ≡ []
+AreLinked lowest links (Some outer) = PassAll lowest links outer
 
 abbrev pub IsLinked : Inside → Type 0
 IsLinked s = AreLinked s.lowest s.links.items s.ends

@@ -4,6 +4,7 @@ use Rattle.std.proofs.lemmas.List.{length-set, length-replicate}
 use Rattle.stack_marks.specs.declared.links.Link.{Link}
 use Rattle.stack_marks.specs.Linked.{marks_from, mark_of, bare, AreLinked}
 use Rattle.stack_marks.proofs.Linking.{padded}
+use Rattle.stack_marks.proofs.Following.{opened}
 use Rattle.stack_marks.proofs.Chains.{link_any, with_newer, newest_stands, first_added, later_added, padded_linked}
 use Rattle.stack_marks.proofs.links.Links.add.Goals as goal
 
@@ -17,7 +18,7 @@ invariant_of-self c =
     let under = subst (λ v. All (λ m. m.at < at) v.marks) (sym c.self.view_is) c.requires.newest in
     let size : length (ls ++ replicate extra bare) ≡ length ls + extra = length-append ls (replicate extra bare) ∙ ap (λ n. length ls + n) (length-replicate extra bare) in
     let high : at - s.lowest < length (ls ++ replicate extra bare) = omega (arith, size) in
-    let none : marks_from s.lowest ls ≡ [] = (subst (AreLinked s.lowest ls) c.in-None.is c.self.invariant).ends in
+    let none : marks_from s.lowest ls ≡ [] = subst (AreLinked s.lowest ls) c.in-None.is c.self.invariant in
     let t = first_added s.lowest at (ls ++ replicate extra bare) c.link_of.result (padded s.lowest extra ls ∙ none) low high c.link_of.ensures.marked in
     subst (λ xs. AreLinked s.lowest (set xs (at - s.lowest) c.link_of.result) (Some (record { oldest = at; newest = at }))) (sym c.fill.ensures.items) t.linked
 
@@ -31,7 +32,7 @@ overflow_sub-ends c =
     let under = subst (λ v. All (λ m. m.at < at) v.marks) (sym c.self.view_is) c.requires.newest in
     let size : length (ls ++ replicate extra bare) ≡ length ls + extra = length-append ls (replicate extra bare) ∙ ap (λ n. length ls + n) (length-replicate extra bare) in
     let high : at - s.lowest < length (ls ++ replicate extra bare) = omega (arith, size) in
-    let linked = padded_linked s.lowest extra ls c.in-Some.ends (subst (AreLinked s.lowest ls) c.in-Some.is c.self.invariant) in
+    let linked = padded_linked s.lowest extra ls c.in-Some.ends (opened s.lowest ls c.in-Some.ends (subst (AreLinked s.lowest ls) c.in-Some.is c.self.invariant)) in
     let end = newest_stands s.lowest (ls ++ replicate extra bare) c.in-Some.ends linked in
     end.0
 
@@ -45,7 +46,7 @@ index_mut-requires-in-Some-2 c =
     let under = subst (λ v. All (λ m. m.at < at) v.marks) (sym c.self.view_is) c.requires.newest in
     let size : length (ls ++ replicate extra bare) ≡ length ls + extra = length-append ls (replicate extra bare) ∙ ap (λ n. length ls + n) (length-replicate extra bare) in
     let high : at - s.lowest < length (ls ++ replicate extra bare) = omega (arith, size) in
-    let linked = padded_linked s.lowest extra ls c.in-Some.ends (subst (AreLinked s.lowest ls) c.in-Some.is c.self.invariant) in
+    let linked = padded_linked s.lowest extra ls c.in-Some.ends (opened s.lowest ls c.in-Some.ends (subst (AreLinked s.lowest ls) c.in-Some.is c.self.invariant)) in
     let end = newest_stands s.lowest (ls ++ replicate extra bare) c.in-Some.ends linked in
     omega (arith, end.1, ap length c.fill.ensures.items, c.fill.new.links.ok.0)
 
@@ -59,7 +60,7 @@ invariant_of-self-in-Some c =
     let under = subst (λ v. All (λ m. m.at < at) v.marks) (sym c.self.view_is) c.requires.newest in
     let size : length (ls ++ replicate extra bare) ≡ length ls + extra = length-append ls (replicate extra bare) ∙ ap (λ n. length ls + n) (length-replicate extra bare) in
     let high : at - s.lowest < length (ls ++ replicate extra bare) = omega (arith, size) in
-    let linked = padded_linked s.lowest extra ls c.in-Some.ends (subst (AreLinked s.lowest ls) c.in-Some.is c.self.invariant) in
+    let linked = padded_linked s.lowest extra ls c.in-Some.ends (opened s.lowest ls c.in-Some.ends (subst (AreLinked s.lowest ls) c.in-Some.is c.self.invariant)) in
     let end = newest_stands s.lowest (ls ++ replicate extra bare) c.in-Some.ends linked in
     let all = subst (λ ms. All (λ m. m.at < at) ms) (sym (padded s.lowest extra ls)) under in
     let first : List Link = set (ls ++ replicate extra bare) (at - s.lowest) c.link_of-in-Some.result in
@@ -81,7 +82,7 @@ returns-in-None-clause-marks c =
     let under = subst (λ v. All (λ m. m.at < at) v.marks) (sym c.self.view_is) c.requires.newest in
     let size : length (ls ++ replicate extra bare) ≡ length ls + extra = length-append ls (replicate extra bare) ∙ ap (λ n. length ls + n) (length-replicate extra bare) in
     let high : at - s.lowest < length (ls ++ replicate extra bare) = omega (arith, size) in
-    let none : marks_from s.lowest ls ≡ [] = (subst (AreLinked s.lowest ls) c.in-None.is c.self.invariant).ends in
+    let none : marks_from s.lowest ls ≡ [] = subst (AreLinked s.lowest ls) c.in-None.is c.self.invariant in
     let t = first_added s.lowest at (ls ++ replicate extra bare) c.link_of.result (padded s.lowest extra ls ∙ none) low high c.link_of.ensures.marked in
     ap (λ xs. marks_from s.lowest (set xs (at - s.lowest) c.link_of.result)) c.fill.ensures.items ∙ t.marks
     ∙ ap (λ ms. ms ++ mark_of at c.link_of.result ∷ []) (padded s.lowest extra ls ∙ ap (λ v. v.marks) c.self.view_is)
@@ -97,7 +98,7 @@ returns-in-Some-clause-marks c =
     let under = subst (λ v. All (λ m. m.at < at) v.marks) (sym c.self.view_is) c.requires.newest in
     let size : length (ls ++ replicate extra bare) ≡ length ls + extra = length-append ls (replicate extra bare) ∙ ap (λ n. length ls + n) (length-replicate extra bare) in
     let high : at - s.lowest < length (ls ++ replicate extra bare) = omega (arith, size) in
-    let linked = padded_linked s.lowest extra ls c.in-Some.ends (subst (AreLinked s.lowest ls) c.in-Some.is c.self.invariant) in
+    let linked = padded_linked s.lowest extra ls c.in-Some.ends (opened s.lowest ls c.in-Some.ends (subst (AreLinked s.lowest ls) c.in-Some.is c.self.invariant)) in
     let end = newest_stands s.lowest (ls ++ replicate extra bare) c.in-Some.ends linked in
     let all = subst (λ ms. All (λ m. m.at < at) ms) (sym (padded s.lowest extra ls)) under in
     let first : List Link = set (ls ++ replicate extra bare) (at - s.lowest) c.link_of-in-Some.result in

@@ -5,6 +5,7 @@ use Rattle.std.proofs.lemmas.List.{length-set}
 use Rattle.stack_marks.specs.declared.links.Link.{Link}
 use Rattle.stack_marks.specs.Links.{without}
 use Rattle.stack_marks.specs.Linked.{marks_from, bare, AreLinked}
+use Rattle.stack_marks.proofs.Following.{opened}
 use Rattle.stack_marks.proofs.Chains.{found, link_any, alone, oldest_gone, newest_gone, between_gone, neighbours, with_newer, with_older}
 use Rattle.stack_marks.proofs.links.Links.take.Goals as goal
 
@@ -25,7 +26,7 @@ pub invariant_of-self : goal.invariant_of-self
 invariant_of-self c =
     let s = c.self.inside in
     let any = subst (λ v. Any (λ m. m.at ≡ c.args.at) v.marks) (sym c.self.view_is) c.requires in
-    let linked = subst (AreLinked s.lowest s.links.items) c.in-Some.is c.self.invariant in
+    let linked = opened s.lowest s.links.items c.in-Some.ends (subst (AreLinked s.lowest s.links.items) c.in-Some.is c.self.invariant) in
     (alone s.lowest s.links.items c.args.at _ c.in-Some.ends linked any c.if-at-ends.true c.if-at-ends-2.true refl).linked
 
 pub invariant_of-self-else-at-ends-2 : goal.invariant_of-self-else-at-ends-2
@@ -33,7 +34,7 @@ invariant_of-self-else-at-ends-2 c =
     let s = c.self.inside in
     let ls = s.links.items in
     let any = subst (λ v. Any (λ m. m.at ≡ c.args.at) v.marks) (sym c.self.view_is) c.requires in
-    let linked = subst (AreLinked s.lowest ls) c.in-Some.is c.self.invariant in
+    let linked = opened s.lowest ls c.in-Some.ends (subst (AreLinked s.lowest ls) c.in-Some.is c.self.invariant) in
     let f = found s.lowest ls c.args.at any in
     let read : c.index-link.result.now ≡ get_or ls (c.args.at - s.lowest) bare = c.index-link.ensures ∙ link_any ls (c.args.at - s.lowest) c.index-link.result.now bare f.high in
     let same : c.index_mut.result.now ≡ get_or ls (c.args.at - s.lowest) bare = c.index_mut.ensures.value ∙ link_any ls (c.args.at - s.lowest) c.index_mut.result.now bare f.high in
@@ -44,7 +45,7 @@ invariant_of-self-then-at-ends-3 c =
     let s = c.self.inside in
     let ls = s.links.items in
     let any = subst (λ v. Any (λ m. m.at ≡ c.args.at) v.marks) (sym c.self.view_is) c.requires in
-    let linked = subst (AreLinked s.lowest ls) c.in-Some.is c.self.invariant in
+    let linked = opened s.lowest ls c.in-Some.ends (subst (AreLinked s.lowest ls) c.in-Some.is c.self.invariant) in
     let f = found s.lowest ls c.args.at any in
     let read : c.index-link.result.now ≡ get_or ls (c.args.at - s.lowest) bare = c.index-link.ensures ∙ link_any ls (c.args.at - s.lowest) c.index-link.result.now bare f.high in
     let same : c.index_mut.result.now ≡ get_or ls (c.args.at - s.lowest) bare = c.index_mut.ensures.value ∙ link_any ls (c.args.at - s.lowest) c.index_mut.result.now bare f.high in
@@ -55,7 +56,7 @@ overflow_sub-link c =
     let s = c.self.inside in
     let ls = s.links.items in
     let any = subst (λ v. Any (λ m. m.at ≡ c.args.at) v.marks) (sym c.self.view_is) c.requires in
-    let linked = subst (AreLinked s.lowest ls) c.in-Some.is c.self.invariant in
+    let linked = opened s.lowest ls c.in-Some.ends (subst (AreLinked s.lowest ls) c.in-Some.is c.self.invariant) in
     let f = found s.lowest ls c.args.at any in
     let read : c.index-link.result.now ≡ get_or ls (c.args.at - s.lowest) bare = c.index-link.ensures ∙ link_any ls (c.args.at - s.lowest) c.index-link.result.now bare f.high in
     let same : c.index_mut.result.now ≡ get_or ls (c.args.at - s.lowest) bare = c.index_mut.ensures.value ∙ link_any ls (c.args.at - s.lowest) c.index_mut.result.now bare f.high in
@@ -67,7 +68,7 @@ index_mut-requires-else-at-ends-3 c =
     let s = c.self.inside in
     let ls = s.links.items in
     let any = subst (λ v. Any (λ m. m.at ≡ c.args.at) v.marks) (sym c.self.view_is) c.requires in
-    let linked = subst (AreLinked s.lowest ls) c.in-Some.is c.self.invariant in
+    let linked = opened s.lowest ls c.in-Some.ends (subst (AreLinked s.lowest ls) c.in-Some.is c.self.invariant) in
     let f = found s.lowest ls c.args.at any in
     let read : c.index-link.result.now ≡ get_or ls (c.args.at - s.lowest) bare = c.index-link.ensures ∙ link_any ls (c.args.at - s.lowest) c.index-link.result.now bare f.high in
     let same : c.index_mut.result.now ≡ get_or ls (c.args.at - s.lowest) bare = c.index_mut.ensures.value ∙ link_any ls (c.args.at - s.lowest) c.index_mut.result.now bare f.high in
@@ -79,7 +80,7 @@ overflow_sub-link-else-at-ends-3 c =
     let s = c.self.inside in
     let ls = s.links.items in
     let any = subst (λ v. Any (λ m. m.at ≡ c.args.at) v.marks) (sym c.self.view_is) c.requires in
-    let linked = subst (AreLinked s.lowest ls) c.in-Some.is c.self.invariant in
+    let linked = opened s.lowest ls c.in-Some.ends (subst (AreLinked s.lowest ls) c.in-Some.is c.self.invariant) in
     let f = found s.lowest ls c.args.at any in
     let read : c.index-link.result.now ≡ get_or ls (c.args.at - s.lowest) bare = c.index-link.ensures ∙ link_any ls (c.args.at - s.lowest) c.index-link.result.now bare f.high in
     let same : c.index_mut.result.now ≡ get_or ls (c.args.at - s.lowest) bare = c.index_mut.ensures.value ∙ link_any ls (c.args.at - s.lowest) c.index_mut.result.now bare f.high in
@@ -91,7 +92,7 @@ index_mut-requires-else-at-ends-3-2 c =
     let s = c.self.inside in
     let ls = s.links.items in
     let any = subst (λ v. Any (λ m. m.at ≡ c.args.at) v.marks) (sym c.self.view_is) c.requires in
-    let linked = subst (AreLinked s.lowest ls) c.in-Some.is c.self.invariant in
+    let linked = opened s.lowest ls c.in-Some.ends (subst (AreLinked s.lowest ls) c.in-Some.is c.self.invariant) in
     let f = found s.lowest ls c.args.at any in
     let read : c.index-link.result.now ≡ get_or ls (c.args.at - s.lowest) bare = c.index-link.ensures ∙ link_any ls (c.args.at - s.lowest) c.index-link.result.now bare f.high in
     let same : c.index_mut.result.now ≡ get_or ls (c.args.at - s.lowest) bare = c.index_mut.ensures.value ∙ link_any ls (c.args.at - s.lowest) c.index_mut.result.now bare f.high in
@@ -103,7 +104,7 @@ invariant_of-self-else-at-ends-3 c =
     let s = c.self.inside in
     let ls = s.links.items in
     let any = subst (λ v. Any (λ m. m.at ≡ c.args.at) v.marks) (sym c.self.view_is) c.requires in
-    let linked = subst (AreLinked s.lowest ls) c.in-Some.is c.self.invariant in
+    let linked = opened s.lowest ls c.in-Some.ends (subst (AreLinked s.lowest ls) c.in-Some.is c.self.invariant) in
     let f = found s.lowest ls c.args.at any in
     let read : c.index-link.result.now ≡ get_or ls (c.args.at - s.lowest) bare = c.index-link.ensures ∙ link_any ls (c.args.at - s.lowest) c.index-link.result.now bare f.high in
     let same : c.index_mut.result.now ≡ get_or ls (c.args.at - s.lowest) bare = c.index_mut.ensures.value ∙ link_any ls (c.args.at - s.lowest) c.index_mut.result.now bare f.high in
@@ -128,7 +129,7 @@ returns-then-at-ends-2 c =
     let s = c.self.inside in
     let ls = s.links.items in
     let any = subst (λ v. Any (λ m. m.at ≡ c.args.at) v.marks) (sym c.self.view_is) c.requires in
-    let linked = subst (AreLinked s.lowest ls) c.in-Some.is c.self.invariant in
+    let linked = opened s.lowest ls c.in-Some.ends (subst (AreLinked s.lowest ls) c.in-Some.is c.self.invariant) in
     let t = alone s.lowest ls c.args.at (record { base = c.index_mut.result.now.base; cells = c.index_mut.result.now.cells; older = c.index_mut.result.now.older; newer = c.index_mut.result.now.newer; split = c.index_mut.result.now.split; marked = false }) c.in-Some.ends linked any c.if-at-ends.true c.if-at-ends-2.true refl in
     (λ i. record { lowest = s.lowest; room = vec_capacity s.links; marks = t.marks i }) ∙ ap (λ v. without v c.args.at) c.self.view_is
 
@@ -137,7 +138,7 @@ returns-else-at-ends-2 c =
     let s = c.self.inside in
     let ls = s.links.items in
     let any = subst (λ v. Any (λ m. m.at ≡ c.args.at) v.marks) (sym c.self.view_is) c.requires in
-    let linked = subst (AreLinked s.lowest ls) c.in-Some.is c.self.invariant in
+    let linked = opened s.lowest ls c.in-Some.ends (subst (AreLinked s.lowest ls) c.in-Some.is c.self.invariant) in
     let f = found s.lowest ls c.args.at any in
     let read : c.index-link.result.now ≡ get_or ls (c.args.at - s.lowest) bare = c.index-link.ensures ∙ link_any ls (c.args.at - s.lowest) c.index-link.result.now bare f.high in
     let same : c.index_mut.result.now ≡ get_or ls (c.args.at - s.lowest) bare = c.index_mut.ensures.value ∙ link_any ls (c.args.at - s.lowest) c.index_mut.result.now bare f.high in
@@ -149,7 +150,7 @@ returns-then-at-ends-3 c =
     let s = c.self.inside in
     let ls = s.links.items in
     let any = subst (λ v. Any (λ m. m.at ≡ c.args.at) v.marks) (sym c.self.view_is) c.requires in
-    let linked = subst (AreLinked s.lowest ls) c.in-Some.is c.self.invariant in
+    let linked = opened s.lowest ls c.in-Some.ends (subst (AreLinked s.lowest ls) c.in-Some.is c.self.invariant) in
     let f = found s.lowest ls c.args.at any in
     let read : c.index-link.result.now ≡ get_or ls (c.args.at - s.lowest) bare = c.index-link.ensures ∙ link_any ls (c.args.at - s.lowest) c.index-link.result.now bare f.high in
     let same : c.index_mut.result.now ≡ get_or ls (c.args.at - s.lowest) bare = c.index_mut.ensures.value ∙ link_any ls (c.args.at - s.lowest) c.index_mut.result.now bare f.high in
@@ -161,7 +162,7 @@ returns-else-at-ends-3 c =
     let s = c.self.inside in
     let ls = s.links.items in
     let any = subst (λ v. Any (λ m. m.at ≡ c.args.at) v.marks) (sym c.self.view_is) c.requires in
-    let linked = subst (AreLinked s.lowest ls) c.in-Some.is c.self.invariant in
+    let linked = opened s.lowest ls c.in-Some.ends (subst (AreLinked s.lowest ls) c.in-Some.is c.self.invariant) in
     let f = found s.lowest ls c.args.at any in
     let read : c.index-link.result.now ≡ get_or ls (c.args.at - s.lowest) bare = c.index-link.ensures ∙ link_any ls (c.args.at - s.lowest) c.index-link.result.now bare f.high in
     let same : c.index_mut.result.now ≡ get_or ls (c.args.at - s.lowest) bare = c.index_mut.ensures.value ∙ link_any ls (c.args.at - s.lowest) c.index_mut.result.now bare f.high in
