@@ -80,21 +80,20 @@ filtered : (lowest : ℕ) (ls : List Link) (p : ℕ) (f : Found lowest ls p) →
 filtered lowest ls p f = removed_is_filtered lowest (lowest + length ls) p (marks_from lowest ls) f.k (rising lowest ls) f.within (λ d. ap (λ (m : Mark). m.at) (get_or_any (marks_from lowest ls) f.k d no_mark f.within) ∙ f.there)
 
 ends_without : (ms : List Mark) (k : ℕ) (e : Ends) → 1 < length ms → k < length ms →
-  (k ≡ 0 → e.oldest ≡ (nth ms 1).at) → ((k ≡ 0 → ⊥) → e.oldest ≡ (nth ms 0).at) →
-  (suc k ≡ length ms → e.newest ≡ (nth ms (length ms - 2)).at) → ((suc k ≡ length ms → ⊥) → e.newest ≡ (nth ms (length ms - 1)).at) →
-  AreEnds (remove ms k) e
-ends_without ms k e two h o0 o1 n0 n1 =
-    (
-      omega (arith, size, two),
-      elim (cases_eq k 0) [
-        | inl q ↦ o0 q ∙ sym (ap (λ (m : Mark). m.at) (get_or-remove_above ms k no_mark 0 (omega (arith, q)) h))
-        | inr q ↦ o1 q ∙ sym (ap (λ (m : Mark). m.at) (get_or-remove_below ms k no_mark 0 (positive q) h))
-      ],
-      elim (cases_eq (suc k) (length ms)) [
-        | inl q ↦ n0 q ∙ sym (ap (λ (m : Mark). m.at) (get_or-remove_below ms k no_mark last (omega (arith, size, q, two)) h ∙ ap (nth ms) before))
-        | inr q ↦ n1 q ∙ sym (ap (λ (m : Mark). m.at) (get_or-remove_above ms k no_mark last (less q) h ∙ ap (nth ms) next))
-      ],
-    )
+    (k ≡ 0 → e.oldest ≡ (nth ms 1).at) → ((k ≡ 0 → ⊥) → e.oldest ≡ (nth ms 0).at) →
+    (suc k ≡ length ms → e.newest ≡ (nth ms (length ms - 2)).at) → ((suc k ≡ length ms → ⊥) → e.newest ≡ (nth ms (length ms - 1)).at) →
+    AreEnds (remove ms k) e
+ends_without ms k e two h o0 o1 n0 n1 = (
+  omega (arith, size, two),
+  elim (cases_eq k 0) [
+    | inl q ↦ o0 q ∙ sym (ap (λ (m : Mark). m.at) (get_or-remove_above ms k no_mark 0 (omega (arith, q)) h))
+    | inr q ↦ o1 q ∙ sym (ap (λ (m : Mark). m.at) (get_or-remove_below ms k no_mark 0 (positive q) h))
+  ],
+  elim (cases_eq (suc k) (length ms)) [
+    | inl q ↦ n0 q ∙ sym (ap (λ (m : Mark). m.at) (get_or-remove_below ms k no_mark last (omega (arith, size, q, two)) h ∙ ap (nth ms) before))
+    | inr q ↦ n1 q ∙ sym (ap (λ (m : Mark). m.at) (get_or-remove_above ms k no_mark last (less q) h ∙ ap (nth ms) next))
+  ],
+)
   where
     size : length (remove ms k) + 1 ≡ length ms
     size = length-remove ms k h
@@ -116,7 +115,7 @@ ends_without ms k e two h o0 o1 n0 n1 =
 
 -- the one mark that stands
 pub alone : (lowest : ℕ) (ls : List Link) (p : ℕ) (l : Link) (e : Ends) → AreChained lowest ls e → Any (λ m. m.at ≡ p) (marks_from lowest ls) →
-  p ≡ e.oldest → p ≡ e.newest → l.marked ≡ false → IsTaken lowest ls (set ls (p - lowest) l) None p
+    p ≡ e.oldest → p ≡ e.newest → l.marked ≡ false → IsTaken lowest ls (set ls (p - lowest) l) None p
 alone lowest ls p l e s a eo en u =
     let ms : List Mark = marks_from lowest ls in
     let f : Found lowest ls p = found lowest ls p a in
@@ -135,9 +134,9 @@ alone lowest ls p l e s a eo en u =
 
 -- the oldest of several
 pub oldest_gone : (lowest : ℕ) (ls : List Link) (p x : ℕ) (l : Link) (e : Ends) → AreChained lowest ls e → Any (λ m. m.at ≡ p) (marks_from lowest ls) →
-  p ≡ e.oldest → (p ≡ e.newest → ⊥) → x ≡ (get_or ls (p - lowest) bare).newer →
-  l.marked ≡ false → l.newer ≡ (get_or ls (p - lowest) bare).newer → l.older ≡ (get_or ls (p - lowest) bare).older →
-  IsTaken lowest ls (set ls (p - lowest) l) (Some (record { oldest = x; newest = e.newest })) p
+    p ≡ e.oldest → (p ≡ e.newest → ⊥) → x ≡ (get_or ls (p - lowest) bare).newer →
+    l.marked ≡ false → l.newer ≡ (get_or ls (p - lowest) bare).newer → l.older ≡ (get_or ls (p - lowest) bare).older →
+    IsTaken lowest ls (set ls (p - lowest) l) (Some (record { oldest = x; newest = e.newest })) p
 oldest_gone lowest ls p x l e s a eo en ex u ln lo =
     let ms : List Mark = marks_from lowest ls in
     let new : List Link = set ls (p - lowest) l in
@@ -159,9 +158,9 @@ oldest_gone lowest ls p x l e s a eo en ex u ln lo =
 
 -- the newest of several
 pub newest_gone : (lowest : ℕ) (ls : List Link) (p x : ℕ) (l : Link) (e : Ends) → AreChained lowest ls e → Any (λ m. m.at ≡ p) (marks_from lowest ls) →
-  (p ≡ e.oldest → ⊥) → p ≡ e.newest → x ≡ (get_or ls (p - lowest) bare).older →
-  l.marked ≡ false → l.newer ≡ (get_or ls (p - lowest) bare).newer → l.older ≡ (get_or ls (p - lowest) bare).older →
-  IsTaken lowest ls (set ls (p - lowest) l) (Some (record { oldest = e.oldest; newest = x })) p
+    (p ≡ e.oldest → ⊥) → p ≡ e.newest → x ≡ (get_or ls (p - lowest) bare).older →
+    l.marked ≡ false → l.newer ≡ (get_or ls (p - lowest) bare).newer → l.older ≡ (get_or ls (p - lowest) bare).older →
+    IsTaken lowest ls (set ls (p - lowest) l) (Some (record { oldest = e.oldest; newest = x })) p
 newest_gone lowest ls p x l e s a eo en ex u ln lo =
     let ms : List Mark = marks_from lowest ls in
     let new : List Link = set ls (p - lowest) l in
@@ -221,11 +220,11 @@ neighbours lowest ls p e s a eo en =
 
 -- a mark between others
 pub between_gone : (lowest : ℕ) (ls : List Link) (p a b : ℕ) (l la lb : Link) (e : Ends) → AreChained lowest ls e → Any (λ m. m.at ≡ p) (marks_from lowest ls) →
-  (p ≡ e.oldest → ⊥) → (p ≡ e.newest → ⊥) → a ≡ (get_or ls (p - lowest) bare).older → b ≡ (get_or ls (p - lowest) bare).newer →
-  l.marked ≡ false → l.newer ≡ (get_or ls (p - lowest) bare).newer → l.older ≡ (get_or ls (p - lowest) bare).older →
-  la ≡ with_newer (get_or (set ls (p - lowest) l) (a - lowest) bare) b →
-  lb ≡ with_older (get_or (set (set ls (p - lowest) l) (a - lowest) la) (b - lowest) bare) a →
-  IsTaken lowest ls (set (set (set ls (p - lowest) l) (a - lowest) la) (b - lowest) lb) (Some e) p
+    (p ≡ e.oldest → ⊥) → (p ≡ e.newest → ⊥) → a ≡ (get_or ls (p - lowest) bare).older → b ≡ (get_or ls (p - lowest) bare).newer →
+    l.marked ≡ false → l.newer ≡ (get_or ls (p - lowest) bare).newer → l.older ≡ (get_or ls (p - lowest) bare).older →
+    la ≡ with_newer (get_or (set ls (p - lowest) l) (a - lowest) bare) b →
+    lb ≡ with_older (get_or (set (set ls (p - lowest) l) (a - lowest) la) (b - lowest) bare) a →
+    IsTaken lowest ls (set (set (set ls (p - lowest) l) (a - lowest) la) (b - lowest) lb) (Some e) p
 between_gone lowest ls p a b l la lb e s any eo en ea eb u ln lo ela elb =
     let ms : List Mark = marks_from lowest ls in
     let first : List Link = set ls (p - lowest) l in
@@ -239,33 +238,33 @@ between_gone lowest ls p a b l la lb e s any eo en ea eb u ln lo ela elb =
     let long1 : length first ≡ length ls = length-set ls (p - lowest) l in
     let long2 : length second ≡ length ls = length-set first (a - lowest) la ∙ long1 in
     let gone : marks_from lowest third ≡ remove ms f.k =
-      same_marks lowest (b - lowest) second lb (ap (λ (z : Link). z.marked) elb) (ap (mark_of 0) elb)
-      ∙ same_marks lowest (a - lowest) first la (ap (λ (z : Link). z.marked) ela) (ap (mark_of 0) ela)
-      ∙ f.gone l u in
+    same_marks lowest (b - lowest) second lb (ap (λ (z : Link). z.marked) elb) (ap (mark_of 0) elb)
+    ∙ same_marks lowest (a - lowest) first la (ap (λ (z : Link). z.marked) ela) (ap (mark_of 0) ela)
+    ∙ f.gone l u in
     let newer_same : (x : ℕ) → (x - lowest ≡ a - lowest → ⊥) → newer_at lowest third x ≡ newer_at lowest ls x = λ x q.
-      kept_field (λ z. z.newer) second (b - lowest) (x - lowest) lb (ap (λ (z : Link). z.newer) elb)
-      ∙ ap (λ (z : Link). z.newer) (get_or-set_other first (a - lowest) (x - lowest) la bare q)
-      ∙ kept_field (λ z. z.newer) ls (p - lowest) (x - lowest) l ln in
+    kept_field (λ z. z.newer) second (b - lowest) (x - lowest) lb (ap (λ (z : Link). z.newer) elb)
+    ∙ ap (λ (z : Link). z.newer) (get_or-set_other first (a - lowest) (x - lowest) la bare q)
+    ∙ kept_field (λ z. z.newer) ls (p - lowest) (x - lowest) l ln in
     let newer_mended : newer_at lowest third a ≡ b =
-      kept_field (λ z. z.newer) second (b - lowest) (a - lowest) lb (ap (λ (z : Link). z.newer) elb)
-      ∙ ap (λ (z : Link). z.newer) (get_or-set_same first (a - lowest) la bare (omega (arith, long1, n.older_high, ea)))
-      ∙ ap (λ (z : Link). z.newer) ela in
+    kept_field (λ z. z.newer) second (b - lowest) (a - lowest) lb (ap (λ (z : Link). z.newer) elb)
+    ∙ ap (λ (z : Link). z.newer) (get_or-set_same first (a - lowest) la bare (omega (arith, long1, n.older_high, ea)))
+    ∙ ap (λ (z : Link). z.newer) ela in
     let older_same : (x : ℕ) → (x - lowest ≡ b - lowest → ⊥) → older_at lowest third x ≡ older_at lowest ls x = λ x q.
-      ap (λ (z : Link). z.older) (get_or-set_other second (b - lowest) (x - lowest) lb bare q)
-      ∙ kept_field (λ z. z.older) first (a - lowest) (x - lowest) la (ap (λ (z : Link). z.older) ela)
-      ∙ kept_field (λ z. z.older) ls (p - lowest) (x - lowest) l lo in
+    ap (λ (z : Link). z.older) (get_or-set_other second (b - lowest) (x - lowest) lb bare q)
+    ∙ kept_field (λ z. z.older) first (a - lowest) (x - lowest) la (ap (λ (z : Link). z.older) ela)
+    ∙ kept_field (λ z. z.older) ls (p - lowest) (x - lowest) l lo in
     let older_mended : older_at lowest third b ≡ a =
-      ap (λ (z : Link). z.older) (get_or-set_same second (b - lowest) lb bare (omega (arith, long2, n.newer_high, eb)))
-      ∙ ap (λ (z : Link). z.older) elb in
+    ap (λ (z : Link). z.older) (get_or-set_same second (b - lowest) lb bare (omega (arith, long2, n.newer_high, eb)))
+    ∙ ap (λ (z : Link). z.older) elb in
     let apart : (i j : ℕ) → i < length ms → j < length ms → (i ≡ j → ⊥) → (nth ms i).at - lowest ≡ (nth ms j).at - lowest → ⊥ = λ i j hi hj q z.
-      q (same_place lowest (lowest + length ls) i j ms (rising lowest ls) hi hj (let x = (stands lowest ls i hi).low in let y = (stands lowest ls j hj).low in omega (arith, x, y, z))) in
+    q (same_place lowest (lowest + length ls) i j ms (rising lowest ls) hi hj (let x = (stands lowest ls i hi).low in let y = (stands lowest ls j hj).low in omega (arith, x, y, z))) in
     record {
       linked = closed lowest _ _ (record {
         ends = subst (λ ns. AreEnds ns e) (sym gone) (ends_without ms f.k e (omega (arith, n.within)) f.within (λ q. absurd (omega (arith, q, k))) (λ _. s.ends.1) (λ q. absurd (omega (arith, q, k, n.within))) (λ _. s.ends.2));
         chain = subst (IsChain (newer_at lowest third) (older_at lowest third)) (sym gone) (chain_without (newer_at lowest ls) (newer_at lowest third) (older_at lowest ls) (older_at lowest third) f.k ms f.within s.chain
-          (λ i h q. newer_same (nth ms i).at (λ z. apart i n.j h (omega (arith, n.within)) (λ y. q (omega (arith, y, k))) (z ∙ ap (λ y. y - lowest) (sym at_a))))
-          (λ i h q. older_same (nth ms i).at (λ z. apart i (suc (suc n.j)) h n.within (λ y. q (omega (arith, y, k))) (z ∙ ap (λ y. y - lowest) (sym at_b))))
-          (λ i q h.
+            (λ i h q. newer_same (nth ms i).at (λ z. apart i n.j h (omega (arith, n.within)) (λ y. q (omega (arith, y, k))) (z ∙ ap (λ y. y - lowest) (sym at_a))))
+            (λ i h q. older_same (nth ms i).at (λ z. apart i (suc (suc n.j)) h n.within (λ y. q (omega (arith, y, k))) (z ∙ ap (λ y. y - lowest) (sym at_b))))
+            (λ i q h.
             let i_j : i ≡ n.j = omega (arith, q, k) in
             let next : suc f.k ≡ suc (suc n.j) = omega (arith, k) in
             let here : (nth ms i).at ≡ a = ap (λ y. (nth ms y).at) i_j ∙ at_a in
@@ -304,8 +303,7 @@ oldest_stands lowest ls e s =
 pub newest_is : (lowest : ℕ) (ls : List Link) (e : Ends) → AreChained lowest ls e → Any (λ m. m.at ≡ e.newest) (marks_from lowest ls) × All (λ m. m.at ≤ e.newest) (marks_from lowest ls)
 newest_is lowest ls e s =
     let ms : List Mark = marks_from lowest ls in
-    let within : length ms - 1 < length ms = omega (arith, s.ends.0) in
-    (
+    let within : length ms - 1 < length ms = omega (arith, s.ends.0) in (
       (length ms - 1, nth ms (length ms - 1), within, get_or_self ms (length ms - 1) no_mark within, sym s.ends.2),
       λ k d h. elim (cases_lt k (length ms - 1)) [
         | inl r ↦ let q = rises lowest (lowest + length ls) ms (rising lowest ls) k (length ms - 1) d no_mark r within in omega (arith, q, s.ends.2)
@@ -348,7 +346,7 @@ pub record IsAdded (lowest : ℕ) (ls new : List Link) (outer : Option Ends) (m 
 
 -- the only one
 pub first_added : (lowest at : ℕ) (ls : List Link) (l : Link) → marks_from lowest ls ≡ [] → lowest ≤ at → at - lowest < length ls → l.marked ≡ true →
-  IsAdded lowest ls (set ls (at - lowest) l) (Some (record { oldest = at; newest = at })) (mark_of at l)
+    IsAdded lowest ls (set ls (at - lowest) l) (Some (record { oldest = at; newest = at })) (mark_of at l)
 first_added lowest at ls l none low high e =
     let there : lowest + (at - lowest) ≡ at = omega (arith, low) in
     let no_others : (k : ℕ) (d : Mark) → k < length (marks_from lowest ls) → (get_or (marks_from lowest ls) k d).at < lowest + (at - lowest) = λ k d h. absurd (let z = ap length none in omega (arith, h, z)) in
@@ -364,8 +362,8 @@ first_added lowest at ls l none low high e =
 
 -- one after others
 pub later_added : (lowest at : ℕ) (ls : List Link) (l la : Link) (e : Ends) → AreChained lowest ls e → All (λ m. m.at < at) (marks_from lowest ls) → lowest ≤ at → at - lowest < length ls → l.marked ≡ true → l.older ≡ e.newest →
-  la ≡ with_newer (get_or (set ls (at - lowest) l) (e.newest - lowest) bare) at →
-  IsAdded lowest ls (set (set ls (at - lowest) l) (e.newest - lowest) la) (Some (record { oldest = e.oldest; newest = at })) (mark_of at l)
+    la ≡ with_newer (get_or (set ls (at - lowest) l) (e.newest - lowest) bare) at →
+    IsAdded lowest ls (set (set ls (at - lowest) l) (e.newest - lowest) la) (Some (record { oldest = e.oldest; newest = at })) (mark_of at l)
 later_added lowest at ls l la e s under low high u lo ela =
     let ms : List Mark = marks_from lowest ls in
     let first : List Link = set ls (at - lowest) l in
@@ -373,26 +371,26 @@ later_added lowest at ls l la e s under low high u lo ela =
     let last : length ms - 1 < length ms = omega (arith, s.ends.0) in
     let there : lowest + (at - lowest) ≡ at = omega (arith, low) in
     let same : marks_from lowest second ≡ ms ++ mark_of at l ∷ [] =
-      same_marks lowest (e.newest - lowest) first la (ap (λ (z : Link). z.marked) ela) (ap (mark_of 0) ela)
-      ∙ marked_above lowest (at - lowest) ls l high u (λ k d h. let r = under k d h in omega (arith, r, there))
-      ∙ ap (λ n. ms ++ mark_of n l ∷ []) there in
+    same_marks lowest (e.newest - lowest) first la (ap (λ (z : Link). z.marked) ela) (ap (mark_of 0) ela)
+    ∙ marked_above lowest (at - lowest) ls l high u (λ k d h. let r = under k d h in omega (arith, r, there))
+    ∙ ap (λ n. ms ++ mark_of n l ∷ []) there in
     let stood : Stands lowest ls (nth ms (length ms - 1)) = stands lowest ls (length ms - 1) last in
     let aside : (k : ℕ) → k < length ms → (nth ms k).at - lowest ≡ at - lowest → ⊥ = λ k h z. let r = under k no_mark h in let t = (stands lowest ls k h).low in omega (arith, r, t, z, low) in
     let size : length first ≡ length ls = length-set ls (at - lowest) l in
     let newer_same : (k : ℕ) → suc k < length ms → newer_at lowest second (nth ms k).at ≡ newer_at lowest ls (nth ms k).at = λ k h.
-      ap (λ (z : Link). z.newer) (get_or-set_other first (e.newest - lowest) ((nth ms k).at - lowest) la bare (λ z. let r = rises lowest (lowest + length ls) ms (rising lowest ls) k (length ms - 1) no_mark no_mark (omega (arith, h)) last in let t = (stands lowest ls k (omega (arith, h))).low in omega (arith, z, r, t, s.ends.2)))
-      ∙ ap (λ (z : Link). z.newer) (get_or-set_other ls (at - lowest) ((nth ms k).at - lowest) l bare (aside k (omega (arith, h)))) in
+    ap (λ (z : Link). z.newer) (get_or-set_other first (e.newest - lowest) ((nth ms k).at - lowest) la bare (λ z. let r = rises lowest (lowest + length ls) ms (rising lowest ls) k (length ms - 1) no_mark no_mark (omega (arith, h)) last in let t = (stands lowest ls k (omega (arith, h))).low in omega (arith, z, r, t, s.ends.2)))
+    ∙ ap (λ (z : Link). z.newer) (get_or-set_other ls (at - lowest) ((nth ms k).at - lowest) l bare (aside k (omega (arith, h)))) in
     let older_same : (k : ℕ) → k < length ms → older_at lowest second (nth ms k).at ≡ older_at lowest ls (nth ms k).at = λ k h.
-      kept_field (λ z. z.older) first (e.newest - lowest) ((nth ms k).at - lowest) la (ap (λ (z : Link). z.older) ela)
-      ∙ ap (λ (z : Link). z.older) (get_or-set_other ls (at - lowest) ((nth ms k).at - lowest) l bare (aside k h)) in
+    kept_field (λ z. z.older) first (e.newest - lowest) ((nth ms k).at - lowest) la (ap (λ (z : Link). z.older) ela)
+    ∙ ap (λ (z : Link). z.older) (get_or-set_other ls (at - lowest) ((nth ms k).at - lowest) l bare (aside k h)) in
     let newer_new : newer_at lowest second (nth ms (length ms - 1)).at ≡ at =
-      ap (newer_at lowest second) (sym s.ends.2)
-      ∙ ap (λ (z : Link). z.newer) (get_or-set_same first (e.newest - lowest) la bare (omega (arith, stood.high, s.ends.2, size)))
-      ∙ ap (λ (z : Link). z.newer) ela in
+    ap (newer_at lowest second) (sym s.ends.2)
+    ∙ ap (λ (z : Link). z.newer) (get_or-set_same first (e.newest - lowest) la bare (omega (arith, stood.high, s.ends.2, size)))
+    ∙ ap (λ (z : Link). z.newer) ela in
     let older_new : older_at lowest second at ≡ (nth ms (length ms - 1)).at =
-      kept_field (λ z. z.older) first (e.newest - lowest) (at - lowest) la (ap (λ (z : Link). z.older) ela)
-      ∙ ap (λ (z : Link). z.older) (get_or-set_same ls (at - lowest) l bare high)
-      ∙ lo ∙ s.ends.2 in
+    kept_field (λ z. z.older) first (e.newest - lowest) (at - lowest) la (ap (λ (z : Link). z.older) ela)
+    ∙ ap (λ (z : Link). z.older) (get_or-set_same ls (at - lowest) l bare high)
+    ∙ lo ∙ s.ends.2 in
     record {
       linked = closed lowest _ _ (record {
         ends = subst (λ ns. AreEnds ns (record { oldest = e.oldest; newest = at })) (sym same) (outer ms (mark_of at l) e s.ends);
@@ -404,8 +402,7 @@ later_added lowest at ls l la e s under low high u lo ela =
     outer : (ms : List Mark) (m : Mark) (o : Ends) → AreEnds ms o → AreEnds (ms ++ m ∷ []) (record { oldest = o.oldest; newest = m.at })
     outer ms m o a =
         let size : length (ms ++ m ∷ []) ≡ length ms + 1 = length-append ms (m ∷ []) in
-        let end : length (ms ++ m ∷ []) - 1 ≡ length ms = omega (arith, size) in
-        (
+        let end : length (ms ++ m ∷ []) - 1 ≡ length ms = omega (arith, size) in (
           omega (arith, size),
           a.1 ∙ sym (ap (λ (z : Mark). z.at) (get_or_append_left ms (m ∷ []) no_mark 0 a.0)),
           sym (ap (λ (z : Mark). z.at) (ap (nth (ms ++ m ∷ [])) end ∙ get_or-append_seam ms m [] no_mark)),

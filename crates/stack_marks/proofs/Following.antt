@@ -73,10 +73,10 @@ closed lowest links outer c =
       backward = ap (λ n. followed lowest links (older_at lowest links) n outer.newest) (sym size) ∙ along lowest links (older_at lowest links) outer.newest (reverse ms) (record {
         first = λ h. c.ends.2 ∙ ap (λ (m : Mark). m.at) (sym (turned ms 0 (omega (arith, h, size)) ∙ ap (nth ms) last));
         steps = λ k h.
-          let j : length ms - 1 - k ≡ suc (length ms - 1 - suc k) = omega (arith, h, size) in
-          ap (λ (m : Mark). older_at lowest links m.at) (turned ms k (omega (arith, h, size)) ∙ ap (nth ms) j)
-          ∙ (c.chain (length ms - 1 - suc k) (omega (arith, h, size))).1
-          ∙ ap (λ (m : Mark). m.at) (sym (turned ms (suc k) (omega (arith, h, size))));
+            let j : length ms - 1 - k ≡ suc (length ms - 1 - suc k) = omega (arith, h, size) in
+            ap (λ (m : Mark). older_at lowest links m.at) (turned ms k (omega (arith, h, size)) ∙ ap (nth ms) j)
+            ∙ (c.chain (length ms - 1 - suc k) (omega (arith, h, size))).1
+            ∙ ap (λ (m : Mark). m.at) (sym (turned ms (suc k) (omega (arith, h, size))));
       }) (λ k h. subst (λ m. m ≡ mark_of m.at (link_at lowest links m.at)) (sym (turned ms k (omega (arith, h, size)))) (told (length ms - 1 - k) (omega (arith, h, size))));
     }
 
@@ -90,13 +90,12 @@ opened lowest links outer a =
     record {
       ends = (a.some, on.first a.some, back.first (omega (arith, a.some, size)) ∙ ap (λ (m : Mark). m.at) (turned ms 0 a.some ∙ ap (nth ms) last));
       chain = λ k h.
-        let j : ℕ = length ms - 2 - k in
-        let newer : length ms - 1 - j ≡ suc k = omega (arith, h) in
-        let older : length ms - 1 - suc j ≡ k = omega (arith, h) in
-        (
-          on.steps k h,
-          ap (λ (m : Mark). older_at lowest links m.at) (sym (turned ms j (omega (arith, h)) ∙ ap (nth ms) newer))
-          ∙ back.steps j (omega (arith, h, size))
-          ∙ ap (λ (m : Mark). m.at) (turned ms (suc j) (omega (arith, h)) ∙ ap (nth ms) older),
-        );
+          let j : ℕ = length ms - 2 - k in
+          let newer : length ms - 1 - j ≡ suc k = omega (arith, h) in
+          let older : length ms - 1 - suc j ≡ k = omega (arith, h) in (
+            on.steps k h,
+            ap (λ (m : Mark). older_at lowest links m.at) (sym (turned ms j (omega (arith, h)) ∙ ap (nth ms) newer))
+                ∙ back.steps j (omega (arith, h, size))
+                ∙ ap (λ (m : Mark). m.at) (turned ms (suc j) (omega (arith, h)) ∙ ap (nth ms) older),
+          );
     }

@@ -167,17 +167,17 @@ marked_above at (suc i) (x ∷ ls) l h e f = go (marked_above (suc at) i ls l (o
 
 -- the chain without one of its marks, where the cells of its neighbours name each other
 pub chain_without : (nw nw' ol ol' : ℕ → ℕ) (k : ℕ) (ms : List Mark) → k < length ms → IsChain nw ol ms →
-  ((i : ℕ) → i < length ms → (suc i ≡ k → ⊥) → nw' (nth ms i).at ≡ nw (nth ms i).at) →
-  ((i : ℕ) → i < length ms → (i ≡ suc k → ⊥) → ol' (nth ms i).at ≡ ol (nth ms i).at) →
-  ((i : ℕ) → suc i ≡ k → suc k < length ms → (nw' (nth ms i).at ≡ (nth ms (suc k)).at) × (ol' (nth ms (suc k)).at ≡ (nth ms i).at)) →
-  IsChain nw' ol' (remove ms k)
+    ((i : ℕ) → i < length ms → (suc i ≡ k → ⊥) → nw' (nth ms i).at ≡ nw (nth ms i).at) →
+    ((i : ℕ) → i < length ms → (i ≡ suc k → ⊥) → ol' (nth ms i).at ≡ ol (nth ms i).at) →
+    ((i : ℕ) → suc i ≡ k → suc k < length ms → (nw' (nth ms i).at ≡ (nth ms (suc k)).at) × (ol' (nth ms (suc k)).at ≡ (nth ms i).at)) →
+    IsChain nw' ol' (remove ms k)
 chain_without nw nw' ol ol' k ms h c f g m j q =
     elim (cases_lt (suc j) k) [
       | inl a ↦ link j (suc j) (below j (omega (arith, a))) (below (suc j) a) (f j (omega (arith, a, h)) (λ e. omega (arith, e, a)) ∙ (c j (omega (arith, a, h))).0) (g (suc j) (omega (arith, a, h)) (λ e. omega (arith, e, a)) ∙ (c j (omega (arith, a, h))).1)
       | inr a ↦ elim (cases_lt j k) [
         | inl b ↦ let w = m j (omega (arith, a, b)) (omega (arith, size, q, a, b)) in
-          let next : suc k ≡ suc (suc j) = omega (arith, a, b) in
-          link j (suc (suc j)) (below j b) (above (suc j) a) (w.0 ∙ ap (λ n. (nth ms n).at) next) (ap (λ n. ol' (nth ms n).at) (sym next) ∙ w.1)
+            let next : suc k ≡ suc (suc j) = omega (arith, a, b) in
+            link j (suc (suc j)) (below j b) (above (suc j) a) (w.0 ∙ ap (λ n. (nth ms n).at) next) (ap (λ n. ol' (nth ms n).at) (sym next) ∙ w.1)
         | inr b ↦ link (suc j) (suc (suc j)) (above j b) (above (suc j) a) (f (suc j) (omega (arith, q, size)) (λ e. omega (arith, e, b)) ∙ (c (suc j) (omega (arith, q, size))).0) (g (suc (suc j)) (omega (arith, q, size)) (λ e. omega (arith, e, b)) ∙ (c (suc j) (omega (arith, q, size))).1)
       ]
     ]
@@ -196,10 +196,10 @@ chain_without nw nw' ol ol' k ms h c f g m j q =
 
 -- the chain with one more mark, where the cells of the newest so far and the new one name each other
 pub chain_added : (nw nw' ol ol' : ℕ → ℕ) (ms : List Mark) (m : Mark) → IsChain nw ol ms →
-  ((i : ℕ) → suc i < length ms → nw' (nth ms i).at ≡ nw (nth ms i).at) →
-  ((i : ℕ) → i < length ms → ol' (nth ms i).at ≡ ol (nth ms i).at) →
-  (0 < length ms → (nw' (nth ms (length ms - 1)).at ≡ m.at) × (ol' m.at ≡ (nth ms (length ms - 1)).at)) →
-  IsChain nw' ol' (ms ++ m ∷ [])
+    ((i : ℕ) → suc i < length ms → nw' (nth ms i).at ≡ nw (nth ms i).at) →
+    ((i : ℕ) → i < length ms → ol' (nth ms i).at ≡ ol (nth ms i).at) →
+    (0 < length ms → (nw' (nth ms (length ms - 1)).at ≡ m.at) × (ol' m.at ≡ (nth ms (length ms - 1)).at)) →
+    IsChain nw' ol' (ms ++ m ∷ [])
 chain_added nw nw' ol ol' ms m c f g n j q =
     elim (cases_lt (suc j) (length ms)) [
       | inl a ↦ link (nth ms j) (nth ms (suc j)) (old j (omega (arith, a))) (old (suc j) a) (f j a ∙ (c j a).0) (g (suc j) a ∙ (c j a).1)

@@ -31,23 +31,6 @@ rises low high (m ∷ ms) o i zero d e h k = absurd (omega (arith, h))
 rises low high (m ∷ ms) o zero (suc j) d e h k = let r = from_low (suc m.at) high ms o.2 j e (omega (arith, k)) in omega (arith, r.0)
 rises low high (m ∷ ms) o (suc i) (suc j) d e h k = rises (suc m.at) high ms o.2 i j d e (omega (arith, h)) (omega (arith, k))
 
-pub all_below : (low high x : ℕ) (ms : List Mark) (e : Mark) → InOrder low high ms → (get_or ms (length ms - 1) e).at < x → (k : ℕ) (d : Mark) → k < length ms → (get_or ms k d).at < x
-all_below low high x ms e o l k d h =
-    elim (cases_lt k (length ms - 1)) [
-      | inl q ↦ let r = rises low high ms o k (length ms - 1) d e q (omega (arith, h)) in omega (arith, r, l)
-      | inr q ↦ let same : k ≡ length ms - 1 = omega (arith, q, h) in subst (λ n. (get_or ms n d).at < x) (sym same) (subst (λ (z : Mark). z.at < x) (get_or_any ms (length ms - 1) e d (omega (arith, h))) l)
-    ]
-  where
-    get_or_any : (ys : List Mark) (n : ℕ) (a b : Mark) → n < length ys → get_or ys n a ≡ get_or ys n b
-    get_or_any [] n a b q = absurd (omega (arith, q))
-    get_or_any (y ∷ ys) zero a b q = refl
-    get_or_any (y ∷ ys) (suc n) a b q = get_or_any ys n a b (omega (arith, q))
-
--- there are no more marks than positions
-pub few : (low high : ℕ) (ms : List Mark) → low ≤ high → InOrder low high ms → low + length ms ≤ high
-few low high [] h o = omega (arith, h)
-few low high (m ∷ ms) h o = let r = few (suc m.at) high ms (omega (arith, o.1)) o.2 in omega (arith, r, o.0)
-
 pub one_more : (low high : ℕ) (ms : List Mark) (a : Mark) → InOrder low high ms → ((k : ℕ) (d : Mark) → k < length ms → (get_or ms k d).at < a.at) → low ≤ a.at → a.at < high → InOrder low high (ms ++ a ∷ [])
 one_more low high [] a o f h k = (h, k, tt)
 one_more low high (m ∷ ms) a o f h k = (o.0, o.1, one_more (suc m.at) high ms a o.2 (λ i d q. f (suc i) d (omega (arith, q))) (let r = f zero m (omega arith) in omega (arith, r)) k)
@@ -121,28 +104,10 @@ get_or_self [] k d h = absurd (omega (arith, h))
 get_or_self (m ∷ ms) zero d h = refl
 get_or_self (m ∷ ms) (suc k) d h = get_or_self ms k d (omega (arith, h))
 
-pub on_some : {T : Type 0} {P : Type 0} (r : Option T) → MatchOption r (Unit {0}) (λ _. P) → IsSome r → P
-on_some None p s = absurd (false≢true s)
-on_some (Some x) p s = p
-
 pub get_or_any : (ys : List Mark) (n : ℕ) (a b : Mark) → n < length ys → get_or ys n a ≡ get_or ys n b
 get_or_any [] n a b q = absurd (omega (arith, q))
 get_or_any (y ∷ ys) zero a b q = refl
 get_or_any (y ∷ ys) (suc n) a b q = get_or_any ys n a b (omega (arith, q))
-
--- no mark is at a position between two neighbours
-pub none_between : (low high x n : ℕ) (ms : List Mark) (e : Mark) → InOrder low high ms → n < length ms → (get_or ms n e).at < x → ((i : ℕ) (d : Mark) → n < i → i < length ms → x < (get_or ms i d).at) → (k : ℕ) (d : Mark) → k < length ms → (get_or ms k d).at ≡ x → ⊥
-none_between low high x n ms e o h l f k d j q =
-    elim (cases_lt k n) [
-      | inl a ↦ let r = rises low high ms o k n d e a h in omega (arith, r, l, q)
-      | inr a ↦ elim (cases_lt n k) [
-        | inl b ↦ let r = f k d b j in omega (arith, r, q)
-        | inr b ↦
-            let same : k ≡ n = omega (arith, a, b) in
-            let here : (get_or ms k d).at ≡ (get_or ms n e).at = ap (λ z. (get_or ms z d).at) same ∙ ap (λ (z : Mark). z.at) (get_or_any ms n d e h) in
-            omega (arith, here, l, q)
-      ]
-    ]
 
 -- all from a position on that the first is at or above
 all_from : (low high x : ℕ) (ms : List Mark) → InOrder low high ms → x ≤ low → filter (λ m. nat_le x m.at) ms ≡ ms

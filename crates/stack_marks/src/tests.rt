@@ -109,3 +109,50 @@ fn calls_are_refused(rt: HostRuntime) -> Result<(), Fail> {
     assert_eq!(rt; high.push(1), Ok(()));
     Ok(())
 }
+
+/// A mark on a cell of its own.
+fn mark_on(at: u64) -> Mark {
+    Mark {
+        at,
+        base: at,
+        cells: 1,
+        split: 0,
+    }
+}
+
+/// Six cells that were marked but for the last, without some of the marks, and then with one on the
+/// last cell.
+fn marked_but(rt: &HostRuntime, gone: &[i64]) -> Result<Stack, Fail> {
+    let mut stack = Stack::new(rt.alloc(), 0);
+    stack.push(6)?;
+    for at in [0, 1, 2, 3, 4] {
+        stack.mark(mark_on(at))?;
+    }
+    for at in gone {
+        stack.unmark(*at)?;
+    }
+    stack.mark(mark_on(5))?;
+    Ok(stack)
+}
+
+#[test]
+fn neighbours_of_a_mark_that_goes(rt: HostRuntime) -> Result<(), Fail> {
+    let cases: [(&[i64], &[u64]); 8] = [
+        (&[], &[0, 1, 2, 3, 4, 5]),
+        (&[0], &[1, 2, 3, 4, 5]),
+        (&[4], &[0, 1, 2, 3, 5]),
+        (&[2], &[0, 1, 3, 4, 5]),
+        (&[2, 1], &[0, 3, 4, 5]),
+        (&[2, 3, 4], &[0, 1, 5]),
+        (&[4, 3, 2, 1], &[0, 5]),
+        (&[1, 0, 3, 4, 2], &[5]),
+    ];
+    for (gone, marks) in cases {
+        let mut stack = marked_but(&rt, gone)?;
+        for at in marks {
+            assert_eq!(rt; stack.drop_oldest(), Some(mark_on(*at)), "without {gone:?}");
+        }
+        assert_eq!(rt; stack.drop_oldest(), None, "without {gone:?}");
+    }
+    Ok(())
+}

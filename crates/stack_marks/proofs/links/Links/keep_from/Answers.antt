@@ -29,9 +29,9 @@ loop-mark-preserved c =
     record {
       order = subst (InOrder 0 (2 ^ 62)) (sym (ap (λ z. z.marks) c.take.ensures ∙ gone)) (without_first 0 (2 ^ 62) v.marks c.loop-mark.invariant.order);
       same = ap (λ z. from_on z c.args.low) c.take.ensures
-        ∙ (λ i. from_on (record { lowest = v.lowest; room = v.room; marks = gone i }) c.args.low)
-        ∙ (λ i. record { lowest = v.lowest; room = v.room; marks = same i })
-        ∙ c.loop-mark.invariant.same;
+          ∙ (λ i. from_on (record { lowest = v.lowest; room = v.room; marks = gone i }) c.args.low)
+          ∙ (λ i. record { lowest = v.lowest; room = v.room; marks = same i })
+          ∙ c.loop-mark.invariant.same;
     }
 
 pub returns : goal.returns

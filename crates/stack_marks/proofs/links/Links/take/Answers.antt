@@ -120,8 +120,8 @@ invariant_of-self-else-at-ends-3 c =
     let b_high : b - s.lowest < length second = omega (arith, long, long2, n.newer_high, ap (λ (z : Link). z.newer) read) in
     let lb : Link = with_older c.index_mut-else-at-ends-3-2.result.now a in
     let t = between_gone s.lowest ls c.args.at a b (record { base = c.index_mut.result.now.base; cells = c.index_mut.result.now.cells; older = c.index_mut.result.now.older; newer = c.index_mut.result.now.newer; split = c.index_mut.result.now.split; marked = false }) la lb c.in-Some.ends linked any c.if-at-ends.false c.if-at-ends-3.false (ap (λ (z : Link). z.older) read) (ap (λ (z : Link). z.newer) read) refl (ap (λ (z : Link). z.newer) same) (ap (λ (z : Link). z.older) same)
-          (ap (λ (z : Link). with_newer z b) (c.index_mut-else-at-ends-3.ensures.value ∙ link_any first (a - s.lowest) c.index_mut-else-at-ends-3.result.now bare a_high))
-          (ap (λ (z : Link). with_older z a) (c.index_mut-else-at-ends-3-2.ensures.value ∙ link_any second (b - s.lowest) c.index_mut-else-at-ends-3-2.result.now bare b_high)) in
+    (ap (λ (z : Link). with_newer z b) (c.index_mut-else-at-ends-3.ensures.value ∙ link_any first (a - s.lowest) c.index_mut-else-at-ends-3.result.now bare a_high))
+    (ap (λ (z : Link). with_older z a) (c.index_mut-else-at-ends-3-2.ensures.value ∙ link_any second (b - s.lowest) c.index_mut-else-at-ends-3-2.result.now bare b_high)) in
     subst (AreLinked s.lowest (set second (b - s.lowest) lb)) (sym c.in-Some.is) t.linked
 
 pub returns-then-at-ends-2 : goal.returns-then-at-ends-2
@@ -178,6 +178,6 @@ returns-else-at-ends-3 c =
     let b_high : b - s.lowest < length second = omega (arith, long, long2, n.newer_high, ap (λ (z : Link). z.newer) read) in
     let lb : Link = with_older c.index_mut-else-at-ends-3-2.result.now a in
     let t = between_gone s.lowest ls c.args.at a b (record { base = c.index_mut.result.now.base; cells = c.index_mut.result.now.cells; older = c.index_mut.result.now.older; newer = c.index_mut.result.now.newer; split = c.index_mut.result.now.split; marked = false }) la lb c.in-Some.ends linked any c.if-at-ends.false c.if-at-ends-3.false (ap (λ (z : Link). z.older) read) (ap (λ (z : Link). z.newer) read) refl (ap (λ (z : Link). z.newer) same) (ap (λ (z : Link). z.older) same)
-          (ap (λ (z : Link). with_newer z b) (c.index_mut-else-at-ends-3.ensures.value ∙ link_any first (a - s.lowest) c.index_mut-else-at-ends-3.result.now bare a_high))
-          (ap (λ (z : Link). with_older z a) (c.index_mut-else-at-ends-3-2.ensures.value ∙ link_any second (b - s.lowest) c.index_mut-else-at-ends-3-2.result.now bare b_high)) in
+    (ap (λ (z : Link). with_newer z b) (c.index_mut-else-at-ends-3.ensures.value ∙ link_any first (a - s.lowest) c.index_mut-else-at-ends-3.result.now bare a_high))
+    (ap (λ (z : Link). with_older z a) (c.index_mut-else-at-ends-3-2.ensures.value ∙ link_any second (b - s.lowest) c.index_mut-else-at-ends-3-2.result.now bare b_high)) in
     (λ i. record { lowest = s.lowest; room = vec_capacity s.links; marks = t.marks i }) ∙ ap (λ v. without v c.args.at) c.self.view_is
