@@ -8,13 +8,13 @@ use Rattle.loop_syntax.specs.declared.Expr.TheVariants.{Int, Var, Cell', Rows, C
 use Rattle.loop_syntax.specs.declared.RowAt.TheVariants as row
 use Rattle.loop_syntax.specs.declared.Carry.{Carry}
 use Rattle.loop_syntax.specs.declared.Carry.TheVariants as carry
-use Rattle.loop_syntax.specs.declared.Stmt.{Row_of-Stmt}
+use Rattle.loop_syntax.specs.declared.Stmt.{Stmt}
 use Rattle.loop_syntax.specs.declared.Program.{Program}
 use Rattle.loop_rules.specs.Names.{is_in, item_of}
 use Rattle.loop_rules.specs.Carries.{carries, is_var, is_int, fits, bad_read, bad_write, last_index}
 use Rattle.loop_rules.specs.Reading.{ReadsTable}
 use Rattle.loop_rules.specs.Reductions.{any_loop, reduced}
-use Rattle.loop_rules.specs.Sites.{Loop, Act, DeclaresTable, DeclaresFunc, DeclaresAll, Declares, Uses, Assigns, Folds, AssignsBoth, NamesTable, ReadsCell, WritesCell, Calls, Evaluates, Shows, Parallel, Spot, in_all}
+use Rattle.loop_rules.specs.Sites.{Loop, Act, DeclaresTable, DeclaresFunc, DeclaresAll, Declares, Uses, Assigns, Folds, AssignsBoth, NamesTable, ReadsCell, WritesCell, Calls, Evaluates, Shows, Parallel, Spot, in_list}
 use Rattle.loop_meaning.specs.declared.value.Answer.TheVariants.{Number}
 use Rattle.loop_meaning.specs.declared.value.Variable.{Variable}
 use Rattle.loop_meaning.specs.State.{lookup}
@@ -24,7 +24,7 @@ use Rattle.loop_check.proofs.Found.{found_lookup, place_in, eq_is, is_in_more}
 use Rattle.loop_check.proofs.Keeps.{Mode, Fixed, ActOk, SitesOk}
 use Rattle.loop_check.proofs.Fine.{Fine, AllFine, at_none}
 use Rattle.loop_check.proofs.Shapes.{HeadOk, Inside, any_inside, carried, read_shape, write_shape, write_carried, fold_apart, item_fine, item_index}
-use Rattle.loop_check.proofs.Walk.{row_walk}
+use Rattle.loop_check.proofs.Walk.{list_walk}
 
 -- the variable that names the row of an item
 abbrev pub RowVar : Option Carry → List ℕ → Type 0
@@ -167,10 +167,10 @@ module _ (prog : Program) (r : Loop) (outer : List Loop) (x : List ℕ) (start :
   site_ok (Parallel p q l) w f i = tt
 
   -- all the sites of a body
-  pub row_inner : {n : _} → (w : Spot) → Within w → (row : Row_of-Stmt n) → AllFine prog (in_all w row) → SitesOk (mode_of r x start) prog (in_all w row)
-  row_inner w i row h =
-      row_walk (Fine prog) (λ a w. ActOk (mode_of r x start) prog a) Within site_ok
+  pub list_inner : (w : Spot) → Within w → (ss : List Stmt) → AllFine prog (in_list w ss) → SitesOk (mode_of r x start) prog (in_list w ss)
+  list_inner w i ss h =
+      list_walk (Fine prog) (λ a w. ActOk (mode_of r x start) prog a) Within site_ok
       (λ w y i. i)
       (λ w y i. (i.0, is_in_more w.loops y.text.items r.var i.1))
       (λ w y cs rs p q f c i. (inr (record { items = f.f6; targets = f.f3 }, i.0), is_in_more w.loops y.text.items r.var i.1))
-      w i row h
+      w i ss h

@@ -2,7 +2,7 @@
 use Rattle.tp_value.specs.declared.limits.TheConstants.{MAX_CALL_DEPTH}
 use Rattle.loop_meaning.specs.Calls.{setting}
 use Rattle.loop_meaning.specs.State.{lookup, declare, State, Note, Reads, Writes, Emits, Chance, Ran}
-use Rattle.loop_meaning.specs.Statements.{iteration, run_all}
+use Rattle.loop_meaning.specs.Statements.{iteration, run_list}
 use Rattle.std.proofs.Common.{◌≡◌, ◌≢◌, ℕ, ◌+◌, ◌-◌, ℤ, List, [], ◌∷◌, ◌++◌, map, length, Option, Some, None, refl, sym, ap, subst, ◌∙◌, Bool, true, false, cond, ◌||◌, not, bytes_eq, Contains, ◌⊎◌, inl, inr}
 use Rattle.tp_value.specs.declared.Place.{Place}
 use Rattle.loop_syntax.specs.declared.Name.{Name}
@@ -12,23 +12,23 @@ use Rattle.loop_syntax.specs.declared.Carry.TheVariants as carry
 use Rattle.loop_syntax.specs.declared.Reduce.{Reduce}
 use Rattle.loop_syntax.specs.declared.Program.{Program}
 use Rattle.loop_meaning.specs.declared.value.Variable.{Variable}
-use Rattle.loop_syntax.specs.declared.Stmt.{Row_of-Stmt}
+use Rattle.loop_syntax.specs.declared.Stmt.{Stmt}
 use Rattle.beat_count.specs.Ticks.{is_tick_allowed}
 use Rattle.loop_rules.specs.Names.{is_in, item_of, texts, func_names}
 use Rattle.loop_rules.specs.Reductions.{reduced}
 use Rattle.loop_rules.specs.Scopes.{is_visible}
-use Rattle.loop_rules.specs.Sites.{Loop, Declares, Parallel, Spot, in_carries, in_all, in_par, the_loop}
+use Rattle.loop_rules.specs.Sites.{Loop, Declares, Parallel, Spot, in_carries, in_list, in_par, the_loop}
 use Rattle.loop_meaning.specs.Cells.{Cell, read_cells, write_cells, Body, bodies_of, run_of, Agree, Disjoint}
 use Rattle.loop_check.specs.Unbroken.{NoneBroken}
 use Rattle.loop_check.proofs.Lists.{each_at, contains_none, contains_cons, contains_append}
 use Rattle.loop_check.proofs.Bools.{or_left, not_false}
 use Rattle.loop_check.proofs.Found.{Found, found_lookup, found_end, found_in, place_in, is_in_end, is_in_more, names_more}
-use Rattle.loop_check.proofs.Keeps.{Mode, Notes, Fixed, Keeps, all_run_ok}
+use Rattle.loop_check.proofs.Keeps.{Mode, Notes, Fixed, Keeps, list_ok}
 use Rattle.loop_check.proofs.Calls.{NoWrites, call_ok}
 use Rattle.loop_check.proofs.Fine.{Fine, AllFine, at_none, no_writes}
 use Rattle.loop_check.proofs.Bodies.{each_body}
 use Rattle.loop_check.proofs.Shapes.{HeadOk, item_fine, item_row}
-use Rattle.loop_check.proofs.Inner.{RowVar, Kept, Region, ReadRegion, WriteRegion, mode_of, row_inner}
+use Rattle.loop_check.proofs.Inner.{RowVar, Kept, Region, ReadRegion, WriteRegion, mode_of, list_inner}
 
 -- ---- the cells of notes
 
@@ -110,12 +110,12 @@ row_apart r outer t h (Some (carry.Cells x (row.Var k) j)) e y q =
 
 module _ (p : Program) (nw : NoWrites p) (w : Spot) (x : Name) (cs : List Carry) (rs : List Reduce) where
   -- what an iteration touches of the table t
-  pub body_keeps : {n : _} → (body : Row_of-Stmt n) (place later : Place) → Fine p (Parallel place later (the_loop w x cs rs)) w → AllFine p (in_carries w cs) → AllFine p (in_all (in_par w x cs rs) body)
+  pub body_keeps : (body : List Stmt) (place later : Place) → Fine p (Parallel place later (the_loop w x cs rs)) w → AllFine p (in_carries w cs) → AllFine p (in_list (in_par w x cs rs) body)
       → (fuel depth : ℕ) (s : State) → map (λ (v : Variable). v.name) s.vars ≡ w.scope → (i : ℤ) (t : List ℕ)
-      → Keeps (mode_of (the_loop w x cs rs) t (declare s.vars x.text.items i)) p (run_all (setting p fuel depth rs) body) × Fixed (mode_of (the_loop w x cs rs) t (declare s.vars x.text.items i)) (declare s.vars x.text.items i)
+      → Keeps (mode_of (the_loop w x cs rs) t (declare s.vars x.text.items i)) p (run_list (setting p fuel depth rs) body) × Fixed (mode_of (the_loop w x cs rs) t (declare s.vars x.text.items i)) (declare s.vars x.text.items i)
   body_keeps body place later head uses inner fuel depth s names i t = (
-    all_run_ok (mode_of (the_loop w x cs rs) t start) p (in_par w x cs rs) (setting p fuel depth rs) (call_ok p nw fuel (MAX_CALL_DEPTH - depth) (mode_of (the_loop w x cs rs) t start)) body
-        (row_inner p (the_loop w x cs rs) w.rounds t start head_ok rows (in_par w x cs rs) (inl (refl, refl), own) body inner),
+    list_ok (mode_of (the_loop w x cs rs) t start) p (in_par w x cs rs) (setting p fuel depth rs) (call_ok p nw fuel (MAX_CALL_DEPTH - depth) (mode_of (the_loop w x cs rs) t start)) body
+        (list_inner p (the_loop w x cs rs) w.rounds t start head_ok rows (in_par w x cs rs) (inl (refl, refl), own) body inner),
     record { found = found },
   )
     where
@@ -143,12 +143,12 @@ module _ (p : Program) (nw : NoWrites p) (w : Spot) (x : Name) (cs : List Carry)
       found : (y : List ℕ) → (y ≡ x.text.items) ⊎ Kept (the_loop w x cs rs) y → Found (place_in (w.scope ++ x.text.items ∷ []) y) start y (lookup start y)
       found y f = subst (λ l. Found (place_in l y) start y (lookup start y)) all_names (found_in start y (subst (λ l. is_in l y ≡ true) (sym all_names) (seen y f)))
 
-  pub iteration_keeps : {n : _} → (body : Row_of-Stmt n) (place later : Place) → Fine p (Parallel place later (the_loop w x cs rs)) w → Fine p (Declares x) w → AllFine p (in_carries w cs) → AllFine p (in_all (in_par w x cs rs) body)
+  pub iteration_keeps : (body : List Stmt) (place later : Place) → Fine p (Parallel place later (the_loop w x cs rs)) w → Fine p (Declares x) w → AllFine p (in_carries w cs) → AllFine p (in_list (in_par w x cs rs) body)
       → (fuel depth : ℕ) (s : State) → map (λ (v : Variable). v.name) s.vars ≡ w.scope → (i : ℤ) (t : List ℕ)
-      → Notes (mode_of (the_loop w x cs rs) t (declare s.vars x.text.items i)) (iteration fuel x.text.items (run_all (setting p fuel depth rs) body) [] i s).notes
+      → Notes (mode_of (the_loop w x cs rs) t (declare s.vars x.text.items i)) (iteration fuel x.text.items (run_list (setting p fuel depth rs) body) [] i s).notes
   iteration_keeps body place later head fresh uses inner fuel depth s names i t =
       let k = body_keeps body place later head uses inner fuel depth s names i t in
-      iteration_notes (mode_of (the_loop w x cs rs) t (declare s.vars x.text.items i)) p fuel x.text.items (run_all (setting p fuel depth rs) body) i s k.0 k.1
+      iteration_notes (mode_of (the_loop w x cs rs) t (declare s.vars x.text.items i)) p fuel x.text.items (run_list (setting p fuel depth rs) body) i s k.0 k.1
 
   -- the loop's variable has the iteration's number
   pub own_value : Fine p (Declares x) w → (s : State) → map (λ (v : Variable). v.name) s.vars ≡ w.scope → (i : ℤ) → lookup (declare s.vars x.text.items i) x.text.items ≡ i
@@ -156,16 +156,16 @@ module _ (p : Program) (nw : NoWrites p) (w : Spot) (x : Name) (cs : List Carry)
       found_lookup (length s.vars) (declare s.vars x.text.items i) x.text.items i
       (found_end s.vars x.text.items i (subst (λ l. is_in l x.text.items ≡ false) (sym names) (or_left _ (is_in (texts w.tables) x.text.items || is_in (func_names w.funcs) x.text.items) (at_none x (is_visible w x.text.items) fresh.f1))))
 
-  pub par_apart : {n : _} → (body : Row_of-Stmt n) (place later : Place) → Fine p (Parallel place later (the_loop w x cs rs)) w → Fine p (Declares x) w → AllFine p (in_carries w cs) → AllFine p (in_all (in_par w x cs rs) body)
-      → Apart p (record { loop = the_loop w x cs rs; act = λ k. run_all k body })
+  pub par_apart : (body : List Stmt) (place later : Place) → Fine p (Parallel place later (the_loop w x cs rs)) w → Fine p (Declares x) w → AllFine p (in_carries w cs) → AllFine p (in_list (in_par w x cs rs) body)
+      → Apart p (record { loop = the_loop w x cs rs; rounds = w.rounds; statements = body })
   par_apart body place later head fresh uses inner = record {
     apart = λ fuel depth s t agree i j ne c hw ho.
         let ki = iteration_keeps body place later head fresh uses inner fuel depth s agree.first i c.table in
         let kj = iteration_keeps body place later head fresh uses inner fuel depth t agree.second j c.table in
         let si : List Variable = declare s.vars x.text.items i in
         let sj : List Variable = declare t.vars x.text.items j in
-        let ri : Ran = iteration fuel x.text.items (run_all (setting p fuel depth rs) body) [] i s in
-        let rj : Ran = iteration fuel x.text.items (run_all (setting p fuel depth rs) body) [] j t in
+        let ri : Ran = iteration fuel x.text.items (run_list (setting p fuel depth rs) body) [] i s in
+        let rj : Ran = iteration fuel x.text.items (run_list (setting p fuel depth rs) body) [] j t in
         let first : WriteRegion (λ y. lookup si y) x.text.items (item_of cs c.table) c.row c.col = notes_writes (mode_of (the_loop w x cs rs) c.table si) ri.notes c ki hw refl in
         let same : lookup si x.text.items ≡ lookup sj x.text.items = elim (contains_append (read_cells rj.notes) (write_cells rj.notes) c ho) [
           | inl z ↦ apart_reads (λ y. lookup si y) (λ y. lookup sj y) x.text.items (item_of cs c.table) c.row c.col first (notes_reads (mode_of (the_loop w x cs rs) c.table sj) rj.notes c kj z refl)
@@ -177,5 +177,5 @@ module _ (p : Program) (nw : NoWrites p) (w : Spot) (x : Name) (cs : List Carry)
 pub disjoint_law : (p : Program) → NoneBroken p → Disjoint p
 disjoint_law p none =
     let nw = no_writes p none in
-    let all = each_body p none (Apart p) (λ n w x cs rs body place later a b c d. par_apart p nw w x cs rs body place later a b c d) in
+    let all = each_body p none (Apart p) (λ w x cs rs body place later a b c d. par_apart p nw w x cs rs body place later a b c d) in
     record { apart = λ b h. (each_at (Apart p) (bodies_of p) b all h).apart }

@@ -10,12 +10,12 @@ use Rattle.loop_syntax.specs.declared.Program.{Program}
 use Rattle.loop_meaning.specs.declared.value.Variable.{Variable}
 use Rattle.loop_meaning.specs.Calls.{setting}
 use Rattle.loop_meaning.specs.State.{lookup, declare, State, Ran}
-use Rattle.loop_meaning.specs.Statements.{iteration, run_all}
-use Rattle.loop_syntax.specs.declared.Stmt.{Row_of-Stmt}
+use Rattle.loop_meaning.specs.Statements.{iteration, run_list}
+use Rattle.loop_syntax.specs.declared.Stmt.{Stmt}
 use Rattle.beat_count.specs.Ticks.{is_tick_allowed}
 use Rattle.loop_rules.specs.Names.{is_in, item_of}
 use Rattle.loop_rules.specs.Reductions.{some_op}
-use Rattle.loop_rules.specs.Sites.{Declares, Parallel, Spot, in_carries, in_all, in_par, the_loop}
+use Rattle.loop_rules.specs.Sites.{Declares, Parallel, Spot, in_carries, in_list, in_par, the_loop}
 use Rattle.loop_meaning.specs.Cells.{bodies_of}
 use Rattle.loop_check.specs.Unbroken.{NoneBroken}
 use Rattle.loop_check.specs.Parts.{InPart, KeepsTo, Parted}
@@ -71,25 +71,25 @@ module _ (p : Program) (nw : NoWrites p) (w : Spot) (x : Name) (cs : List Carry)
   write_part h None a b q = absurd q
   write_part h (Some d) a b q = (d, refl, q)
 
-  pub par_parts : {n : _} → (body : Row_of-Stmt n) (place later : Place) → Fine p (Parallel place later (the_loop w x cs rs)) w → Fine p (Declares x) w → AllFine p (in_carries w cs) → AllFine p (in_all (in_par w x cs rs) body)
-      → KeepsTo p (record { loop = the_loop w x cs rs; act = λ k. run_all k body })
+  pub par_parts : (body : List Stmt) (place later : Place) → Fine p (Parallel place later (the_loop w x cs rs)) w → Fine p (Declares x) w → AllFine p (in_carries w cs) → AllFine p (in_list (in_par w x cs rs) body)
+      → KeepsTo p (record { loop = the_loop w x cs rs; rounds = w.rounds; statements = body })
   par_parts body place later head fresh uses inner = record {
     writes = λ fuel depth s names i c h.
         let k = iteration_keeps p nw w x cs rs body place later head fresh uses inner fuel depth s names i c.table in
         let q = write_part (λ y. lookup (declare s.vars x.text.items i) y) (item_of cs c.table) c.row c.col
-        (notes_writes (mode_of (the_loop w x cs rs) c.table (declare s.vars x.text.items i)) (iteration fuel x.text.items (run_all (setting p fuel depth rs) body) [] i s).notes c k h refl) in
+        (notes_writes (mode_of (the_loop w x cs rs) c.table (declare s.vars x.text.items i)) (iteration fuel x.text.items (run_list (setting p fuel depth rs) body) [] i s).notes c k h refl) in
         (q.0, q.1, part_of fresh uses s names i c.table q.0 q.1 c.row c.col q.2);
     reads = λ fuel depth s names i c h d is.
         let k = iteration_keeps p nw w x cs rs body place later head fresh uses inner fuel depth s names i c.table in
         part_of fresh uses s names i c.table d is c.row c.col
         (subst (λ o. ReadRegion (λ y. lookup (declare s.vars x.text.items i) y) x.text.items o c.row c.col) is
-        (notes_reads (mode_of (the_loop w x cs rs) c.table (declare s.vars x.text.items i)) (iteration fuel x.text.items (run_all (setting p fuel depth rs) body) [] i s).notes c k h refl));
+        (notes_reads (mode_of (the_loop w x cs rs) c.table (declare s.vars x.text.items i)) (iteration fuel x.text.items (run_list (setting p fuel depth rs) body) [] i s).notes c k h refl));
     stays = λ fuel depth s names i y seen plain.
         let k = body_keeps p nw w x cs rs body place later head uses inner fuel depth s names i [] in
         let here : is_in (map (λ (v : Variable). v.name) s.vars) y ≡ true = subst (λ l. is_in l y ≡ true) (sym names) seen in
         let below : place_in (map (λ (v : Variable). v.name) s.vars) y < length s.vars = found_below (place_in (map (λ (v : Variable). v.name) s.vars) y) s.vars y (lookup s.vars y) (found_in s.vars y here) in
         let front : place_in (w.scope ++ x.text.items ∷ []) y ≡ place_in (map (λ (v : Variable). v.name) s.vars) y = place_front w.scope (x.text.items ∷ []) y seen ∙ ap (λ l. place_in l y) (sym names) in
-        iteration_stays (mode_of (the_loop w x cs rs) [] (declare s.vars x.text.items i)) p fuel x.text.items (run_all (setting p fuel depth rs) body) i s k.0 k.1 y
+        iteration_stays (mode_of (the_loop w x cs rs) [] (declare s.vars x.text.items i)) p fuel x.text.items (run_list (setting p fuel depth rs) body) i s k.0 k.1 y
         (inr (seen, ap (λ o. some_op o) plain)) (subst (λ n. n < length s.vars) (sym front) below)
         ∙ lookup_more s.vars x.text.items i y here;
   }
@@ -97,5 +97,5 @@ module _ (p : Program) (nw : NoWrites p) (w : Spot) (x : Name) (cs : List Carry)
 pub parted_law : (p : Program) → NoneBroken p → Parted p
 parted_law p none =
     let nw = no_writes p none in
-    let all = each_body p none (KeepsTo p) (λ n w x cs rs body place later a b c d. par_parts p nw w x cs rs body place later a b c d) in
+    let all = each_body p none (KeepsTo p) (λ w x cs rs body place later a b c d. par_parts p nw w x cs rs body place later a b c d) in
     record { each = λ b h. each_at (KeepsTo p) (bodies_of p) b all h }

@@ -52,7 +52,7 @@ module _ (rs : List Reader) (w : Spot) (f0 f1 f2 f3 f4 : Option Fault) where
 
 -- ---- blocks as lists
 
-rows_list : {m : _} (w : Spot) (row : Row_of-Stmt m) → in_all w row ≡ in_list w (items-the_row-Stmt _ row)
+pub rows_list : {m : _} (w : Spot) (row : Row_of-Stmt m) → in_all w row ≡ in_list w (items-the_row-Stmt _ row)
 rows_list w end_of-Stmt = refl
 rows_list w (more_of-Stmt b rest) = ap (λ r. in_stmt w b ++ r) (rows_list (spot_after w b) rest)
 
