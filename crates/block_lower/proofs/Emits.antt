@@ -12,7 +12,7 @@ use Rattle.loop_syntax.specs.declared.Stmt.TheVariants.{Emit}
 use Rattle.loop_meaning.specs.State as meaning
 use Rattle.loop_meaning.specs.State.{Emits, has_cell, print_table, row_lines, table_of}
 use Rattle.loop_meaning.specs.Statements.{Setting, run}
-use Rattle.loop_meaning.specs.RowText.{row_text}
+use Rattle.table_text.specs.RowText.{row_text}
 use Rattle.tpal_syntax.specs.declared.instructions.Instr.{Instr}
 use Rattle.tpal_syntax.specs.declared.instructions.Instr.TheVariants as instr
 use Rattle.tpal_syntax.specs.declared.instructions.Term.{Term}

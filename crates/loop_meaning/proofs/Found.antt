@@ -4,10 +4,7 @@ use Rattle.std.proofs.lemmas.List.{get_or_default, set-get_or, take_min, drop_mi
 use Rattle.tp_value.specs.declared.Table.{Table}
 use Rattle.loop_meaning.specs.declared.value.Variable.{Variable}
 use Rattle.loop_meaning.specs.State.{lookup, assign, table_of, write_cell, with_cell, has_cell, row_lines}
-use Rattle.std.specs.List.{join_with_byte}
-use Rattle.std.specs.Fmt.{signed_decimal}
-use Rattle.std.proofs.lemmas.List.{append-nil}
-use Rattle.loop_meaning.specs.RowText.{row_text, after_spaces}
+use Rattle.table_text.specs.RowText.{row_text}
 use Rattle.loop_rules.specs.Names.{operator_of}
 use Rattle.loop_syntax.specs.declared.Reduce.{Reduce}
 
@@ -64,7 +61,3 @@ pub rows_step : (rows k cols : ℕ) (rest : List ℤ) → k < rows → row_lines
 rows_step rows k cols rest h =
     let q : rows - k ≡ suc (rows - (k + 1)) = omega arith in
     rw (q, take_min cols rest) (ap (λ r. row_text (take cols rest) ++ row_lines (rows - (k + 1)) cols r) (sym (drop_min cols rest)))
-
-pub row_text_is : (n : ℤ) (ns : List ℤ) → join_with_byte 32 (map signed_decimal (n ∷ ns)) ≡ signed_decimal n ++ after_spaces ns
-row_text_is n [] = sym (append-nil (signed_decimal n))
-row_text_is n (m ∷ ns) = ap (λ r. signed_decimal n ++ (32 ∷ r)) (row_text_is m ns)

@@ -1,5 +1,3 @@
--- RowText: a row of numbers as text
-pub mod RowText
 -- State: variables, tables, output and ticks; how a run ends, and its notes
 pub mod State
 -- Expressions: the value of an expression, or its trap

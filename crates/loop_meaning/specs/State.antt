@@ -8,7 +8,7 @@ use Rattle.tp_value.specs.declared.Stop.TheVariants.{Done, Trap, NoFuel}
 use Rattle.tp_value.specs.declared.Table.{Table}
 use Rattle.loop_meaning.specs.declared.value.Variable.{Variable}
 use Rattle.beat_count.specs.Ticks.{is_tick_allowed, ticked}
-use Rattle.loop_meaning.specs.RowText.{row_text}
+use Rattle.table_text.specs.RowText.{row_text}
 
 -- ---- variables
 

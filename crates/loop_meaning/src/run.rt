@@ -42,7 +42,7 @@ fn run_stmt(k: &Setting, m: &mut Memory, s: &Stmt) -> Result<Stop, NoMemory>
         Stmt::Call(x, f) => run_call(k, m, x, f),
         Stmt::Both(x, f, y, g) => run_both(k, m, x, f, y, g),
         Stmt::Print(_, e) => run_print(k.alloc, m, e),
-        Stmt::Emit(_, t) => run_emit(k.alloc, m, t),
+        Stmt::Emit(_, t) => run_emit(m, t),
     }
 }
 

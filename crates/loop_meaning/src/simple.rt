@@ -1,10 +1,8 @@
 // The statements that hold no block and make no call.
 
-ghost use Rattle.std.specs.Prelude.{◌≡◌, IfOk, ◌++◌, ◌∷◌, [], map, if◌then◌else◌};
-ghost use Rattle.std.specs.List.{join_with_byte};
+ghost use Rattle.std.specs.Prelude.{◌≡◌, IfOk, ◌++◌, if◌then◌else◌};
 ghost use Rattle.std.specs.Fmt.{signed_decimal};
 ghost use Rattle.loop_rules.specs.Names.{operator_of};
-ghost use Rattle.loop_meaning.specs.RowText.{row_text, after_spaces};
 ghost use Rattle.loop_meaning.specs.State.{State, declare, done, row_lines, table_of, has_cell, with_cell, write_cell, print_line, print_table};
 ghost use Rattle.loop_meaning.specs.Statements.{given, given_two, set_var, folded, put_cell};
 ghost use Rattle.loop_meaning.specs.Ends.{state_of, Ends};
@@ -16,6 +14,7 @@ use loop_syntax::{Expr, Name, Reduce};
 use reduce_ops::combine;
 use std::alloc::Global;
 use std::mem;
+use table_text::push_row_text;
 use tp_value::{Items, NoMemory, Op, Stop, Table, TrapKind};
 
 /// `let x = e;`
@@ -97,37 +96,7 @@ pub fn run_print(alloc: Global, m: &mut Memory, e: &Expr) -> Result<Stop, NoMemo
     }
 }
 
-fn push_others(alloc: Global, out: &mut Vec<u8>, ns: &[i64]) -> Result<(), NoMemory>
-    ensures { IfOk result (λ u. out.new.items ≡ out.old.items ++ after_spaces ns.now) }
-{
-    for n in ns {
-        out.push(b' ')?;
-        push_number(alloc, out, *n)?;
-    }
-    Ok(())
-}
-
-fn push_numbers(alloc: Global, out: &mut Vec<u8>, row: &[i64]) -> Result<(), NoMemory>
-    ensures { IfOk result (λ u. out.new.items ≡ out.old.items ++ join_with_byte 32 (map signed_decimal row.now)) }
-{
-    match row.split_first() {
-        Some((first, others)) => {
-            push_number(alloc, out, *first)?;
-            push_others(alloc, out, others)
-        }
-        None => Ok(()),
-    }
-}
-
-fn push_row(alloc: Global, out: &mut Vec<u8>, row: &[i64]) -> Result<(), NoMemory>
-    ensures { IfOk result (λ u. out.new.items ≡ out.old.items ++ row_text row.now) }
-{
-    push_numbers(alloc, out, row)?;
-    out.push(b'\n')?;
-    Ok(())
-}
-
-fn push_table(alloc: Global, out: &mut Vec<u8>, t: &Table) -> Result<(), NoMemory>
+fn push_table(out: &mut Vec<u8>, t: &Table) -> Result<(), NoMemory>
     ensures { IfOk result (λ u. out.new.items ≡ out.old.items ++ row_lines t.now.rows t.now.cols t.now.cells) }
 {
     let cols = t.cols as usize;
@@ -135,18 +104,18 @@ fn push_table(alloc: Global, out: &mut Vec<u8>, t: &Table) -> Result<(), NoMemor
     for k in 0..t.rows {
         let n = cols.min(rest.len());
         let (row, others) = rest.split_at(n);
-        push_row(alloc, out, row)?;
+        push_row_text(out, row)?;
         rest = others;
     }
     Ok(())
 }
 
 /// `emit t;`
-pub fn run_emit(alloc: Global, m: &mut Memory, t: &Name) -> Result<Stop, NoMemory>
+pub fn run_emit(m: &mut Memory, t: &Name) -> Result<Stop, NoMemory>
     ensures { let s = state_of m.old in IfOk result (λ y. Ends (done (print_table (table_of s.tables t.now.text.items) s)) y (state_of m.new)) }
 {
     match table_at(&m.tables, t.text.as_slice()) {
-        Some(table) => push_table(alloc, &mut m.output, table)?,
+        Some(table) => push_table(&mut m.output, table)?,
         None => {}
     }
     Ok(Stop::Done)
