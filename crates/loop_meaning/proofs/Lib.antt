@@ -11,3 +11,10 @@ pub mod Ticks
 pub mod WholeFrames
 pub mod Depth
 pub mod Ranges
+pub mod WrittenCells
+pub mod Seen
+pub mod Twins
+pub mod TwinCalls
+pub mod Traces
+pub mod Telling
+pub mod Blind

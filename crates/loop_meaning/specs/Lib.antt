@@ -18,5 +18,9 @@ pub mod Frames
 pub mod WholeFrames
 -- InRange: numbers in the range of 64 bits, in states and in programs
 pub mod InRange
+-- Told: what the notes of a run tell, and what is before a run that it doesn't depend on
+pub mod Told
+-- Only: what statements may do beyond their variables
+pub mod Only
 -- Ends: what the evaluator holds and answers
 pub mod Ends

@@ -1,6 +1,6 @@
 // What follows from the definitions alone.
 
-ghost use Rattle.std.specs.Prelude.{◌≡◌, ◌+◌, ◌++◌, ◌<◌, ◌≤◌, ◌↔◌, ◌≢◌, ℕ, Bool, ℤ, List, [], map};
+ghost use Rattle.std.specs.Prelude.{◌≡◌, ◌+◌, ◌++◌, ◌<◌, ◌≤◌, ◌↔◌, ◌≢◌, ℕ, Bool, ℤ, List, [], map, Contains};
 ghost use Rattle.std.specs.Int.{int_gap};
 ghost use Rattle.std.specs.List.{All};
 ghost use Rattle.tp_value.specs.declared.limits.TheConstants.{MAX_CALL_DEPTH};
@@ -17,14 +17,18 @@ ghost use Rattle.loop_syntax.specs.declared.Stmt as statement;
 ghost use Rattle.loop_syntax.specs.declared.Stmt.TheVariants.{Par, Both};
 ghost use Rattle.loop_meaning.specs.declared.frame.Frame.TheVariants.{Range};
 ghost use Rattle.loop_meaning.specs.declared.value.Answer.TheVariants.{Number};
+ghost use Rattle.loop_meaning.specs.declared.value.Variable.{Variable};
 ghost use Rattle.loop_meaning.specs.InRange.{InRange, TableInRange, StateInRange, ExprInRange, StmtInRange, FuncInRange, ProgramInRange};
 ghost use Rattle.loop_meaning.specs.Expressions.{eval};
 ghost use Rattle.loop_meaning.specs.State.{State, Note, Ran, noted, trapped, out_of_fuel};
-ghost use Rattle.loop_meaning.specs.Statements.{given_two, unless_wide, too_wide, run, run_list};
+ghost use Rattle.loop_meaning.specs.Statements.{given_two, unless_wide, too_wide, iterate, run, run_list};
 ghost use Rattle.loop_meaning.specs.Calls.{setting, enter, no_value};
 ghost use Rattle.loop_meaning.specs.Frames.{OfPar, accs_of, run_frame};
 ghost use Rattle.loop_meaning.specs.WholeFrames.{iterations, first_chance, both_by_frame};
 ghost use Rattle.loop_meaning.specs.Meaning.{meaning, whole_run, chances};
+ghost use Rattle.loop_meaning.specs.Cells.{Cell, write_cells};
+ghost use Rattle.loop_meaning.specs.Told.{NotesTell, CallNotesTell, Moves, CallMoves, leaving};
+ghost use Rattle.loop_meaning.specs.Only.{PrintsNothing, OnlyCounts};
 
 use loop_syntax::Program;
 use tp_value::{Stop, Table};
@@ -103,4 +107,53 @@ pub fn numbers_stay_in_range(program: &Program, tables: &[Table], fuel: u64)
         All FuncInRange program.now.funcs.items → All StmtInRange body → StateInRange s →
         StateInRange (run_list (setting program.now fuel depth rs) body s).state }
     ensures whole { ProgramInRange program.now → All TableInRange tables.now → StateInRange (whole_run program.now tables.now fuel).state }
+{}
+
+/// The notes of a run tell all that it does to tables and all that it sees of them, at any depth of
+/// calls: names and sizes of tables stay, a cell of which no write is noted keeps its number, and
+/// other numbers in cells of which neither a read nor an emit is noted change nothing else. So it is
+/// with statements, with iterations, and with calls; what is noted at their beginning is no write.
+pub fn notes_tell_all(program: &Program, fuel: u64)
+    ensures statements { (depth : ℕ) (rs : List Reduce) (body : List statement.Stmt) → NotesTell (run_list (setting program.now fuel depth rs) body) }
+    ensures iterations { (depth : ℕ) (rs : List Reduce) (body : List statement.Stmt) (x : List ℕ) (again ns : List Note) →
+        write_cells again ≡ [] → write_cells ns ≡ [] → (n : ℕ) (i : ℤ) →
+        NotesTell (iterate fuel x (run_list (setting program.now fuel depth rs) body) again ns n i) }
+    ensures calls { (depth : ℕ) (rs : List Reduce) (f : List ℕ) (place : Place) (ns : List ℤ) (begin : List Note) → write_cells begin ≡ [] →
+        CallNotesTell ((setting program.now fuel depth rs).call f place ns begin) }
+{}
+
+/// More ticks and more output before a run only move its own, where the fuel suffices; else it stops
+/// for want of fuel, having counted one tick more than that.
+pub fn what_is_before_only_moves(program: &Program, fuel: u64)
+    ensures statements { (depth : ℕ) (rs : List Reduce) (body : List statement.Stmt) → Moves fuel (run_list (setting program.now fuel depth rs) body) }
+    ensures iterations { (depth : ℕ) (rs : List Reduce) (body : List statement.Stmt) (x : List ℕ) (again ns : List Note) →
+        write_cells again ≡ [] → write_cells ns ≡ [] → (n : ℕ) (i : ℤ) →
+        Moves fuel (iterate fuel x (run_list (setting program.now fuel depth rs) body) again ns n i) }
+    ensures calls { (depth : ℕ) (rs : List Reduce) (f : List ℕ) (place : Place) (ns : List ℤ) (begin : List Note) → write_cells begin ≡ [] →
+        CallMoves fuel ((setting program.now fuel depth rs).call f place ns begin) }
+{}
+
+/// A call sees no variables of its caller and leaves them as they are: with other variables it is
+/// the same call, at any depth and however it stops.
+pub fn calls_see_no_variables(program: &Program, fuel: u64)
+    ensures kept { (depth : ℕ) (rs : List Reduce) (f : List ℕ) (place : Place) (ns : List ℤ) (begin : List Note) (s : State) →
+        ((setting program.now fuel depth rs).call f place ns begin s).ran.state.vars ≡ s.vars }
+    ensures unseen { (depth : ℕ) (rs : List Reduce) (f : List ℕ) (place : Place) (ns : List ℤ) (begin : List Note) (s : State) (vs : List Variable) →
+        (setting program.now fuel depth rs).call f place ns begin (record s { vars = vs }) ≡
+        leaving vs ((setting program.now fuel depth rs).call f place ns begin s) }
+{}
+
+/// Where the functions of a program neither print nor write cells, a call keeps the output and the
+/// tables and notes no write, and statements with no `print` and no `emit` in them keep the output.
+pub fn only_prints_print(program: &Program, fuel: u64)
+    ensures statements { (depth : ℕ) (rs : List Reduce) (body : List statement.Stmt) (s : State) →
+        All OnlyCounts program.now.funcs.items → All PrintsNothing body →
+        (run_list (setting program.now fuel depth rs) body s).state.output ≡ s.output }
+    ensures output { (depth : ℕ) (rs : List Reduce) (f : List ℕ) (place : Place) (ns : List ℤ) (begin : List Note) (s : State) →
+        All OnlyCounts program.now.funcs.items → ((setting program.now fuel depth rs).call f place ns begin s).ran.state.output ≡ s.output }
+    ensures tables { (depth : ℕ) (rs : List Reduce) (f : List ℕ) (place : Place) (ns : List ℤ) (begin : List Note) (s : State) →
+        All OnlyCounts program.now.funcs.items → ((setting program.now fuel depth rs).call f place ns begin s).ran.state.tables ≡ s.tables }
+    ensures writes { (depth : ℕ) (rs : List Reduce) (f : List ℕ) (place : Place) (ns : List ℤ) (begin : List Note) (s : State) →
+        All OnlyCounts program.now.funcs.items → (c : Cell) →
+        Contains (write_cells ((setting program.now fuel depth rs).call f place ns begin s).ran.notes) c → Contains (write_cells begin) c }
 {}
