@@ -1,5 +1,5 @@
 -- What a search from the front finds.
-use Rattle.std.proofs.Common.{◌≡◌, ℕ, zero, suc, ◌<◌, ◌≤◌, ℤ, List, [], ◌∷◌, ◌++◌, true, false, length, get_or, take, drop, set, refl, Some, ap, subst, bytes_eq, drop-cons, arith, sym, ◌∙◌, Bool, if◌then◌else◌, ◌-◌, ◌+◌, min, map}
+use Rattle.std.proofs.Common.{◌≡◌, ℕ, zero, suc, ◌<◌, ◌≤◌, ℤ, List, [], ◌∷◌, ◌++◌, true, false, length, get_or, take, drop, set, refl, Some, ap, subst, bytes_eq, drop-cons, arith, sym, ◌∙◌, Bool, if◌then◌else◌, ◌-◌, ◌+◌, min}
 use Rattle.std.proofs.lemmas.List.{get_or_default, set-get_or, take_min, drop_min}
 use Rattle.tp_value.specs.declared.Table.{Table}
 use Rattle.loop_meaning.specs.declared.value.Variable.{Variable}

@@ -18,3 +18,5 @@ pub mod TwinCalls
 pub mod Traces
 pub mod Telling
 pub mod Blind
+pub mod TreeMeanings
+pub mod Parallels

@@ -15,7 +15,7 @@ use Rattle.loop_meaning.specs.declared.value.Variable.{Variable}
 use Rattle.loop_meaning.specs.State.{table_of, has_cell, cell_of, Note, Reads, Writes, Emits, Chance}
 use Rattle.loop_meaning.specs.Expressions.{Value, number, eval, bind, bind_answer, traps, read_cell, calculated, divided}
 use Rattle.loop_meaning.specs.Cells.{Cell, read_cells, write_cells}
-use Rattle.loop_meaning.specs.Told.{Shape, shapes, number_at, printed_tables, SeenAlike}
+use Rattle.loop_meaning.specs.Told.{Shape, printed_tables, SeenAlike}
 use Rattle.loop_meaning.proofs.WrittenCells.{shape_at, has_at, read_alike}
 
 -- ---- notes in a row

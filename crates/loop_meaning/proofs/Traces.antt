@@ -1,8 +1,7 @@
 -- What every run does to tables and output, and what it notes, put together from what one note tells.
-use Rattle.std.proofs.Common.{◌≡◌, ◌+◌, ◌++◌, ◌∷◌, [], ℕ, zero, suc, ℤ, pos, negsuc, ◌+ℤ◌, List, Option, Some, None, Bool, true, false, cond, nat_lt, length, bytes_eq, int_div, int_rem, All, refl, sym, subst}
+use Rattle.std.proofs.Common.{◌≡◌, ◌+◌, ◌++◌, ◌∷◌, [], ℕ, zero, suc, ℤ, pos, negsuc, ◌+ℤ◌, List, Option, Some, None, Bool, true, false, cond, nat_lt, length, bytes_eq, int_div, int_rem, All, refl}
 use Rattle.std.specs.Int.{int_gap}
 use Rattle.std.specs.Prelude.{⊤}
-use Rattle.std.proofs.lemmas.List.{append-nil}
 use Rattle.std.proofs.lemmas.List.Elements.{All-nil, All-cons, All-head, All-tail}
 use Rattle.tp_value.specs.declared.Place.{Place}
 use Rattle.tp_value.specs.declared.TrapKind.TheVariants.{Deep}
@@ -22,7 +21,7 @@ use Rattle.loop_rules.specs.Names.{func_of}
 use Rattle.loop_meaning.specs.declared.value.Answer.{Answer}
 use Rattle.loop_meaning.specs.declared.value.Answer.TheVariants.{Number, Traps}
 use Rattle.loop_meaning.specs.declared.value.Variable.{Variable}
-use Rattle.loop_meaning.specs.State.{declare, table_of, has_cell, write_cell, print_line, print_table, State, Note, Reads, Writes, Emits, Chance, Ran, done, trapped, noted, after, go_on, tick, leave_block}
+use Rattle.loop_meaning.specs.State.{declare, table_of, has_cell, write_cell, State, Note, Reads, Writes, Emits, Chance, Ran, done, trapped, noted, after, go_on, tick, leave_block}
 use Rattle.loop_meaning.specs.Expressions.{Value, eval, bind, bind_answer, read_cell, calculated, divided}
 use Rattle.loop_meaning.specs.Statements.{Setting, Called, given, given_answer, given_two, given_all, set_var, put_cell, choose, block, turns, iteration, iterate, too_wide, unless_wide, with_call, two_calls, run, run_all, run_list}
 use Rattle.loop_meaning.specs.Calls.{bound, enter, no_value, call_on, call_at}

@@ -1,6 +1,6 @@
 // What follows from the definitions alone.
 
-ghost use Rattle.std.specs.Prelude.{◌≡◌, ◌+◌, ◌++◌, ◌<◌, ◌≤◌, ◌↔◌, ◌≢◌, ℕ, Bool, ℤ, List, [], map, Contains};
+ghost use Rattle.std.specs.Prelude.{◌≡◌, ◌+◌, ◌++◌, ◌<◌, ◌≤◌, ◌↔◌, ◌≢◌, ℕ, Bool, ℤ, List, [], map, Contains, ◌∷◌};
 ghost use Rattle.std.specs.Int.{int_gap};
 ghost use Rattle.std.specs.List.{All};
 ghost use Rattle.tp_value.specs.declared.limits.TheConstants.{MAX_CALL_DEPTH};
@@ -8,6 +8,8 @@ ghost use Rattle.tp_value.specs.declared.Op.{Op};
 ghost use Rattle.tp_value.specs.declared.Place.{Place};
 ghost use Rattle.tp_value.specs.declared.TrapKind.TheVariants.{Deep};
 ghost use Rattle.loop_rules.specs.Names.{func_of};
+ghost use Rattle.loop_rules.specs.Sites.{Loop};
+ghost use Rattle.loop_syntax.specs.Tree.{program_of};
 ghost use Rattle.loop_syntax.specs.declared.Name.{Name};
 ghost use Rattle.loop_syntax.specs.declared.App.{App};
 ghost use Rattle.loop_syntax.specs.declared.Expr.{Expr};
@@ -26,11 +28,11 @@ ghost use Rattle.loop_meaning.specs.Calls.{setting, enter, no_value};
 ghost use Rattle.loop_meaning.specs.Frames.{OfPar, accs_of, run_frame};
 ghost use Rattle.loop_meaning.specs.WholeFrames.{iterations, first_chance, both_by_frame};
 ghost use Rattle.loop_meaning.specs.Meaning.{meaning, whole_run, chances};
-ghost use Rattle.loop_meaning.specs.Cells.{Cell, write_cells};
+ghost use Rattle.loop_meaning.specs.Cells.{Cell, write_cells, body_of, bodies, bodies_of_list};
 ghost use Rattle.loop_meaning.specs.Told.{NotesTell, CallNotesTell, Moves, CallMoves, leaving};
 ghost use Rattle.loop_meaning.specs.Only.{PrintsNothing, OnlyCounts};
 
-use loop_syntax::Program;
+use loop_syntax::{ParLoop as Parallel, Program};
 use tp_value::{Stop, Table};
 
 /// A run counts at most one tick more than its fuel, and it stops for want of fuel exactly where it
@@ -156,4 +158,19 @@ pub fn only_prints_print(program: &Program, fuel: u64)
     ensures writes { (depth : ℕ) (rs : List Reduce) (f : List ℕ) (place : Place) (ns : List ℤ) (begin : List Note) (s : State) →
         All OnlyCounts program.now.funcs.items → (c : Cell) →
         Contains (write_cells ((setting program.now fuel depth rs).call f place ns begin s).ran.notes) c → Contains (write_cells begin) c }
+{}
+
+/// Where a program lies in memory is no matter: two programs with one tree run in the same way over
+/// the same tables, so they have the same outcome and the same chances to split off a task.
+pub fn only_the_tree_counts(p: &Program, q: &Program, tables: &[Table], fuel: u64)
+    ensures run { program_of p.now ≡ program_of q.now → whole_run p.now tables.now fuel ≡ whole_run q.now tables.now fuel }
+    ensures outcome { program_of p.now ≡ program_of q.now → meaning p.now tables.now fuel ≡ meaning q.now tables.now fuel }
+    ensures chances { program_of p.now ≡ program_of q.now → chances p.now tables.now fuel ≡ chances q.now tables.now fuel }
+{}
+
+/// The `par` loops of a `par` are itself and those of its body, where its variable is visible too and
+/// where it is the nearest of the `par` loops round.
+pub fn a_par_is_round_its_body(l: &Parallel)
+    ensures { (vs : List (List ℕ)) (rounds : List Loop) → bodies vs rounds (Par l.now) ≡
+        body_of vs rounds l.now ∷ bodies_of_list (vs ++ l.now.var.text.items ∷ []) ((body_of vs rounds l.now).loop ∷ rounds) l.now.body.items }
 {}

@@ -23,7 +23,7 @@ use Rattle.tpal_tool.specs.Sink.{Appended}
 use Rattle.tpal_tool.specs.Verdict.{Refuses, Accepts, RefusesOnly, AcceptsOnly}
 use Rattle.tpal_tool.specs.Words.{Command, Run, Compile, program_name, tables_name}
 use Rattle.tpal_tool.proofs.TreeInputs.{missing_of_tree}
-use Rattle.tpal_tool.proofs.TreeMeanings.{meaning_of_tree}
+use Rattle.loop_meaning.proofs.TreeMeanings.{meaning_of_tree}
 
 some_same : {A : Type 0} {a b : A} → Some a ≡ Some b → a ≡ b
 some_same {a = a} same = ap (λ o. unwrap_or o a) same

@@ -8,8 +8,6 @@ pub mod Unrecorded
 pub mod CountedSteps
 -- how a call ends
 pub mod Endings
--- the meaning of a program, by its tree alone
-pub mod TreeMeanings
 -- the number of blocks that a program is counted with, by its tree alone
 pub mod TreeBlocks
 -- the inputs that a program misses, by its tree alone

@@ -1,4 +1,4 @@
--- The meaning of a program by its tree alone.
+-- The run of a program, its meaning and its chances, by its tree alone.
 use Rattle.std.proofs.Common.{◌≡◌, ◌∷◌, [], ℕ, zero, suc, ◌+◌, ◌*◌, ℤ, pos, Bool, true, false, cond, List, map, Option, Some, None, bytes_eq, refl, sym, ap, ◌∙◌}
 use mathlib.Core.Path.{fun_ext}
 use Rattle.std.specs.Prelude.{◌-ℤ◌, ◌-◌, unsigned_abs, option_map, replicate}
@@ -6,7 +6,6 @@ use Rattle.std.specs.Int.{int_gap}
 use Rattle.tp_value.specs.Number.{wrapped}
 use Rattle.tp_value.specs.declared.limits.TheConstants.{MAX_CALL_DEPTH}
 use Rattle.tp_value.specs.declared.values.Op.{Op}
-use Rattle.tp_value.specs.declared.values.Outcome.{Outcome}
 use Rattle.tp_value.specs.declared.values.Place.{Place}
 use Rattle.tp_value.specs.declared.values.Table.{Table}
 use Rattle.tp_value.specs.declared.values.TrapKind.TheVariants.{Index, Deep}
@@ -28,7 +27,7 @@ use Rattle.loop_meaning.specs.declared.value.Answer.TheVariants.{Number}
 use Rattle.loop_meaning.specs.declared.value.Variable.{Variable}
 use Rattle.loop_meaning.specs.Calls.{bound, number_in, returned, enter, no_value, call_on, call_at, setting}
 use Rattle.loop_meaning.specs.Expressions.{Value, number, traps, bind, calculated, eval}
-use Rattle.loop_meaning.specs.Meaning.{cell_count, input_cells, is_too_large, zero_table, add_table, unless_large, make_tables, first_state, whole_run, outcome_of, meaning}
+use Rattle.loop_meaning.specs.Meaning.{cell_count, input_cells, is_too_large, zero_table, add_table, unless_large, make_tables, first_state, whole_run, outcome_of, meaning, count_chances, chances}
 use Rattle.loop_meaning.specs.State.{lookup, assign, declare, table_of, has_cell, cell_of, write_cell, print_line, print_table, State, Note, Reads, Writes, Emits, Chance, Ran, done, trapped, out_of_fuel, noted, after, tick}
 use Rattle.loop_meaning.specs.Statements.{given_answer, given, given_two, given_all, folded, choose, block, turns, iterate, unless_wide, too_wide, Called, with_call, Setting, two_calls, run, run_all, run_list}
 
@@ -298,21 +297,29 @@ make_same ts cells (Made x a b ∷ ds) s =
     ap (λ (go : State → Ran). unless_large (is_too_large cells m n) x.place go s)
     (fun_ext (λ t. make_same ts (cells + unsigned_abs m * unsigned_abs n) ds (add_table (zero_table x m n) t))))))
 
-abbrev meaning_tree : ProgramTree → List Table → ℕ → Outcome
-meaning_tree p ts fuel =
-    outcome_of (after (make_trees ts (input_cells_tree p.tables ts) p.tables first_state)
-    (run_nodes (record { reduces = []; fuel = fuel; call = call_at_tree p.funcs fuel (MAX_CALL_DEPTH - 0) }) p.main))
+abbrev whole_tree : ProgramTree → List Table → ℕ → Ran
+whole_tree p ts fuel =
+    after (make_trees ts (input_cells_tree p.tables ts) p.tables first_state)
+    (run_nodes (record { reduces = []; fuel = fuel; call = call_at_tree p.funcs fuel (MAX_CALL_DEPTH - 0) }) p.main)
 
-meaning_by_tree : (p : Program) (ts : List Table) (fuel : ℕ) → meaning p ts fuel ≡ meaning_tree (program_of p) ts fuel
-unfolding meaning whole_run
-meaning_by_tree p ts fuel =
-    ap (λ (r : Ran). outcome_of (after r (run_list (setting p fuel 0 []) p.main.items)))
+whole_by_tree : (p : Program) (ts : List Table) (fuel : ℕ) → whole_run p ts fuel ≡ whole_tree (program_of p) ts fuel
+unfolding whole_run
+whole_by_tree p ts fuel =
+    ap (λ (r : Ran). after r (run_list (setting p fuel 0 []) p.main.items))
     (make_same ts (input_cells p.tables.items ts) p.tables.items first_state
     ∙ ap (λ (n : ℕ). make_trees ts n (map trees.table_of p.tables.items) first_state) (input_cells_same p.tables.items ts))
-    ∙ ap (λ (f : State → Ran). outcome_of (after (make_trees ts (input_cells_tree (map trees.table_of p.tables.items) ts) (map trees.table_of p.tables.items) first_state) f))
+    ∙ ap (λ (f : State → Ran). after (make_trees ts (input_cells_tree (map trees.table_of p.tables.items) ts) (map trees.table_of p.tables.items) first_state) f)
     (list_same (setting p fuel 0 []) p.main.items
     ∙ ap (λ (c : List ℕ → Place → List ℤ → List Note → State → Called). run_nodes (record { reduces = []; fuel = fuel; call = c }) (nodes_of p.main.items)) (calls_same p.funcs.items fuel (MAX_CALL_DEPTH - 0) (call_at_same p.funcs.items fuel (MAX_CALL_DEPTH - 0))))
 
--- programs with one tree mean the same
+-- programs with one tree run in the same way
+pub whole_of_tree : (p q : Program) (ts : List Table) (fuel : ℕ) → program_of p ≡ program_of q → whole_run p ts fuel ≡ whole_run q ts fuel
+whole_of_tree p q ts fuel same = whole_by_tree p ts fuel ∙ ap (λ (t : ProgramTree). whole_tree t ts fuel) same ∙ sym (whole_by_tree q ts fuel)
+
 pub meaning_of_tree : (p q : Program) (ts : List Table) (fuel : ℕ) → program_of p ≡ program_of q → meaning p ts fuel ≡ meaning q ts fuel
-meaning_of_tree p q ts fuel same = meaning_by_tree p ts fuel ∙ ap (λ (t : ProgramTree). meaning_tree t ts fuel) same ∙ sym (meaning_by_tree q ts fuel)
+unfolding meaning
+meaning_of_tree p q ts fuel same = ap outcome_of (whole_of_tree p q ts fuel same)
+
+pub chances_of_tree : (p q : Program) (ts : List Table) (fuel : ℕ) → program_of p ≡ program_of q → chances p ts fuel ≡ chances q ts fuel
+unfolding chances
+chances_of_tree p q ts fuel same = ap (λ (r : Ran). count_chances r.notes) (whole_of_tree p q ts fuel same)
