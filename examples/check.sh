@@ -1,19 +1,61 @@
 #!/usr/bin/env bash
-# Runs each example over its tables and compares what it prints with the text beside it.
+# Runs each example over its tables and compares what it prints with the text beside it, and its status
+# with 0. Then tries each other way in which a call ends: the status of the process, and the line.
 set -eu
 cd "$(dirname -- "${BASH_SOURCE[0]}")"
 failed=0
+work=$(mktemp -d)
+trap 'rm -rf "$work"' EXIT
+
+# Says whether a call with these words ends with that status and writes that file.
+ends() {
+  local name=$1 wanted=$2 text=$3 status=0
+  shift 3
+  ../tpal "$@" >"$work/out" || status=$?
+  if [ "$status" = "$wanted" ] && cmp -s "$work/out" "$text"; then
+    echo "$name: as written"
+  else
+    echo "$name: differs, with status $status for $wanted"
+    failed=1
+  fi
+}
+
+# The same of a source text and the text that it owes, behind the command and before the other words.
+owes() {
+  local name=$1 wanted=$2 source=$3 text=$4
+  shift 4
+  printf '%s' "$source" >"$work/p"
+  printf '%b' "$text" >"$work/text"
+  ends "$name" "$wanted" "$work/text" run "$work/p" "$@"
+}
+
 for program in *.tpal; do
   name=${program%.tpal}
   tables=()
   if [ -e "$name.tables" ]; then
     tables=("$name.tables")
   fi
-  if ../tpal run "$program" ${tables[@]+"${tables[@]}"} | cmp -s - "$name.out"; then
-    echo "$name: as written"
+  ends "$name" 0 "$name.out" run "$program" ${tables[@]+"${tables[@]}"}
+done
+
+owes 'a trap' 1 'main { print 7; print 1 / 0; }' '7\ntrap Divide at 1:25\n'
+owes 'a run out of fuel' 2 'main { while 1 { } }' 'out of fuel\n' --fuel 1000
+owes 'a refused program' 3 'main { print 1 + ; }' 'refused E3 at 1:18\n'
+owes 'absent tables' 5 'main { }' '' "$work/absent"
+: >"$work/text"
+ends 'an absent file' 5 "$work/text" run "$work/absent"
+printf 'bad words\n' >"$work/text"
+ends 'no words' 7 "$work/text"
+ends 'a word too many' 7 "$work/text" compile hello.tpal hello.tpal
+
+if [ -e /dev/full ]; then
+  status=0
+  ../tpal run hello.tpal >/dev/full || status=$?
+  if [ "$status" = 6 ]; then
+    echo 'a full output: as written'
   else
-    echo "$name: differs"
+    echo "a full output: differs, with status $status for 6"
     failed=1
   fi
-done
+fi
 exit $failed

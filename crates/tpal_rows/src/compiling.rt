@@ -1,10 +1,16 @@
 // The code texts of programs.
 
 use crate::harness::call_with;
+use block_lower::lower;
+use loop_check::check;
+use loop_lex::lex;
+use loop_parse::parse;
+use loop_rules::resolve;
 use std::alloc::Global;
 use std::test::Fail;
 use tpal_asm::assemble;
 use tpal_print::print_code;
+use tpal_syntax::{Block, Code, CodeTable, Note};
 use tpal_tool::Status;
 
 #[test]
@@ -70,6 +76,81 @@ fn a_code_text_assembles_to_the_code_that_has_it(rt: HostRuntime) -> Result<(), 
         let text = called.text.as_slice();
         let again = printed_again(rt.alloc(), text).ok_or("a code text")?;
         assert_eq!(rt; again.as_slice(), text, "{source}");
+    }
+    Ok(())
+}
+
+// The code that `lower` makes of a source text.
+fn lowered(alloc: Global, source: &[u8]) -> Option<Code> {
+    if source.len() > 1_048_576 {
+        return None;
+    }
+    let tokens = lex(alloc, source).ok()?;
+    let program = parse(alloc, source, &tokens).ok()?;
+    let resolved = resolve(alloc, program).ok()?;
+    let checked = check(alloc, resolved).ok()?;
+    lower(alloc, &checked).ok()
+}
+
+fn assembled(alloc: Global, text: &[u8]) -> Option<Code> {
+    if text.len() > 67_108_864 {
+        return None;
+    }
+    assemble(alloc, text).ok()
+}
+
+fn is_same_table(one: &CodeTable, other: &CodeTable) -> bool {
+    match (one, other) {
+        (CodeTable::Input(name), CodeTable::Input(again)) => name.items() == again.items(),
+        (CodeTable::Made, CodeTable::Made) => true,
+        _ => false,
+    }
+}
+
+// Whether two blocks are the same. No block that `lower` makes is a join target.
+fn is_same_block(one: &Block, other: &Block) -> bool {
+    let is_same_note = match (&one.note, &other.note) {
+        (Note::Plain, Note::Plain) => true,
+        (Note::Ready(handler), Note::Ready(again)) => handler == again,
+        _ => false,
+    };
+    is_same_note
+        && one.name.items() == other.name.items()
+        && one.body.items() == other.body.items()
+        && one.term == other.term
+}
+
+fn is_same_code(one: &Code, other: &Code) -> bool {
+    let mut tables = one.tables().iter().zip(other.tables());
+    let mut blocks = one.blocks().iter().zip(other.blocks());
+    one.tables().len() == other.tables().len()
+        && one.blocks().len() == other.blocks().len()
+        && tables.all(|pair| is_same_table(pair.0, pair.1))
+        && blocks.all(|pair| is_same_block(pair.0, pair.1))
+}
+
+#[test]
+fn a_code_text_assembles_to_what_lower_makes(rt: HostRuntime) -> Result<(), Fail> {
+    let cases = [
+        "main { }",
+        "main { print 2 + 3 * -4; }",
+        "input a; table b[rows(a)][2]; main { par i in 0..rows(a) carry b[i] { b[i][0] = a[i][0] / i; } emit b; }",
+        "fn f(k) { let r = k; if k { call r = f(k - 1); } return r; } main { let x = 0; let y = 0; both x = f(1), y = f(2); print x + y; }",
+        "main { let s = 0; par i in 0..9 reduce s by affine { fold s with i; } while s { s = s / 2; } }",
+        "table t[2][2]; main { loop i in 0..2 { if i == 1 { t[i][0] = i % 2; } else { t[i][1] = 9223372036854775807; } } emit t; }",
+    ];
+    let mut last: Option<Code> = None;
+    for source in cases {
+        let words = ["compile", "p"];
+        let called = call_with(rt.alloc(), &words, source.as_bytes(), Vec::new(rt.alloc()))?;
+        assert_eq!(rt; called.status, Status::Done, "{source}");
+        let code = assembled(rt.alloc(), called.text.as_slice()).ok_or("a code text")?;
+        let wanted = lowered(rt.alloc(), source.as_bytes()).ok_or("a code")?;
+        assert!(&rt; is_same_code(&code, &wanted), "{source}");
+        if let Some(other) = last {
+            assert!(&rt; !is_same_code(&code, &other), "{source} and the one before");
+        }
+        last = Some(wanted);
     }
     Ok(())
 }

@@ -3,11 +3,13 @@
 use std::alloc::{AllocError, Global};
 use tpal_tool::{MemShelf, MemSink, Status, tpal};
 
-/// What a call wrote, and its status.
+/// What a call wrote, its status, and how often it asked for a text and wrote.
 #[derive(Drop)]
 pub struct Called {
     pub text: Vec<u8>,
     pub status: Status,
+    pub fetches: u32,
+    pub writes: u32,
 }
 
 fn words_of(alloc: Global, words: &[&str]) -> Result<Vec<String>, AllocError> {
@@ -52,10 +54,12 @@ pub fn call_over(
         faults: 0,
     };
     let status = tpal(alloc, &words, &mut shelf, &mut sink);
-    let MemSink { bytes, .. } = sink;
+    let MemSink { bytes, calls, .. } = sink;
     Ok(Called {
         text: bytes,
         status,
+        fetches: shelf.calls,
+        writes: calls,
     })
 }
 
