@@ -85,11 +85,19 @@ fn lowered(alloc: Global, source: &[u8]) -> Option<Code> {
     if source.len() > 1_048_576 {
         return None;
     }
-    let tokens = lex(alloc, source).ok()?;
-    let program = parse(alloc, source, &tokens).ok()?;
-    let resolved = resolve(alloc, program).ok()?;
-    let checked = check(alloc, resolved).ok()?;
-    lower(alloc, &checked).ok()
+    let Ok(tokens) = lex(alloc, source) else {
+        return None;
+    };
+    let Ok(program) = parse(alloc, source, &tokens) else {
+        return None;
+    };
+    let Ok(resolved) = resolve(alloc, program) else {
+        return None;
+    };
+    match check(alloc, resolved) {
+        Ok(checked) => lower(alloc, &checked).ok(),
+        Err(_) => None,
+    }
 }
 
 fn assembled(alloc: Global, text: &[u8]) -> Option<Code> {
@@ -120,13 +128,26 @@ fn is_same_block(one: &Block, other: &Block) -> bool {
         && one.term == other.term
 }
 
+fn are_same_tables(tables: &[CodeTable], others: &[CodeTable]) -> bool {
+    for (table, other) in tables.iter().zip(others) {
+        if !is_same_table(table, other) {
+            return false;
+        }
+    }
+    tables.len() == others.len()
+}
+
+fn are_same_blocks(blocks: &[Block], others: &[Block]) -> bool {
+    for (block, other) in blocks.iter().zip(others) {
+        if !is_same_block(block, other) {
+            return false;
+        }
+    }
+    blocks.len() == others.len()
+}
+
 fn is_same_code(one: &Code, other: &Code) -> bool {
-    let mut tables = one.tables().iter().zip(other.tables());
-    let mut blocks = one.blocks().iter().zip(other.blocks());
-    one.tables().len() == other.tables().len()
-        && one.blocks().len() == other.blocks().len()
-        && tables.all(|pair| is_same_table(pair.0, pair.1))
-        && blocks.all(|pair| is_same_block(pair.0, pair.1))
+    are_same_tables(one.tables(), other.tables()) && are_same_blocks(one.blocks(), other.blocks())
 }
 
 #[test]

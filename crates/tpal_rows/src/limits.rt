@@ -45,13 +45,13 @@ fn a_second_piece_that_fails_leaves_the_first_and_what_it_kept(
     rt: HostRuntime,
 ) -> Result<(), Fail> {
     let cases: [(u32, usize); 4] = [(0, 65_536), (1, 65_537), (7_001, 72_537), (99_999, 80_000)];
+    let owed = repeated(rt.alloc(), "", "1\n", 40_000, "")?;
     for (kept, length) in cases {
         let fails = Vec::from_slice(rt.alloc(), &[(1, kept)])?;
         let source = b"main { loop i in 0..40000 { print 1; } }";
         let called = call_with(rt.alloc(), &["run", "p"], source, fails)?;
         assert_eq!(rt; called.text.len(), length);
-        let mut pairs = called.text.as_slice().chunks(2);
-        assert!(&rt; pairs.all(|pair| pair == b"1\n".as_slice() || pair == b"1".as_slice()));
+        assert!(&rt; owed.starts_with(called.text.as_slice()));
         assert_eq!(rt; called.status, Status::WriteFault);
         assert_eq!(rt; called.writes, 2);
     }
