@@ -4,15 +4,15 @@
 set -eu
 cd "$(dirname "$0")/.."
 blocks=${BLOCKS:-60000}
-(cd crates/asm_bench && rt run -- 3 1 >/dev/null)
-python3 - crates/asm_bench/out/asm_bench "$blocks" <<'PY'
+(cd crates/benches && rt run -- assemble 3 1 >/dev/null)
+python3 - crates/benches/out/benches "$blocks" <<'PY'
 import os, subprocess, sys, tempfile
 program, blocks = sys.argv[1:]
 text = tempfile.NamedTemporaryFile()
-text.write(subprocess.run([program, blocks, "0"], check=True, capture_output=True).stdout)
+text.write(subprocess.run([program, "assemble", blocks, "0"], check=True, capture_output=True).stdout)
 text.flush()
 size = os.path.getsize(text.name)
-assert subprocess.run([program, blocks, "1"], check=True, capture_output=True).stdout == b"%s blocks\n" % blocks.encode()
+assert subprocess.run([program, "assemble", blocks, "1"], check=True, capture_output=True).stdout == b"%s blocks\n" % blocks.encode()
 def spent(command):
     quiet = [(os.POSIX_SPAWN_OPEN, 1, "/dev/null", os.O_WRONLY, 0)]
     child = os.posix_spawnp(command[0], command, os.environ, file_actions=quiet)
@@ -20,7 +20,7 @@ def spent(command):
     return used.ru_utime + used.ru_stime
 read = count = 1e9
 for _ in range(9):
-    read = min(read, (spent([program, blocks, "6"]) - spent([program, blocks, "1"])) / 5)
+    read = min(read, (spent([program, "assemble", blocks, "6"]) - spent([program, "assemble", blocks, "1"])) / 5)
     count = min(count, spent(["wc", "-l"] + 20 * [text.name]) / 20)
 print(f"text {size} bytes, {blocks} blocks")
 print(f"assemble {size / read / 1e6:.1f} MB/s, wc -l {size / count / 1e6:.0f} MB/s, ratio {count / read:.4f}")

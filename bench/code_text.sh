@@ -1,19 +1,19 @@
 #!/usr/bin/env bash
-# MB/s of the printer, beside `wc -l` on the same text in the same run. Build first: `rt run -- 2 1` in
-# crates/print_bench. The text has BLOCKS blocks; building it costs one printing's time at most.
+# MB/s of the printer, beside `wc -l` on the same text in the same run. Build first: `rt run -- print 2 1`
+# in crates/benches. The text has BLOCKS blocks; building it costs one printing's time at most.
 set -eu
 cd "$(dirname "$0")/.."
 blocks=${BLOCKS:-60000}
 times=${TIMES:-40}
-program=crates/print_bench/out/print_bench
+program=crates/benches/out/benches
 text=$(mktemp)
 trap 'rm -f "$text"' EXIT
-"$program" "$blocks" 1 > "$text"
+"$program" print "$blocks" 1 > "$text"
 bytes=$(stat -c %s "$text")
 # user seconds of a command
 spent() { { TIMEFORMAT=%U; time "$@" > /dev/null; } 2>&1; }
-one=$(spent "$program" "$blocks" 1)
-many=$(spent "$program" "$blocks" $((times + 1)))
+one=$(spent "$program" print "$blocks" 1)
+many=$(spent "$program" print "$blocks" $((times + 1)))
 lines() { for _ in $(seq "$times"); do wc -l < "$text"; done; }
 wc=$(spent lines)
 awk -v b="$bytes" -v n="$times" -v one="$one" -v many="$many" -v wc="$wc" 'BEGIN {

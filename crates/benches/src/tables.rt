@@ -1,20 +1,9 @@
-//! Reads a tables text that it makes itself, some times over, and prints the sum of what it read:
-//! `table_bench SIDE TIMES`, for one table of SIDE rows and columns. bench/read_tables.sh times it
-//! against a plain Rust twin.
-#![tactic(auto)]
+// Reads a tables text that it makes itself, some times over.
 
 use std::alloc::Global;
-use std::{env, io};
+use std::io;
 use table_text::{TableFault, push_row_text, read_tables};
 use tp_value::{Items, MAX_TABLES_BYTES, NoMemory};
-
-// The number that a word writes, or 0.
-fn number_of(word: Option<String>) -> u32 {
-    match word {
-        Some(text) => text.as_str().parse::<u32>().unwrap_or(0),
-        None => 0,
-    }
-}
 
 // The text of a table of numbers below 1,000, as they come from a generator.
 fn text_of(alloc: Global, side: u32) -> Result<Vec<u8>, NoMemory> {
@@ -53,11 +42,9 @@ fn read_times(alloc: Global, text: &[u8], times: u32) -> Result<i64, TableFault>
     Ok(sum)
 }
 
-fn main(rt: HostRuntime) -> io::Result<()> {
-    let mut words = env::args(&rt)?;
-    let _program = words.next();
-    let side = number_of(words.next());
-    let times = number_of(words.next());
+/// Prints the sum of what was read so many times, of one table with so many rows and columns.
+/// bench/read_tables.sh times it against a plain Rust twin.
+pub fn run(rt: &HostRuntime, side: u32, times: u32) -> io::Result<()> {
     match text_of(rt.alloc(), side) {
         Err(NoMemory) => println!(rt; "no memory"),
         Ok(text) => match read_times(rt.alloc(), &text, times) {

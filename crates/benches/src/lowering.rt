@@ -1,7 +1,4 @@
-//! Compiles source programs, runs each in one turn in which nothing is diverted, and prints how many
-//! instructions it took and how many ticks it counted. The programs read no input, so what is printed
-//! is always the same: a change of a code's length shows here, whatever the machine that it runs on.
-#![tactic(auto)]
+// Compiles source programs, and runs each in one turn in which nothing is diverted.
 
 ghost use Rattle.std.specs.Prelude.{◌≡◌, length, IfOk};
 
@@ -13,7 +10,6 @@ use loop_rules::resolve;
 use slices::Held;
 use std::alloc::Global;
 use std::io;
-use std::process::ExitCode;
 use tp_value::{NoMemory, Outcome, Stop};
 use tpal_machine::{Pace, Task, Turn, run_task};
 use tpal_syntax::{Code, CodeTable};
@@ -184,7 +180,10 @@ fn cost_of(alloc: Global, source: &[u8]) -> Option<Cost> {
     }
 }
 
-fn main(rt: HostRuntime) -> io::Result<ExitCode> {
+/// Prints how many instructions each program took and how many ticks it counted. The programs read no
+/// input, so what is printed is always the same: a change of a code's length shows here, whatever the
+/// machine that it runs on.
+pub fn run(rt: &HostRuntime) -> io::Result<()> {
     for (name, source) in PROGRAMS {
         match cost_of(rt.alloc(), source.as_bytes()) {
             Some(
@@ -196,5 +195,5 @@ fn main(rt: HostRuntime) -> io::Result<ExitCode> {
             None => println!(rt; "{name} not ended")?,
         }
     }
-    Ok(ExitCode::SUCCESS)
+    Ok(())
 }

@@ -1,14 +1,10 @@
-//! Assembles a code text that it makes itself, some times over, and prints how many blocks it has:
-//! `asm_bench BLOCKS TIMES`, for a text of that many blocks. With 0 times it writes the text.
-//! bench/assemble.sh times it beside `wc -l` on the same text.
-#![tactic(auto)]
+// Assembles a code text that it makes itself, some times over.
 
 ghost use Rattle.std.specs.Prelude.{◌≤◌, length};
 
 use std::alloc::{AllocError, Global};
+use std::io;
 use std::io::Write;
-use std::process::ExitCode;
-use std::{env, io};
 use tpal_asm::{AsmFault, assemble};
 
 const BODY: &str = "  r4 := mem[r31+17]
@@ -55,38 +51,18 @@ fn read_times(alloc: Global, text: &[u8], times: u32) -> Result<Option<usize>, A
     Ok(Some(count))
 }
 
-fn asked(rt: &HostRuntime) -> io::Result<Option<(u32, u32)>> {
-    let mut words = env::args(rt)?;
-    let _program = words.next();
-    let (Some(blocks), Some(times)) = (words.next(), words.next()) else {
-        return Ok(None);
-    };
-    match (
-        blocks.as_str().parse::<u32>(),
-        times.as_str().parse::<u32>(),
-    ) {
-        (Ok(blocks), Ok(times)) => Ok(Some((blocks, times))),
-        _ => Ok(None),
-    }
-}
-
-fn main(rt: HostRuntime) -> io::Result<ExitCode> {
-    let Some((blocks, times)) = asked(&rt)? else {
-        return Ok(ExitCode::from(2));
-    };
+/// Prints how many blocks a text of so many has, read so many times; with 0 times it writes the text.
+/// bench/assemble.sh times it beside `wc -l` on the same text.
+pub fn run(rt: &HostRuntime, blocks: u32, times: u32) -> io::Result<()> {
     let Ok(text) = text_of(rt.alloc(), blocks) else {
-        return Ok(ExitCode::FAILURE);
+        return println!(rt; "no memory");
     };
     if times == 0 {
-        io::writer(&rt).write_all(&text)?;
-        return Ok(ExitCode::SUCCESS);
+        return io::writer(rt).write_all(&text);
     }
     match read_times(rt.alloc(), &text, times) {
-        Ok(Some(count)) => {
-            println!(rt; "{count} blocks")?;
-            Ok(ExitCode::SUCCESS)
-        }
-        Ok(None) => Ok(ExitCode::FAILURE),
-        Err(_) => Ok(ExitCode::FAILURE),
+        Ok(Some(count)) => println!(rt; "{count} blocks"),
+        Ok(None) => println!(rt; "too long"),
+        Err(_) => println!(rt; "no code"),
     }
 }

@@ -1,11 +1,8 @@
-//! Prints a made code of so many blocks, so many times, and writes its text once: the load of
-//! `bench/code_text.sh`. It stands on `tpal_print`. Without two numbers as arguments it writes nothing.
-#![tactic(auto)]
+// Prints a code that it makes itself, some times over.
 
 use std::alloc::Global;
+use std::io;
 use std::io::Write;
-use std::process::ExitCode;
-use std::{env, io};
 use tp_value::{Items, NoMemory};
 use tpal_print::print_code;
 use tpal_syntax::{Alu, Block, Code, Instr, Note, Term, Value};
@@ -72,27 +69,11 @@ fn printed(alloc: Global, count: u32, times: u32) -> Result<Vec<u8>, NoMemory> {
     Ok(text)
 }
 
-fn asked(rt: &HostRuntime) -> io::Result<Option<(u32, u32)>> {
-    let mut words = env::args(rt)?;
-    let _program = words.next();
-    let (Some(count), Some(times)) = (words.next(), words.next()) else {
-        return Ok(None);
-    };
-    match (count.as_str().parse::<u32>(), times.as_str().parse::<u32>()) {
-        (Ok(count), Ok(times)) => Ok(Some((count, times))),
-        _ => Ok(None),
-    }
-}
-
-fn main(rt: HostRuntime) -> io::Result<ExitCode> {
-    let Some((count, times)) = asked(&rt)? else {
-        return Ok(ExitCode::from(2));
-    };
+/// Prints a code of so many blocks so many times, and writes its text once. bench/code_text.sh times it
+/// beside `wc -l` on the same text.
+pub fn run(rt: &HostRuntime, count: u32, times: u32) -> io::Result<()> {
     match printed(rt.alloc(), count, times) {
-        Ok(text) => {
-            io::writer(&rt).write_all(&text)?;
-            Ok(ExitCode::SUCCESS)
-        }
-        Err(NoMemory) => Ok(ExitCode::FAILURE),
+        Ok(text) => io::writer(rt).write_all(&text),
+        Err(NoMemory) => println!(rt; "no memory"),
     }
 }

@@ -1,16 +1,12 @@
-//! Lexes and parses a source text that it makes itself, some times over, and prints how many tokens
-//! it read: `parse_bench LINES TIMES`, for a main block of that many lines. With 0 times it writes
-//! the text. bench/parse.sh times it beside `wc -w` on the same text.
-#![tactic(auto)]
+// Lexes and parses a source text that it makes itself, some times over.
 
 ghost use Rattle.std.specs.Prelude.{◌≤◌, length};
 
 use loop_lex::{LexFault, lex};
 use loop_parse::{ParseFault, parse};
 use std::alloc::{AllocError, Global};
+use std::io;
 use std::io::Write;
-use std::process::ExitCode;
-use std::{env, io};
 
 /// Why there is no number of tokens.
 #[derive(Clone, Copy)]
@@ -73,34 +69,17 @@ fn read_times(alloc: Global, text: &[u8], times: u32) -> Result<usize, Failure> 
     Ok(count)
 }
 
-fn asked(rt: &HostRuntime) -> io::Result<Option<(u32, u32)>> {
-    let mut words = env::args(rt)?;
-    let _program = words.next();
-    let (Some(lines), Some(times)) = (words.next(), words.next()) else {
-        return Ok(None);
-    };
-    match (lines.as_str().parse::<u32>(), times.as_str().parse::<u32>()) {
-        (Ok(lines), Ok(times)) => Ok(Some((lines, times))),
-        _ => Ok(None),
-    }
-}
-
-fn main(rt: HostRuntime) -> io::Result<ExitCode> {
-    let Some((lines, times)) = asked(&rt)? else {
-        return Ok(ExitCode::from(2));
-    };
+/// Prints how many tokens a main block of so many lines has, read so many times; with 0 times it writes
+/// the text. bench/parse.sh times it beside `wc -w` on the same text.
+pub fn run(rt: &HostRuntime, lines: u32, times: u32) -> io::Result<()> {
     let Ok(text) = text_of(rt.alloc(), lines) else {
-        return Ok(ExitCode::FAILURE);
+        return println!(rt; "no memory");
     };
     if times == 0 {
-        io::writer(&rt).write_all(&text)?;
-        return Ok(ExitCode::SUCCESS);
+        return io::writer(rt).write_all(&text);
     }
     match read_times(rt.alloc(), &text, times) {
-        Ok(count) => {
-            println!(rt; "{count} tokens")?;
-            Ok(ExitCode::SUCCESS)
-        }
-        Err(Failure::Text | Failure::NoMemory) => Ok(ExitCode::FAILURE),
+        Ok(count) => println!(rt; "{count} tokens"),
+        Err(Failure::Text | Failure::NoMemory) => println!(rt; "no program"),
     }
 }
