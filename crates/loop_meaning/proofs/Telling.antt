@@ -33,9 +33,9 @@ kept = record {
   reads = λ x i j ts o. (refl, λ c d. refl);
   chance = λ ts o. (refl, λ c d. refl);
   puts = λ w x i j n ts o has. (
-      shapes_written ts x i j n,
-      λ c d. number_kept ts x i j n c has (λ e. d (subst (λ z. Contains (record { table = x; row = i; col = j } ∷ []) z) e (contains_only (record { table = x; row = i; col = j })))),
-    );
+    shapes_written ts x i j n,
+    λ c d. number_kept ts x i j n c has (λ e. d (subst (λ z. Contains (record { table = x; row = i; col = j } ∷ []) z) e (contains_only (record { table = x; row = i; col = j })))),
+  );
   shows = λ w ts o more. (refl, λ c d. refl);
   emits = λ w x ts o more. (refl, λ c d. refl);
 }

@@ -67,15 +67,18 @@ module _ (fuel t : ℕ) (o : List ℕ) where
   }
 
   still : (s : State) (us : List Table) (r : Ran) → r.state.tables ≡ s.tables → Within r.state.ticks → NoWrites r.notes → shapes s.tables ≡ shapes us → (q : Ran) → q ≡ over us r → Twin s.tables us r q
-  still s us r e w n h q same = inl (w, record {
-    end = us;
-    same = same;
-    sizes = ap shapes e ∙ h;
-    stays = λ c k. ap (λ ts. number_at ts c) e ∙ k;
-    tables = λ x k. ap (λ ts. table_of ts x) e ∙ k;
-    written = λ c k. absurd (n c k);
-    whole = λ k. e ∙ k;
-  })
+  still s us r e w n h q same = inl (
+    w,
+    record {
+      end = us;
+      same = same;
+      sizes = ap shapes e ∙ h;
+      stays = λ c k. ap (λ ts. number_at ts c) e ∙ k;
+      tables = λ x k. ap (λ ts. table_of ts x) e ∙ k;
+      written = λ c k. absurd (n c k);
+      whole = λ k. e ∙ k;
+    },
+  )
 
   pub twins_vars : (g : List Variable → List Variable) → Twins (λ s. done (record s { vars = g s.vars }))
   twins_vars g = record {
@@ -121,15 +124,18 @@ module _ (fuel t : ℕ) (o : List ℕ) where
       go : (s : State) (us : List Table) → Within s.ticks → shapes s.tables ≡ shapes us → (b : Bool) → has_cell (table_of s.tables x.text.items) i j ≡ b → Twin s.tables us (put_cell x i j n s) (put_cell x i j n (shift us s))
       go s us w h true e =
           let f : has_cell (table_of us x.text.items) i j ≡ true = sym (has_at s.tables us x.text.items i j h) ∙ e in
-          rw (e, f, put_cell) (inl (w, record {
-            end = write_cell us x.text.items i j n;
-            same = refl;
-            sizes = shapes_written s.tables x.text.items i j n ∙ h ∙ sym (shapes_written us x.text.items i j n);
-            stays = λ c k. number_alike s.tables us x.text.items i j n c h e k;
-            tables = λ y k. table_alike s.tables us x.text.items y i j n k;
-            written = λ c k. only_cell x.text.items i j (λ c. number_at (write_cell s.tables x.text.items i j n) c ≡ number_at (write_cell us x.text.items i j n) c) c k (number_set s.tables us x.text.items i j n h e);
-            whole = λ k. ap (λ ts. write_cell ts x.text.items i j n) k;
-          }))
+          rw (e, f, put_cell) (inl (
+            w,
+            record {
+              end = write_cell us x.text.items i j n;
+              same = refl;
+              sizes = shapes_written s.tables x.text.items i j n ∙ h ∙ sym (shapes_written us x.text.items i j n);
+              stays = λ c k. number_alike s.tables us x.text.items i j n c h e k;
+              tables = λ y k. table_alike s.tables us x.text.items y i j n k;
+              written = λ c k. only_cell x.text.items i j (λ c. number_at (write_cell s.tables x.text.items i j n) c ≡ number_at (write_cell us x.text.items i j n) c) c k (number_set s.tables us x.text.items i j n h e);
+              whole = λ k. ap (λ ts. write_cell ts x.text.items i j n) k;
+            },
+          ))
       go s us w h false e =
           let f : has_cell (table_of us x.text.items) i j ≡ false = sym (has_at s.tables us x.text.items i j h) ∙ e in
           rw (e, f, put_cell) (still s us (trapped Index x.place s) refl w no_writes_none h _ refl)
@@ -137,15 +143,18 @@ module _ (fuel t : ℕ) (o : List ℕ) where
   -- ---- one after the other
 
   twin_noted : (ns : List Note) (ts us : List Table) (r q : Ran) → NoWrites ns → Twin ts us r q → Twin ts us (noted ns r) (noted ns q)
-  twin_noted ns ts us r q n (inl h) = inl (h.0, record {
-    end = h.1.end;
-    same = ap (noted ns) h.1.same;
-    sizes = h.1.sizes;
-    stays = h.1.stays;
-    tables = h.1.tables;
-    written = λ c k. elim (writes_cases ns r.notes c k) [ inl a ↦ absurd (n c a) | inr b ↦ h.1.written c b ];
-    whole = h.1.whole;
-  })
+  twin_noted ns ts us r q n (inl h) = inl (
+    h.0,
+    record {
+      end = h.1.end;
+      same = ap (noted ns) h.1.same;
+      sizes = h.1.sizes;
+      stays = h.1.stays;
+      tables = h.1.tables;
+      written = λ c k. elim (writes_cases ns r.notes c k) [ inl a ↦ absurd (n c a) | inr b ↦ h.1.written c b ];
+      whole = h.1.whole;
+    },
+  )
   twin_noted ns ts us r q n (inr h) = inr (h.0, record { stop = h.1.stop; ticks = h.1.ticks })
 
   pub twins_noted : (ns : List Note) (f : State → Ran) → NoWrites ns → Twins f → Twins (λ s. noted ns (f s))
@@ -247,15 +256,18 @@ module _ (fuel t : ℕ) (o : List ℕ) where
       ended s us x e f r h = ap (λ z. after z b) h ∙ ap (λ y. go_on y (over us (a s)) b) e ∙ f
 
       early : (s : State) (us : List Table) (x : Stop) → (a s).stop ≡ x → ((vs : List Table) → go_on x (over vs (a s)) b ≡ over vs (a s)) → Twin s.tables us (a s) (a (shift us s)) → Twin s.tables us (a s) (after (a (shift us s)) b)
-      early s us x e f (inl h) = inl (h.0, record {
-        end = h.1.end;
-        same = ended s h.1.end x e (f h.1.end) (a (shift us s)) h.1.same;
-        sizes = h.1.sizes;
-        stays = h.1.stays;
-        tables = h.1.tables;
-        written = h.1.written;
-        whole = h.1.whole;
-      })
+      early s us x e f (inl h) = inl (
+        h.0,
+        record {
+          end = h.1.end;
+          same = ended s h.1.end x e (f h.1.end) (a (shift us s)) h.1.same;
+          sizes = h.1.sizes;
+          stays = h.1.stays;
+          tables = h.1.tables;
+          written = h.1.written;
+          whole = h.1.whole;
+        },
+      )
       early s us x e f (inr h) = inr (h.0, spent_after (a (shift us s)) b h.1)
 
       whole : (s : State) → Ran
@@ -268,15 +280,18 @@ module _ (fuel t : ℕ) (o : List ℕ) where
           on = ap (λ z. after z b) l.same ∙ ap (λ y. go_on y (over l.end (a s)) b) e
 
           go : Twin (a s).state.tables l.end (b (a s).state) (b (shift l.end (a s).state)) → Twin s.tables us (whole s) (after (a (shift us s)) b)
-          go (inl h) = inl (h.0, record {
-            end = h.1.end;
-            same = on ∙ ap (noted (a s).notes) h.1.same;
-            sizes = h.1.sizes;
-            stays = λ c z. h.1.stays c (l.stays c z);
-            tables = λ x z. h.1.tables x (l.tables x z);
-            written = λ c z. elim (writes_cases (a s).notes (b (a s).state).notes c z) [ inl y ↦ h.1.stays c (l.written c y) | inr y ↦ h.1.written c y ];
-            whole = λ z. h.1.whole (l.whole z);
-          })
+          go (inl h) = inl (
+            h.0,
+            record {
+              end = h.1.end;
+              same = on ∙ ap (noted (a s).notes) h.1.same;
+              sizes = h.1.sizes;
+              stays = λ c z. h.1.stays c (l.stays c z);
+              tables = λ x z. h.1.tables x (l.tables x z);
+              written = λ c z. elim (writes_cases (a s).notes (b (a s).state).notes c z) [ inl y ↦ h.1.stays c (l.written c y) | inr y ↦ h.1.written c y ];
+              whole = λ z. h.1.whole (l.whole z);
+            },
+          )
           go (inr h) = inr (h.0, spent_is _ _ on (record { stop = h.1.stop; ticks = h.1.ticks }))
 
       first : (s : State) (us : List Table) → Within s.ticks → (a s).stop ≡ Done → SeenAlike (whole s).notes s.tables us → Twin s.tables us (a s) (a (shift us s)) → Twin s.tables us (whole s) (after (a (shift us s)) b)

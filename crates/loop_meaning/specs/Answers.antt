@@ -23,7 +23,8 @@ place_text p = decimal p.line ++ (58 ∷ decimal p.col)
 -- the line of a run that stopped early
 abbrev pub stop_line : Stop → List ℕ
 stop_line Done = []
-stop_line (Trap kind place) = codes "trap " ++ (kind_name kind ++ (codes " at " ++ (place_text place ++ 10 ∷ [])))
+stop_line (Trap kind place) =
+    codes "trap " ++ (kind_name kind ++ (codes " at " ++ (place_text place ++ 10 ∷ [])))
 stop_line NoFuel = codes "out of fuel" ++ 10 ∷ []
 
 -- the output, and that line
@@ -35,6 +36,7 @@ by_stop done trap spent Done = done
 by_stop done trap spent (Trap kind place) = trap
 by_stop done trap spent NoFuel = spent
 
--- the status of a run: the first of these where it was done, the second where it trapped, the third where it ran out of fuel
+-- the status of a run: the first of these where it was done, the second where it trapped, the third
+-- where it ran out of fuel
 abbrev pub status_of : {A : Type 0} → A → A → A → Outcome → A
 status_of done trap spent o = by_stop done trap spent o.stop

@@ -28,7 +28,8 @@ abbrev pub number_in : Answer → ℤ
 number_in (Number n) = n
 number_in (Traps k p) = pos 0
 
--- the end of a function whose body ended so, with its result; the caller's variables are visible again
+-- the end of a function whose body ended so, with its result; the caller's variables are visible
+-- again
 abbrev pub returned : Expr → List Variable → Ran → Called
 returned e vs r = record {
   value = number_in (eval r.state.vars r.state.tables e).answer;
@@ -39,7 +40,8 @@ returned e vs r = record {
 abbrev pub enter : Setting → Option Func → List ℤ → List Note → State → Called
 enter k None ns begin s = record { value = pos 0; ran = noted begin (done s) }
 enter k (Some f) ns begin s =
-    returned f.result s.vars (noted begin (run_list k f.body.items (record s { vars = bound f.params.items ns })))
+    returned f.result s.vars
+    (noted begin (run_list k f.body.items (record s { vars = bound f.params.items ns })))
 
 abbrev pub no_value : Ran → Called
 no_value r = record { value = pos 0; ran = r }
@@ -50,14 +52,18 @@ call_on Done r go = let c : Called = go r.state in record { value = c.value; ran
 call_on (Trap k p) r go = no_value r
 call_on NoFuel r go = no_value r
 
--- a call where this many more calls may be open: it counts a tick, and then traps where there is no room for it
+-- a call where this many more calls may be open: it counts a tick, and then traps where there is no
+-- room for it
 unfoldable pub call_at : List Func → ℕ → ℕ → List ℕ → Place → List ℤ → List Note → State → Called
 call_at fs fuel zero f p ns begin s =
     let t : Ran = tick fuel s in call_on t.stop t (λ u. no_value (trapped Deep p u))
 call_at fs fuel (suc room) f p ns begin s =
     let t : Ran = tick fuel s in
-    call_on t.stop t (enter (record { reduces = []; fuel = fuel; call = call_at fs fuel room }) (func_of fs f) ns begin)
+    call_on t.stop t
+    (enter (record { reduces = []; fuel = fuel; call = call_at fs fuel room }) (func_of fs f) ns
+    begin)
 
 -- how statements run at a depth of calls, where main has depth 0, under a reduce list
 abbrev pub setting : Program → ℕ → ℕ → List Reduce → Setting
-setting p fuel depth rs = record { reduces = rs; fuel = fuel; call = call_at p.funcs.items fuel (MAX_CALL_DEPTH - depth) }
+setting p fuel depth rs =
+    record { reduces = rs; fuel = fuel; call = call_at p.funcs.items fuel (MAX_CALL_DEPTH - depth) }

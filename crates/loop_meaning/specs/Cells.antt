@@ -1,7 +1,8 @@
 -- The cells that the iterations of a `par` touch.
 use Rattle.std.specs.Prelude.{◌≡◌, ◌≢◌, ℕ, ℤ, List, [], ◌∷◌, ◌++◌, map, Contains, None}
 use Rattle.loop_syntax.specs.declared.ParLoop.{ParLoop}
-use Rattle.loop_syntax.specs.declared.Stmt.{Stmt, Row_of-Stmt, end_of-Stmt, more_of-Stmt, items-the_row-Stmt}
+use Rattle.loop_syntax.specs.declared.Stmt.{Stmt, Row_of-Stmt, end_of-Stmt, more_of-Stmt}
+use Rattle.loop_syntax.specs.declared.Stmt.{items-the_row-Stmt}
 use Rattle.loop_syntax.specs.declared.Stmt.TheVariants.{Let, If', While', Loop', Par'}
 use Rattle.loop_syntax.specs.declared.Func.{Func}
 use Rattle.loop_syntax.specs.declared.Program.{Program}
@@ -44,7 +45,14 @@ pub record Body : Type 0 where
 -- that of a loop, where these variables are visible and these `par` loops stand round it
 abbrev pub body_of : List (List ℕ) → List Loop → ParLoop → Body
 body_of vs rounds l = record {
-  loop = record { outside = vs; var = l.var.text.items; carries = l.carries.items; reduces = l.reduces.items };
+  loop =
+      record {
+        outside = vs;
+        var = l.var.text.items;
+        carries = l.carries.items;
+        reduces =
+            l.reduces.items;
+      };
   rounds = rounds;
   statements = l.body.items;
 }
@@ -54,8 +62,8 @@ abbrev pub visible_after : List (List ℕ) → Stmt → List (List ℕ)
 visible_after vs (Let x e) = vs ++ x.text.items ∷ []
 visible_after vs _ = vs
 
--- each `par` of a statement and of the statements of a block, where these variables are visible and these `par` loops
--- stand round
+-- each `par` of a statement and of the statements of a block, where these variables are visible and
+-- these `par` loops stand round
 abbrev mutual
   pub bodies : List (List ℕ) → List Loop → Stmt → List Body
   bodies vs rounds (If' e p body q other) = bodies_all vs rounds body ++ bodies_all vs rounds other
@@ -63,20 +71,24 @@ abbrev mutual
   bodies vs rounds (Loop' x a b p body) = bodies_all (vs ++ x.text.items ∷ []) rounds body
   bodies vs rounds (Par' place x a b carry_place carries reduces p body) =
       let loop : Loop = record { outside = vs; var = x.text.items; carries = carries.items; reduces = reduces.items } in
-      record { loop = loop; rounds = rounds; statements = items-the_row-Stmt _ body } ∷ bodies_all (vs ++ x.text.items ∷ []) (loop ∷ rounds) body
+      record { loop = loop; rounds = rounds; statements = items-the_row-Stmt _ body }
+      ∷ bodies_all (vs ++ x.text.items ∷ []) (loop ∷ rounds) body
   bodies vs rounds _ = []
 
   pub bodies_all : {m : _} → List (List ℕ) → List Loop → Row_of-Stmt m → List Body
   bodies_all vs rounds end_of-Stmt = []
-  bodies_all vs rounds (more_of-Stmt first rest) = bodies vs rounds first ++ bodies_all (visible_after vs first) rounds rest
+  bodies_all vs rounds (more_of-Stmt first rest) =
+      bodies vs rounds first ++ bodies_all (visible_after vs first) rounds rest
 
 abbrev pub bodies_of_list : List (List ℕ) → List Loop → List Stmt → List Body
 bodies_of_list vs rounds [] = []
-bodies_of_list vs rounds (s ∷ ss) = bodies vs rounds s ++ bodies_of_list (visible_after vs s) rounds ss
+bodies_of_list vs rounds (s ∷ ss) =
+    bodies vs rounds s ++ bodies_of_list (visible_after vs s) rounds ss
 
 abbrev pub bodies_of_funcs : List Func → List Body
 bodies_of_funcs [] = []
-bodies_of_funcs (f ∷ fs) = bodies_of_list (texts f.params.items) [] f.body.items ++ bodies_of_funcs fs
+bodies_of_funcs (f ∷ fs) =
+    bodies_of_list (texts f.params.items) [] f.body.items ++ bodies_of_funcs fs
 
 abbrev pub bodies_of : Program → List Body
 bodies_of p = bodies_of_funcs p.funcs.items ++ bodies_of_list [] [] p.main.items
@@ -85,9 +97,11 @@ bodies_of p = bodies_of_funcs p.funcs.items ++ bodies_of_list [] [] p.main.items
 
 -- the run of one iteration
 abbrev pub run_of : Program → ℕ → ℕ → Body → ℤ → State → Ran
-run_of p fuel depth b i s = iteration fuel b.loop.var (run_list (setting p fuel depth b.loop.reduces) b.statements) [] i s
+run_of p fuel depth b i s =
+    iteration fuel b.loop.var (run_list (setting p fuel depth b.loop.reduces) b.statements) [] i s
 
--- two states have just the variables that are declared outside the body, with equal values but for those that the loop reduces
+-- two states have just the variables that are declared outside the body, with equal values but for
+-- those that the loop reduces
 pub record Agree (b : Body) (s t : State) : Type 0 where
   pub first : map (λ (v : Variable). v.name) s.vars ≡ b.loop.outside
   pub second : map (λ (v : Variable). v.name) t.vars ≡ b.loop.outside
@@ -95,6 +109,15 @@ pub record Agree (b : Body) (s t : State) : Type 0 where
 
 -- no cell that one iteration writes is read or written by another
 pub record Disjoint (p : Program) : Type 0 where
-  pub apart : (b : Body) → Contains (bodies_of p) b → (fuel depth : ℕ) (s t : State) → Agree b s t → (i j : ℤ) → i ≢ j → (c : Cell)
+  pub apart : (b : Body)
+      → Contains (bodies_of p) b
+      → (fuel depth : ℕ) (s t : State)
+      → Agree b s t
+      → (i j : ℤ)
+      → i ≢ j
+      → (c : Cell)
       → Contains (write_cells (run_of p fuel depth b i s).notes) c
-      → ¬ (Contains (read_cells (run_of p fuel depth b j t).notes ++ write_cells (run_of p fuel depth b j t).notes) c)
+      → ¬ (Contains
+      (read_cells (run_of p fuel depth b j t).notes
+      ++ write_cells (run_of p fuel depth b j t).notes)
+      c)

@@ -16,7 +16,13 @@ abbrev pub setting_of : Setting → Meant.Setting
 setting_of k = setting k.program.now k.fuel k.depth k.reduces.now
 
 abbrev pub state_of : Memory → State
-state_of m = record { vars = m.vars.items; tables = m.tables.items; output = m.output.items; ticks = m.ticks }
+state_of m =
+    record {
+      vars = m.vars.items;
+      tables = m.tables.items;
+      output = m.output.items;
+      ticks = m.ticks;
+    }
 
 -- the run ends with this stop, in this state
 pub record Ends (r : Ran) (x : Stop) (s : State) : Type 0 where

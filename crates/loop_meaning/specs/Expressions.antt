@@ -1,5 +1,6 @@
 -- The values of expressions.
-use Rattle.std.specs.Prelude.{zero, suc, true, false, not, ℤ, pos, negsuc, ◌+ℤ◌, ◌-ℤ◌, ◌*ℤ◌, int_div, int_rem, int_lt, int_le, List, [], ◌∷◌, ◌++◌}
+use Rattle.std.specs.Prelude.{zero, suc, true, false, not, ℤ, pos, negsuc, ◌+ℤ◌, ◌-ℤ◌, ◌*ℤ◌}
+use Rattle.std.specs.Prelude.{int_div, int_rem, int_lt, int_le, List, [], ◌∷◌, ◌++◌}
 use Rattle.std.specs.Ordering.{int_eq}
 use Rattle.tp_value.specs.Number.{wrapped, truth}
 use Rattle.tp_value.specs.declared.Place.{Place}
@@ -59,7 +60,11 @@ calculated op.Ge p a b = number (truth (int_le b a))
 abbrev pub read_cell : List Table → Name → ℤ → ℤ → Value
 read_cell ts t i j =
     elim (has_cell (table_of ts t.text.items) i j) [
-      | true ↦ record { answer = Number (cell_of (table_of ts t.text.items) i j); notes = Reads t.text.items i j ∷ [] }
+      | true ↦ record {
+        answer = Number (cell_of (table_of ts t.text.items) i j);
+        notes = Reads t.text.items i j
+            ∷ [];
+      }
       | false ↦ traps Index t.place
     ]
 
@@ -67,8 +72,10 @@ read_cell ts t i j =
 abbrev pub eval : List Variable → List Table → Expr → Value
 eval vs ts (Int n place) = number n
 eval vs ts (Var x) = number (lookup vs x.text.items)
-eval vs ts (Cell' t p a q b) = bind (eval vs ts a) (λ i. bind (eval vs ts b) (λ j. read_cell ts t i j))
+eval vs ts (Cell' t p a q b) =
+    bind (eval vs ts a) (λ i. bind (eval vs ts b) (λ j. read_cell ts t i j))
 eval vs ts (Rows t) = number (pos (table_of ts t.text.items).rows)
 eval vs ts (Cols t) = number (pos (table_of ts t.text.items).cols)
 eval vs ts (Neg' p a place) = bind (eval vs ts a) (λ n. number (wrapped (pos 0 -ℤ n)))
-eval vs ts (Bin' o place p a q b) = bind (eval vs ts a) (λ m. bind (eval vs ts b) (λ n. calculated o place m n))
+eval vs ts (Bin' o place p a q b) =
+    bind (eval vs ts a) (λ m. bind (eval vs ts b) (λ n. calculated o place m n))

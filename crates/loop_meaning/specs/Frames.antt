@@ -13,8 +13,8 @@ use Rattle.loop_meaning.specs.State.{lookup, assign, State, Note, Chance, Ran, d
 use Rattle.loop_meaning.specs.Statements.{Called, iterate, run_list}
 use Rattle.loop_meaning.specs.Calls.{setting}
 
--- the source that a frame belongs to: a `par`, or the first call of a `both` with its evaluated arguments and the
--- place of the second function's name; and whether a taken pair is the child's
+-- the source that a frame belongs to: a `par`, or the first call of a `both` with its evaluated
+-- arguments and the place of the second function's name; and whether a taken pair is the child's
 pub data Source : Type 0 where
   OfPar : ParLoop → Source
   OfBoth : List ℕ → Place → List ℤ → Place → (child : Bool) → Source
@@ -48,11 +48,15 @@ two_calls_of c go = record {
 -- the iterations next, .., end - 1 of a `par`; none of them is its first
 abbrev pub run_range : Program → ℕ → ℕ → ParLoop → ℤ → ℤ → State → Ran
 run_range p fuel depth l next end s =
-    iterate fuel l.var.text.items (run_list (setting p fuel depth l.reduces.items) l.body.items) (Chance ∷ []) (Chance ∷ []) (int_gap next end) next s
+    iterate fuel l.var.text.items (run_list (setting p fuel depth l.reduces.items) l.body.items)
+    (Chance ∷ []) (Chance ∷ []) (int_gap next end) next s
 
--- both calls of a pair that isn't taken; of a taken one the second alone where it is the child's, else the first alone
-abbrev pub run_pair : (List ℕ → Place → List ℤ → List Note → State → Called) → Bool → Bool → List ℕ → Place → List ℤ → List ℕ → Place → List ℤ → State → FrameRan
-run_pair call false child f p ns g q ms s = two_calls_of (call f p ns (Chance ∷ []) s) (call g q ms [])
+-- both calls of a pair that isn't taken; of a taken one the second alone where it is the child's,
+-- else the first alone
+abbrev pub run_pair : (List ℕ → Place → List ℤ → List Note → State → Called) → Bool → Bool → List ℕ
+    → Place → List ℤ → List ℕ → Place → List ℤ → State → FrameRan
+run_pair call false child f p ns g q ms s =
+    two_calls_of (call f p ns (Chance ∷ []) s) (call g q ms [])
 run_pair call true false f p ns g q ms s = one_call (call f p ns (Chance ∷ []) s)
 run_pair call true true f p ns g q ms s = one_call (call g q ms [] s)
 
@@ -62,6 +66,7 @@ run_frame p fuel depth (OfPar l) (Range next end accs) s =
     let r : Ran = run_range p fuel depth l next end (record s { vars = with_accs l.reduces.items accs s.vars }) in
     record { ran = r; results = accs_of l.reduces.items r.state.vars }
 run_frame p fuel depth (OfPar l) (Pair second args taken) s = record { ran = done s; results = [] }
-run_frame p fuel depth (OfBoth f place ns second_place child) (Range next end accs) s = record { ran = done s; results = [] }
+run_frame p fuel depth (OfBoth f place ns second_place child) (Range next end accs) s =
+    record { ran = done s; results = [] }
 run_frame p fuel depth (OfBoth f place ns second_place child) (Pair second args taken) s =
     run_pair (setting p fuel depth []).call taken child f place ns second second_place args s

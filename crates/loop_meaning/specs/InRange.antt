@@ -6,7 +6,8 @@ use Rattle.tp_value.specs.declared.Table.{Table}
 use Rattle.loop_syntax.specs.declared.Expr.{Expr}
 use Rattle.loop_syntax.specs.declared.Expr.TheVariants.{Int, Var, Cell', Rows, Cols, Neg', Bin'}
 use Rattle.loop_syntax.specs.declared.Stmt.{Stmt, Row_of-Stmt, end_of-Stmt, more_of-Stmt}
-use Rattle.loop_syntax.specs.declared.Stmt.TheVariants.{Let, Set, Put, If', While', Loop', Par', Fold, Call, Both, Print, Emit}
+use Rattle.loop_syntax.specs.declared.Stmt.TheVariants.{Let, Set, Put, If', While', Loop', Par'}
+use Rattle.loop_syntax.specs.declared.Stmt.TheVariants.{Fold, Call, Both, Print, Emit}
 use Rattle.loop_syntax.specs.declared.Func.{Func}
 use Rattle.loop_syntax.specs.declared.TableDecl.{TableDecl}
 use Rattle.loop_syntax.specs.declared.TableDecl.TheVariants.{Input, Made}
@@ -51,7 +52,8 @@ abbrev mutual
   StmtInRange (If' e p body q other) = ExprInRange e × BlockInRange body × BlockInRange other
   StmtInRange (While' e p body) = ExprInRange e × BlockInRange body
   StmtInRange (Loop' x a b p body) = ExprInRange a × ExprInRange b × BlockInRange body
-  StmtInRange (Par' place x a b carry_place carries reduces p body) = ExprInRange a × ExprInRange b × BlockInRange body
+  StmtInRange (Par' place x a b carry_place carries reduces p body) =
+      ExprInRange a × ExprInRange b × BlockInRange body
   StmtInRange (Fold x e) = ExprInRange e
   StmtInRange (Call x f) = All ExprInRange f.args.items
   StmtInRange (Both x f y g) = All ExprInRange f.args.items × All ExprInRange g.args.items

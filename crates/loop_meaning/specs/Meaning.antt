@@ -1,5 +1,6 @@
 -- The run of a whole program over given tables.
-use Rattle.std.specs.Prelude.{ℕ, suc, ◌+◌, ◌*◌, Bool, true, false, ◌||◌, ℤ, pos, int_lt, unsigned_abs, List, [], ◌∷◌, ◌++◌, nat_lt, replicate}
+use Rattle.std.specs.Prelude.{ℕ, suc, ◌+◌, ◌*◌, Bool, true, false, ◌||◌, ℤ, pos, int_lt}
+use Rattle.std.specs.Prelude.{unsigned_abs, List, [], ◌∷◌, ◌++◌, nat_lt, replicate}
 use Rattle.tp_value.specs.declared.limits.TheConstants.{MAX_SIDE, MAX_TABLE_CELLS}
 use Rattle.tp_value.specs.declared.Place.{Place}
 use Rattle.tp_value.specs.declared.TrapKind.TheVariants.{Size}
@@ -9,7 +10,8 @@ use Rattle.loop_syntax.specs.declared.Name.{Name}
 use Rattle.loop_syntax.specs.declared.TableDecl.{TableDecl}
 use Rattle.loop_syntax.specs.declared.TableDecl.TheVariants.{Input, Made}
 use Rattle.loop_syntax.specs.declared.Program.{Program}
-use Rattle.loop_meaning.specs.State.{table_of, State, Note, Reads, Writes, Emits, Chance, Ran, done, trapped, after}
+use Rattle.loop_meaning.specs.State.{table_of, State, Note, Reads, Writes, Emits, Chance, Ran, done}
+use Rattle.loop_meaning.specs.State.{trapped, after}
 use Rattle.loop_meaning.specs.Statements.{given_two, run_list}
 use Rattle.loop_meaning.specs.Calls.{setting}
 
@@ -29,7 +31,9 @@ is_bad_size n = int_lt n (pos 0) || int_lt (pos MAX_SIDE) n
 
 -- whether a size is out of its range, or its cells with those counted before are too many
 abbrev pub is_too_large : ℕ → ℤ → ℤ → Bool
-is_too_large cells m n = is_bad_size m || is_bad_size n || nat_lt MAX_TABLE_CELLS (cells + unsigned_abs m * unsigned_abs n)
+is_too_large cells m n =
+    is_bad_size m || is_bad_size n || nat_lt MAX_TABLE_CELLS
+    (cells + unsigned_abs m * unsigned_abs n)
 
 abbrev pub zero_table : Name → ℤ → ℤ → Table
 zero_table x m n = record {
@@ -47,13 +51,16 @@ abbrev pub unless_large : Bool → Place → (State → Ran) → State → Ran
 unless_large true p go s = trapped Size p s
 unless_large false p go s = go s
 
--- the tables in order of declaration, over the given ones; `cells` counts the inputs and what was made before
+-- the tables in order of declaration, over the given ones; `cells` counts the inputs and what was
+-- made before
 abbrev pub make_tables : List Table → ℕ → List TableDecl → State → Ran
 make_tables ts cells [] s = done s
-make_tables ts cells (Input x ∷ ds) s = make_tables ts cells ds (add_table (table_of ts x.text.items) s)
+make_tables ts cells (Input x ∷ ds) s =
+    make_tables ts cells ds (add_table (table_of ts x.text.items) s)
 make_tables ts cells (Made x a b ∷ ds) s =
     given_two a b s (λ m n. unless_large (is_too_large cells m n) x.place
-    (λ t. make_tables ts (cells + unsigned_abs m * unsigned_abs n) ds (add_table (zero_table x m n) t)) s)
+    (λ t. make_tables ts (cells + unsigned_abs m * unsigned_abs n) ds
+    (add_table (zero_table x m n) t)) s)
 
 -- ---- the whole run
 

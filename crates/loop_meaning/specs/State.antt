@@ -1,5 +1,7 @@
 -- What a run works on, how it ends, and what it notes on the way.
-use Rattle.std.specs.Prelude.{ℕ, zero, suc, ◌+◌, ◌*◌, Bool, false, cond, ◌&&◌, ℤ, pos, negsuc, unsigned_abs, List, [], ◌∷◌, ◌++◌, take, drop, nat_lt, slice_index_or, slice_set, bytes_eq, if◌then◌else◌}
+use Rattle.std.specs.Prelude.{ℕ, zero, suc, ◌+◌, ◌*◌, Bool, false, cond, ◌&&◌, ℤ, pos, negsuc}
+use Rattle.std.specs.Prelude.{unsigned_abs, List, [], ◌∷◌, ◌++◌, take, drop, nat_lt, slice_index_or}
+use Rattle.std.specs.Prelude.{slice_set, bytes_eq, if◌then◌else◌}
 use Rattle.std.specs.Fmt.{signed_decimal}
 use Rattle.tp_value.specs.declared.Place.{Place}
 use Rattle.tp_value.specs.declared.TrapKind.{TrapKind}
@@ -20,7 +22,8 @@ lookup (v ∷ vs) x = cond (bytes_eq v.name x) v.value (lookup vs x)
 -- the variables with a new value for that one
 abbrev pub assign : List Variable → List ℕ → ℤ → List Variable
 assign [] x n = []
-assign (v ∷ vs) x n = cond (bytes_eq v.name x) (record { name = v.name; value = n } ∷ vs) (v ∷ assign vs x n)
+assign (v ∷ vs) x n =
+    cond (bytes_eq v.name x) (record { name = v.name; value = n } ∷ vs) (v ∷ assign vs x n)
 
 -- the variables with one more
 abbrev pub declare : List Variable → List ℕ → ℤ → List Variable
@@ -56,7 +59,8 @@ with_cell t i j v = record t { cells = slice_set t.cells (cell_number t i j) v }
 -- the tables with a new number in that cell
 abbrev pub write_cell : List Table → List ℕ → ℤ → ℤ → ℤ → List Table
 write_cell [] x i j v = []
-write_cell (t ∷ ts) x i j v = cond (bytes_eq t.name x) (with_cell t i j v ∷ ts) (t ∷ write_cell ts x i j v)
+write_cell (t ∷ ts) x i j v =
+    cond (bytes_eq t.name x) (with_cell t i j v ∷ ts) (t ∷ write_cell ts x i j v)
 
 -- one line for each of the rows
 abbrev pub row_lines : ℕ → ℕ → List ℤ → List ℕ
@@ -65,7 +69,8 @@ row_lines (suc n) cols cells = row_text (take cols cells) ++ row_lines n cols (d
 
 -- ---- a state
 
--- the visible variables in the order of their declarations, the tables in theirs, the output and the ticks so far
+-- the visible variables in the order of their declarations, the tables in theirs, the output and
+-- the ticks so far
 pub record State : Type 0 where
   pub vars : List Variable
   pub tables : List Table
@@ -82,9 +87,9 @@ print_table t s = record s { output = s.output ++ row_lines t.rows t.cols t.cell
 
 -- ---- the end of a run
 
--- what a run notes: a cell that an expression reads or that is written, a table that is printed whole, and a
--- chance to split off a task: an iteration begun that isn't the first of its `par`, or the first call of a
--- `both` begun
+-- what a run notes: a cell that an expression reads or that is written, a table that is printed
+-- whole, and a chance to split off a task: an iteration begun that isn't the first of its `par`, or
+-- the first call of a `both` begun
 pub data Note : Type 0 where
   Reads : List ℕ → ℤ → ℤ → Note
   Writes : List ℕ → ℤ → ℤ → Note

@@ -1,5 +1,6 @@
 -- What statements do.
-use Rattle.std.specs.Prelude.{ℕ, zero, suc, ◌+◌, Bool, true, false, ℤ, pos, negsuc, ◌+ℤ◌, List, [], ◌∷◌, length, nat_lt, Option, Some, None}
+use Rattle.std.specs.Prelude.{ℕ, zero, suc, ◌+◌, Bool, true, false, ℤ, pos, negsuc, ◌+ℤ◌, List, []}
+use Rattle.std.specs.Prelude.{◌∷◌, length, nat_lt, Option, Some, None}
 use Rattle.std.specs.Int.{int_gap}
 use Rattle.tp_value.specs.declared.limits.TheConstants.{MAX_PAR_LENGTH}
 use Rattle.tp_value.specs.declared.Place.{Place}
@@ -11,13 +12,17 @@ use Rattle.loop_syntax.specs.declared.Expr.{Expr}
 use Rattle.loop_syntax.specs.declared.Reduce.{Reduce}
 use Rattle.loop_syntax.specs.declared.App.{App}
 use Rattle.loop_syntax.specs.declared.Stmt.{Stmt, Row_of-Stmt, end_of-Stmt, more_of-Stmt}
-use Rattle.loop_syntax.specs.declared.Stmt.TheVariants.{Let, Set, Put, If', While', Loop', Par', Fold, Call, Both, Print, Emit}
+use Rattle.loop_syntax.specs.declared.Stmt.TheVariants.{Let, Set, Put, If', While', Loop', Par'}
+use Rattle.loop_syntax.specs.declared.Stmt.TheVariants.{Fold, Call, Both, Print, Emit}
 use Rattle.loop_rules.specs.Names.{operator_of}
 use Rattle.loop_meaning.specs.declared.value.Answer.{Answer}
 use Rattle.loop_meaning.specs.declared.value.Answer.TheVariants.{Number, Traps}
 use Rattle.loop_meaning.specs.declared.value.Variable.{Variable}
 use Rattle.reduce_ops.specs.Reduction.{combine}
-use Rattle.loop_meaning.specs.State.{lookup, assign, declare, table_of, has_cell, write_cell, print_line, print_table, State, Note, Writes, Emits, Chance, Ran, done, trapped, out_of_fuel, noted, after, tick, leave_block}
+use Rattle.loop_meaning.specs.State.{lookup, assign, declare, table_of, has_cell, write_cell}
+use Rattle.loop_meaning.specs.State.{print_line, print_table, State, Note, Writes, Emits, Chance}
+use Rattle.loop_meaning.specs.State.{Ran, done, trapped, out_of_fuel, noted, after, tick}
+use Rattle.loop_meaning.specs.State.{leave_block}
 use Rattle.loop_meaning.specs.Expressions.{Value, eval}
 
 -- ---- numbers of expressions
@@ -54,7 +59,8 @@ folded (Some o) vs x n = assign vs x (combine o (lookup vs x) n)
 abbrev pub put_cell : Name → ℤ → ℤ → ℤ → State → Ran
 put_cell t i j v s =
     elim (has_cell (table_of s.tables t.text.items) i j) [
-      | true ↦ noted (Writes t.text.items i j ∷ []) (done (record s { tables = write_cell s.tables t.text.items i j v }))
+      | true ↦ noted (Writes t.text.items i j ∷ [])
+          (done (record s { tables = write_cell s.tables t.text.items i j v }))
       | false ↦ trapped Index t.place s
     ]
 
@@ -70,7 +76,8 @@ choose (negsuc n) f g s = f s
 abbrev pub block : (State → Ran) → State → Ran
 block body s = leave_block (length s.vars) (body s)
 
--- at most n turns of a `while`. As each turn counts a tick, more than the fuel and one are never begun
+-- at most n turns of a `while`. As each turn counts a tick, more than the fuel and one are never
+-- begun
 unfoldable pub turns : ℕ → ℕ → Expr → (State → Ran) → State → Ran
 turns zero fuel e body s = out_of_fuel s
 turns (suc n) fuel e body s =
@@ -79,9 +86,11 @@ turns (suc n) fuel e body s =
 -- one iteration of a loop over the variable x, with the number i; where it begins, ns are noted
 abbrev pub iteration : ℕ → List ℕ → (State → Ran) → List Note → ℤ → State → Ran
 iteration fuel x body ns i s =
-    leave_block (length s.vars) (after (tick fuel s) (λ t. noted ns (body (record t { vars = declare t.vars x i }))))
+    leave_block (length s.vars)
+    (after (tick fuel s) (λ t. noted ns (body (record t { vars = declare t.vars x i }))))
 
--- n iterations in order, with the numbers i, i + 1, ..; the first notes ns, and each later one notes again
+-- n iterations in order, with the numbers i, i + 1, ..; the first notes ns, and each later one
+-- notes again
 unfoldable pub iterate : ℕ → List ℕ → (State → Ran) → List Note → List Note → ℕ → ℤ → State → Ran
 iterate fuel x body again ns zero i s = done s
 iterate fuel x body again ns (suc n) i s =
@@ -107,8 +116,9 @@ pub record Called : Type 0 where
 abbrev pub with_call : Called → (ℤ → State → Ran) → Ran
 with_call c go = after c.ran (go c.value)
 
--- what a statement needs to know: the reduce list of the nearest `par`, the fuel, and what a call means.
--- A call is given the callee with its place, the arguments, and what is noted where its body begins
+-- what a statement needs to know: the reduce list of the nearest `par`, the fuel, and what a call
+-- means. A call is given the callee with its place, the arguments, and what is noted where its body
+-- begins
 pub record Setting : Type 0 where
   pub reduces : List Reduce
   pub fuel : ℕ
@@ -116,38 +126,52 @@ pub record Setting : Type 0 where
 
 abbrev pub run_call : Setting → Name → App → State → Ran
 run_call k x f s =
-    given_all f.args.items s (λ ns. with_call (k.call f.callee.text.items f.callee.place ns [] s) (λ v t. done (set_var x v t)))
+    given_all f.args.items s
+    (λ ns. with_call (k.call f.callee.text.items f.callee.place ns [] s)
+    (λ v t. done (set_var x v t)))
 
 -- the two calls of a `both`, one after the other, and then its two assignments
-abbrev pub two_calls : Setting → Name → Name → List ℤ → Name → Name → List ℤ → List Note → State → Ran
+abbrev pub two_calls : Setting → Name → Name → List ℤ → Name → Name → List ℤ → List Note → State
+    → Ran
 two_calls k x f ns y g ms begin s =
     with_call (k.call f.text.items f.place ns begin s) (λ v t.
     with_call (k.call g.text.items g.place ms [] t) (λ w u. done (set_var y w (set_var x v u))))
 
 abbrev pub run_both : Setting → Name → App → Name → App → State → Ran
 run_both k x f y g s =
-    given_all f.args.items s (λ ns. given_all g.args.items s (λ ms. two_calls k x f.callee ns y g.callee ms (Chance ∷ []) s))
+    given_all f.args.items s
+    (λ ns. given_all g.args.items s
+    (λ ms. two_calls k x f.callee ns y g.callee ms (Chance ∷ []) s))
 
 -- ---- statements
 
--- what a statement does, and what those of a block do in order. Before a block stands its vector's shape, here p and q
+-- what a statement does, and what those of a block do in order. Before a block stands its vector's
+-- shape, here p and q
 abbrev mutual
   pub run : Setting → Stmt → State → Ran
   run k (Let x e) s = given e s (λ n. done (record s { vars = declare s.vars x.text.items n }))
   run k (Set x e) s = given e s (λ n. done (set_var x n s))
   run k (Put t a b e) s = given_two a b s (λ i j. given e s (λ n. put_cell t i j n s))
-  run k (If' e p body q other) s = given e s (λ n. choose n (block (run_all k body)) (block (run_all k other)) s)
+  run k (If' e p body q other) s =
+      given e s (λ n. choose n (block (run_all k body)) (block (run_all k other)) s)
   run k (While' e p body) s = turns (k.fuel + 1) k.fuel e (block (run_all k body)) s
   run k (Loop' x a b p body) s =
       given_two a b s (λ i j. iterate k.fuel x.text.items (run_all k body) [] [] (int_gap i j) i s)
   run k (Par' place x a b carry_place carries reduces p body) s =
-      given_two a b s (λ i j. unless_wide (too_wide i j) place (iterate k.fuel x.text.items (run_all (record k { reduces = reduces.items }) body) (Chance ∷ []) [] (int_gap i j) i) s)
+      given_two a b s
+      (λ i j. unless_wide (too_wide i j) place
+      (iterate k.fuel x.text.items (run_all (record k { reduces = reduces.items }) body)
+      (Chance ∷ []) [] (int_gap i j) i)
+      s)
   run k (Fold x e) s =
-      given e s (λ n. done (record s { vars = folded (operator_of k.reduces x.text.items) s.vars x.text.items n }))
+      given e s
+      (λ n. done
+      (record s { vars = folded (operator_of k.reduces x.text.items) s.vars x.text.items n }))
   run k (Call x f) s = run_call k x f s
   run k (Both x f y g) s = run_both k x f y g s
   run k (Print place e) s = given e s (λ n. done (print_line n s))
-  run k (Emit place t) s = noted (Emits t.text.items ∷ []) (done (print_table (table_of s.tables t.text.items) s))
+  run k (Emit place t) s =
+      noted (Emits t.text.items ∷ []) (done (print_table (table_of s.tables t.text.items) s))
 
   pub run_all : {m : _} → Setting → Row_of-Stmt m → State → Ran
   run_all k end_of-Stmt s = done s

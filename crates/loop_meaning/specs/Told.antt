@@ -1,9 +1,11 @@
 -- What the notes of a run tell of its tables, and what is before a run that it doesn't depend on.
-use Rattle.std.specs.Prelude.{◌≡◌, ℕ, ◌+◌, ◌<◌, ◌≤◌, ℤ, List, [], ◌∷◌, ◌++◌, map, length, Contains, Option, Some, None, if◌then◌else◌}
+use Rattle.std.specs.Prelude.{◌≡◌, ℕ, ◌+◌, ◌<◌, ◌≤◌, ℤ, List, [], ◌∷◌, ◌++◌, map, length, Contains}
+use Rattle.std.specs.Prelude.{Option, Some, None, if◌then◌else◌}
 use Rattle.tp_value.specs.declared.Stop.TheVariants.{Done, NoFuel}
 use Rattle.tp_value.specs.declared.Table.{Table}
 use Rattle.loop_meaning.specs.declared.value.Variable.{Variable}
-use Rattle.loop_meaning.specs.State.{table_of, has_cell, cell_of, State, Note, Reads, Writes, Emits, Chance, Ran}
+use Rattle.loop_meaning.specs.State.{table_of, has_cell, cell_of, State, Note, Reads, Writes, Emits}
+use Rattle.loop_meaning.specs.State.{Chance, Ran}
 use Rattle.loop_meaning.specs.Statements.{Called}
 use Rattle.loop_meaning.specs.Cells.{Cell, read_cells, write_cells}
 
@@ -40,15 +42,16 @@ printed_tables (Writes t i j ∷ ns) = printed_tables ns
 printed_tables (Emits t ∷ ns) = t ∷ printed_tables ns
 printed_tables (Chance ∷ ns) = printed_tables ns
 
--- tables of the same names and sizes, with the same numbers in the cells that were read, and of which
--- those that were printed are the same
+-- tables of the same names and sizes, with the same numbers in the cells that were read, and of
+-- which those that were printed are the same
 pub record SeenAlike (ns : List Note) (ts us : List Table) : Type 0 where
   pub sizes : shapes ts ≡ shapes us
   pub cells : (c : Cell) → Contains (read_cells ns) c → number_at ts c ≡ number_at us c
   pub tables : (x : List ℕ) → Contains (printed_tables ns) x → table_of ts x ≡ table_of us x
 
--- the second run, over the tables us, is the first in all but its tables: there it leaves the numbers that
--- the first wrote, and in the cells that the first didn't write the numbers that stood in us
+-- the second run, over the tables us, is the first in all but its tables: there it leaves the
+-- numbers that the first wrote, and in the cells that the first didn't write the numbers that stood
+-- in us
 pub record AlikeOver (us : List Table) (r q : Ran) : Type 0 where
   pub same : q ≡ record r { state = record r.state { tables = q.state.tables } }
   pub written : (c : Cell) → Contains (write_cells r.notes) c

@@ -15,7 +15,8 @@ use Rattle.loop_meaning.specs.Frames.{OfBoth, FrameRan, run_frame}
 -- the iterations first, .., end - 1 of a `par`, where `first` is its first one
 abbrev pub iterations : Program → ℕ → ℕ → ParLoop → ℤ → ℤ → State → Ran
 iterations p fuel depth l first end s =
-    iterate fuel l.var.text.items (run_list (setting p fuel depth l.reduces.items) l.body.items) (Chance ∷ []) [] (int_gap first end) first s
+    iterate fuel l.var.text.items (run_list (setting p fuel depth l.reduces.items) l.body.items)
+    (Chance ∷ []) [] (int_gap first end) first s
 
 -- a chance for the first of n iterations, where it is begun: there is one, and its tick is allowed
 abbrev pub first_chance : ℕ → ℕ → State → List Note
@@ -35,4 +36,5 @@ then_set x y r = after r.ran (λ s. done (set_both x y r.results s))
 abbrev pub both_by_frame : Program → ℕ → ℕ → Bool → Name → App → Name → App → State → Ran
 both_by_frame p fuel depth child x f y g s =
     given_all f.args.items s (λ ns. given_all g.args.items s (λ ms. then_set x y
-    (run_frame p fuel depth (OfBoth f.callee.text.items f.callee.place ns g.callee.place child) (Pair g.callee.text.items ms false) s)))
+    (run_frame p fuel depth (OfBoth f.callee.text.items f.callee.place ns g.callee.place child)
+    (Pair g.callee.text.items ms false) s)))

@@ -69,7 +69,8 @@ pub fn bound(alloc: Global, params: &[Name], ns: &[i64]) -> Result<Vec<Variable>
 
 /// The function of that name.
 pub fn func_of<'a>(funcs: &'a [Func], x: &[u8]) -> Option<&'a Func>
-    ensures { MatchOption result (func_of funcs.now x.now ≡ None) (λ f. func_of funcs.now x.now ≡ Some f.now) }
+    ensures { MatchOption result (func_of funcs.now x.now ≡ None)
+        (λ f. func_of funcs.now x.now ≡ Some f.now) }
 {
     for f in funcs {
         if f.name.text.as_slice() == x {

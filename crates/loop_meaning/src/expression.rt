@@ -1,6 +1,7 @@
 // The values of expressions.
 
-ghost use Rattle.std.specs.Prelude.{◌≡◌, ◌+◌, ◌*◌, ◌<◌, MatchOption, false, true, unsigned_abs, slice_index_or, pos};
+ghost use Rattle.std.specs.Prelude.{◌≡◌, ◌+◌, ◌*◌, ◌<◌, MatchOption, false, true, unsigned_abs};
+ghost use Rattle.std.specs.Prelude.{slice_index_or, pos};
 ghost use Rattle.loop_meaning.specs.State.{lookup, table_of, no_table, has_cell, cell_of, is_below};
 ghost use Rattle.loop_meaning.specs.Expressions.{eval, read_cell};
 
@@ -24,7 +25,8 @@ pub fn lookup(vars: &[Variable], x: &[u8]) -> i64
 
 /// The table of that name.
 pub fn table_at<'a>(tables: &'a [Table], x: &[u8]) -> Option<&'a Table>
-    ensures { MatchOption result (table_of tables.now x.now ≡ no_table) (λ t. t.now ≡ table_of tables.now x.now) }
+    ensures { MatchOption result (table_of tables.now x.now ≡ no_table)
+        (λ t. t.now ≡ table_of tables.now x.now) }
 {
     for t in tables {
         if t.name.items() == x {
@@ -36,7 +38,8 @@ pub fn table_at<'a>(tables: &'a [Table], x: &[u8]) -> Option<&'a Table>
 
 /// The number as an index below n.
 pub fn index_below(i: i64, n: u32) -> Option<u64>
-    ensures { MatchOption result (is_below i n ≡ false) (λ k. (is_below i n ≡ true) × (k ≡ unsigned_abs i) × (k < n)) }
+    ensures { MatchOption result (is_below i n ≡ false)
+        (λ k. (is_below i n ≡ true) × (k ≡ unsigned_abs i) × (k < n)) }
 {
     if i < 0 {
         return None;
@@ -59,7 +62,8 @@ fn cell_at(t: &Table, row: u64, col: u64) -> i64
 }
 
 fn cell(t: &Table, i: i64, j: i64) -> Option<i64>
-    ensures { MatchOption result (has_cell t.now i j ≡ false) (λ v. (has_cell t.now i j ≡ true) × (v ≡ cell_of t.now i j)) }
+    ensures { MatchOption result (has_cell t.now i j ≡ false)
+        (λ v. (has_cell t.now i j ≡ true) × (v ≡ cell_of t.now i j)) }
 {
     let row = index_below(i, t.rows)?;
     let col = index_below(j, t.cols)?;

@@ -1,6 +1,7 @@
 // What follows from the definitions alone.
 
-ghost use Rattle.std.specs.Prelude.{◌≡◌, ◌+◌, ◌++◌, ◌<◌, ◌≤◌, ◌↔◌, ◌≢◌, ℕ, Bool, ℤ, List, [], map, Contains, ◌∷◌};
+ghost use Rattle.std.specs.Prelude.{◌≡◌, ◌+◌, ◌++◌, ◌<◌, ◌≤◌, ◌↔◌, ◌≢◌, ℕ, Bool, ℤ, List, [], map};
+ghost use Rattle.std.specs.Prelude.{Contains, ◌∷◌};
 ghost use Rattle.std.specs.Int.{int_gap};
 ghost use Rattle.std.specs.List.{All};
 ghost use Rattle.tp_value.specs.declared.limits.TheConstants.{MAX_CALL_DEPTH};
@@ -20,10 +21,12 @@ ghost use Rattle.loop_syntax.specs.declared.Stmt.TheVariants.{Par, Both};
 ghost use Rattle.loop_meaning.specs.declared.frame.Frame.TheVariants.{Range};
 ghost use Rattle.loop_meaning.specs.declared.value.Answer.TheVariants.{Number};
 ghost use Rattle.loop_meaning.specs.declared.value.Variable.{Variable};
-ghost use Rattle.loop_meaning.specs.InRange.{InRange, TableInRange, StateInRange, ExprInRange, StmtInRange, FuncInRange, ProgramInRange};
+ghost use Rattle.loop_meaning.specs.InRange.{InRange, TableInRange, StateInRange, ExprInRange};
+ghost use Rattle.loop_meaning.specs.InRange.{StmtInRange, FuncInRange, ProgramInRange};
 ghost use Rattle.loop_meaning.specs.Expressions.{eval};
 ghost use Rattle.loop_meaning.specs.State.{State, Note, Ran, noted, trapped, out_of_fuel};
-ghost use Rattle.loop_meaning.specs.Statements.{given_two, unless_wide, too_wide, iterate, run, run_list};
+ghost use Rattle.loop_meaning.specs.Statements.{given_two, unless_wide, too_wide, iterate, run};
+ghost use Rattle.loop_meaning.specs.Statements.{run_list};
 ghost use Rattle.loop_meaning.specs.Calls.{setting, enter, no_value};
 ghost use Rattle.loop_meaning.specs.Frames.{OfPar, accs_of, run_frame};
 ghost use Rattle.loop_meaning.specs.WholeFrames.{iterations, first_chance, both_by_frame};
@@ -39,14 +42,17 @@ use tp_value::{Stop, Table};
 /// counts that one.
 pub fn keeps_within_fuel(program: &Program, tables: &[Table], fuel: u64)
     ensures ticks { (meaning program.now tables.now fuel).ticks ≤ fuel + 1 }
-    ensures spent { ((meaning program.now tables.now fuel).stop ≡ Stop.NoFuel) ↔ (fuel < (meaning program.now tables.now fuel).ticks) }
+    ensures spent { ((meaning program.now tables.now fuel).stop ≡ Stop.NoFuel)
+        ↔ (fuel < (meaning program.now tables.now fuel).ticks) }
 {}
 
 /// Statements only add to the output, and never take ticks back, at any depth of calls and under
 /// any reduce list, wherever they begin within the fuel.
 pub fn only_adds(program: &Program, fuel: u64)
     ensures output { (depth : ℕ) (rs : List Reduce) (body : List statement.Stmt) (s : State) → s.ticks ≤ fuel →
-        (more : List ℕ) × ((run_list (setting program.now fuel depth rs) body s).state.output ≡ s.output ++ more) }
+        (more : List ℕ)
+        × ((run_list (setting program.now fuel depth rs) body s).state.output
+        ≡ s.output ++ more) }
     ensures ticks { (depth : ℕ) (rs : List Reduce) (body : List statement.Stmt) (s : State) → s.ticks ≤ fuel →
         s.ticks ≤ (run_list (setting program.now fuel depth rs) body s).state.ticks }
 {}
@@ -58,7 +64,9 @@ pub fn more_fuel_changes_nothing(program: &Program, tables: &[Table], fuel: u64)
         meaning program.now tables.now more ≡ meaning program.now tables.now fuel }
     ensures chances { (more : ℕ) → fuel ≤ more → (meaning program.now tables.now fuel).stop ≢ Stop.NoFuel →
         chances program.now tables.now more ≡ chances program.now tables.now fuel }
-    ensures statements { (more : ℕ) → fuel ≤ more → (depth : ℕ) (rs : List Reduce) (body : List statement.Stmt) (s : State) →
+    ensures statements { (more : ℕ)
+        → fuel ≤ more
+        → (depth : ℕ) (rs : List Reduce) (body : List statement.Stmt) (s : State) →
         (run_list (setting program.now fuel depth rs) body s).stop ≢ Stop.NoFuel →
         run_list (setting program.now more depth rs) body s ≡ run_list (setting program.now fuel depth rs) body s }
 {}
@@ -79,7 +87,8 @@ pub fn whole_frames_are_the_loop(program: &Program, fuel: u64)
         map (λ (a : Op × ℤ). a.1) accs ≡ accs_of l.reduces.items s.vars →
         (run_frame program.now fuel depth (OfPar l) (Range i j accs) s).results ≡
         accs_of l.reduces.items (iterations program.now fuel depth l i j s).state.vars }
-    ensures both { (depth : ℕ) (rs : List Reduce) (child : Bool) (x : Name) (f : App) (y : Name) (g : App) (s : State) →
+    ensures both { (depth : ℕ) (rs : List Reduce) (child : Bool) (x : Name) (f : App) (y : Name) (g : App)
+        (s : State) →
         run (setting program.now fuel depth rs) (Both x f y g) s ≡ both_by_frame program.now fuel depth child x f y g s }
 {}
 
@@ -87,60 +96,82 @@ pub fn whole_frames_are_the_loop(program: &Program, fuel: u64)
 /// 10,000 is reached; a call there counts its tick and traps at the function's name. Where no tick
 /// is left, a call stops for want of fuel at every depth.
 pub fn calls_reach_the_limit(program: &Program, fuel: u64)
-    ensures enters { (depth : ℕ) (rs : List Reduce) (f : List ℕ) (place : Place) (ns : List ℤ) (begin : List Note) (s : State) →
+    ensures enters { (depth : ℕ) (rs : List Reduce) (f : List ℕ) (place : Place) (ns : List ℤ)
+        (begin : List Note) (s : State) →
         depth < MAX_CALL_DEPTH → s.ticks < fuel →
         (setting program.now fuel depth rs).call f place ns begin s ≡
         enter (setting program.now fuel (depth + 1) []) (func_of program.now.funcs.items f) ns begin (record s { ticks = s.ticks + 1 }) }
-    ensures traps { (rs : List Reduce) (f : List ℕ) (place : Place) (ns : List ℤ) (begin : List Note) (s : State) →
+    ensures traps { (rs : List Reduce) (f : List ℕ) (place : Place) (ns : List ℤ) (begin : List Note)
+        (s : State) →
         s.ticks < fuel →
-        (setting program.now fuel MAX_CALL_DEPTH rs).call f place ns begin s ≡ no_value (trapped Deep place (record s { ticks = s.ticks + 1 })) }
-    ensures spent { (depth : ℕ) (rs : List Reduce) (f : List ℕ) (place : Place) (ns : List ℤ) (begin : List Note) (s : State) →
+        (setting program.now fuel MAX_CALL_DEPTH rs).call f place ns begin s
+        ≡ no_value (trapped Deep place (record s { ticks = s.ticks + 1 })) }
+    ensures spent { (depth : ℕ) (rs : List Reduce) (f : List ℕ) (place : Place) (ns : List ℤ)
+        (begin : List Note) (s : State) →
         fuel ≤ s.ticks →
-        (setting program.now fuel depth rs).call f place ns begin s ≡ no_value (out_of_fuel (record s { ticks = fuel + 1 })) }
+        (setting program.now fuel depth rs).call f place ns begin s
+        ≡ no_value (out_of_fuel (record s { ticks = fuel + 1 })) }
 {}
 
-/// Numbers stay in the range of 64 bits: where the variables, the cells and sizes of the tables, and
-/// the literals are in it, so are the values of expressions, and so are the variables and tables
-/// after a run of statements at any depth, however it stops. So are those after a whole program whose
-/// literals are in it, over given tables that are in it.
+/// Numbers stay in the range of 64 bits: where the variables, the cells and sizes of the tables,
+/// and the literals are in it, so are the values of expressions, and so are the variables and
+/// tables after a run of statements at any depth, however it stops. So are those after a whole
+/// program whose literals are in it, over given tables that are in it.
 pub fn numbers_stay_in_range(program: &Program, tables: &[Table], fuel: u64)
-    ensures values { (s : State) (e : Expr) (n : ℤ) → StateInRange s → ExprInRange e → (eval s.vars s.tables e).answer ≡ Number n → InRange n }
+    ensures values { (s : State) (e : Expr) (n : ℤ)
+        → StateInRange s
+        → ExprInRange e
+        → (eval s.vars s.tables e).answer ≡ Number n
+        → InRange n }
     ensures runs { (depth : ℕ) (rs : List Reduce) (body : List statement.Stmt) (s : State) →
         All FuncInRange program.now.funcs.items → All StmtInRange body → StateInRange s →
         StateInRange (run_list (setting program.now fuel depth rs) body s).state }
-    ensures whole { ProgramInRange program.now → All TableInRange tables.now → StateInRange (whole_run program.now tables.now fuel).state }
+    ensures whole { ProgramInRange program.now
+        → All TableInRange tables.now
+        → StateInRange (whole_run program.now tables.now fuel).state }
 {}
 
 /// The notes of a run tell all that it does to tables and all that it sees of them, at any depth of
 /// calls: names and sizes of tables stay, a cell of which no write is noted keeps its number, and
-/// other numbers in cells of which neither a read nor an emit is noted change nothing else. So it is
-/// with statements, with iterations, and with calls; what is noted at their beginning is no write.
+/// other numbers in cells of which neither a read nor an emit is noted change nothing else. So it
+/// is with statements, with iterations, and with calls; what is noted at their beginning is no
+/// write.
 pub fn notes_tell_all(program: &Program, fuel: u64)
-    ensures statements { (depth : ℕ) (rs : List Reduce) (body : List statement.Stmt) → NotesTell (run_list (setting program.now fuel depth rs) body) }
-    ensures iterations { (depth : ℕ) (rs : List Reduce) (body : List statement.Stmt) (x : List ℕ) (again ns : List Note) →
+    ensures statements { (depth : ℕ) (rs : List Reduce) (body : List statement.Stmt)
+        → NotesTell (run_list (setting program.now fuel depth rs) body) }
+    ensures iterations { (depth : ℕ) (rs : List Reduce) (body : List statement.Stmt) (x : List ℕ)
+        (again ns : List Note) →
         write_cells again ≡ [] → write_cells ns ≡ [] → (n : ℕ) (i : ℤ) →
         NotesTell (iterate fuel x (run_list (setting program.now fuel depth rs) body) again ns n i) }
-    ensures calls { (depth : ℕ) (rs : List Reduce) (f : List ℕ) (place : Place) (ns : List ℤ) (begin : List Note) → write_cells begin ≡ [] →
+    ensures calls { (depth : ℕ) (rs : List Reduce) (f : List ℕ) (place : Place) (ns : List ℤ)
+        (begin : List Note)
+        → write_cells begin ≡ [] →
         CallNotesTell ((setting program.now fuel depth rs).call f place ns begin) }
 {}
 
-/// More ticks and more output before a run only move its own, where the fuel suffices; else it stops
-/// for want of fuel, having counted one tick more than that.
+/// More ticks and more output before a run only move its own, where the fuel suffices; else it
+/// stops for want of fuel, having counted one tick more than that.
 pub fn what_is_before_only_moves(program: &Program, fuel: u64)
-    ensures statements { (depth : ℕ) (rs : List Reduce) (body : List statement.Stmt) → Moves fuel (run_list (setting program.now fuel depth rs) body) }
-    ensures iterations { (depth : ℕ) (rs : List Reduce) (body : List statement.Stmt) (x : List ℕ) (again ns : List Note) →
+    ensures statements { (depth : ℕ) (rs : List Reduce) (body : List statement.Stmt)
+        → Moves fuel (run_list (setting program.now fuel depth rs) body) }
+    ensures iterations { (depth : ℕ) (rs : List Reduce) (body : List statement.Stmt) (x : List ℕ)
+        (again ns : List Note) →
         write_cells again ≡ [] → write_cells ns ≡ [] → (n : ℕ) (i : ℤ) →
         Moves fuel (iterate fuel x (run_list (setting program.now fuel depth rs) body) again ns n i) }
-    ensures calls { (depth : ℕ) (rs : List Reduce) (f : List ℕ) (place : Place) (ns : List ℤ) (begin : List Note) → write_cells begin ≡ [] →
+    ensures calls { (depth : ℕ) (rs : List Reduce) (f : List ℕ) (place : Place) (ns : List ℤ)
+        (begin : List Note)
+        → write_cells begin ≡ [] →
         CallMoves fuel ((setting program.now fuel depth rs).call f place ns begin) }
 {}
 
 /// A call sees no variables of its caller and leaves them as they are: with other variables it is
 /// the same call, at any depth and however it stops.
 pub fn calls_see_no_variables(program: &Program, fuel: u64)
-    ensures kept { (depth : ℕ) (rs : List Reduce) (f : List ℕ) (place : Place) (ns : List ℤ) (begin : List Note) (s : State) →
+    ensures kept { (depth : ℕ) (rs : List Reduce) (f : List ℕ) (place : Place) (ns : List ℤ)
+        (begin : List Note) (s : State) →
         ((setting program.now fuel depth rs).call f place ns begin s).ran.state.vars ≡ s.vars }
-    ensures unseen { (depth : ℕ) (rs : List Reduce) (f : List ℕ) (place : Place) (ns : List ℤ) (begin : List Note) (s : State) (vs : List Variable) →
+    ensures unseen { (depth : ℕ) (rs : List Reduce) (f : List ℕ) (place : Place) (ns : List ℤ)
+        (begin : List Note) (s : State) (vs : List Variable) →
         (setting program.now fuel depth rs).call f place ns begin (record s { vars = vs }) ≡
         leaving vs ((setting program.now fuel depth rs).call f place ns begin s) }
 {}
@@ -151,11 +182,14 @@ pub fn only_prints_print(program: &Program, fuel: u64)
     ensures statements { (depth : ℕ) (rs : List Reduce) (body : List statement.Stmt) (s : State) →
         All OnlyCounts program.now.funcs.items → All PrintsNothing body →
         (run_list (setting program.now fuel depth rs) body s).state.output ≡ s.output }
-    ensures output { (depth : ℕ) (rs : List Reduce) (f : List ℕ) (place : Place) (ns : List ℤ) (begin : List Note) (s : State) →
+    ensures output { (depth : ℕ) (rs : List Reduce) (f : List ℕ) (place : Place) (ns : List ℤ)
+        (begin : List Note) (s : State) →
         All OnlyCounts program.now.funcs.items → ((setting program.now fuel depth rs).call f place ns begin s).ran.state.output ≡ s.output }
-    ensures tables { (depth : ℕ) (rs : List Reduce) (f : List ℕ) (place : Place) (ns : List ℤ) (begin : List Note) (s : State) →
+    ensures tables { (depth : ℕ) (rs : List Reduce) (f : List ℕ) (place : Place) (ns : List ℤ)
+        (begin : List Note) (s : State) →
         All OnlyCounts program.now.funcs.items → ((setting program.now fuel depth rs).call f place ns begin s).ran.state.tables ≡ s.tables }
-    ensures writes { (depth : ℕ) (rs : List Reduce) (f : List ℕ) (place : Place) (ns : List ℤ) (begin : List Note) (s : State) →
+    ensures writes { (depth : ℕ) (rs : List Reduce) (f : List ℕ) (place : Place) (ns : List ℤ)
+        (begin : List Note) (s : State) →
         All OnlyCounts program.now.funcs.items → (c : Cell) →
         Contains (write_cells ((setting program.now fuel depth rs).call f place ns begin s).ran.notes) c → Contains (write_cells begin) c }
 {}
@@ -163,13 +197,16 @@ pub fn only_prints_print(program: &Program, fuel: u64)
 /// Where a program lies in memory is no matter: two programs with one tree run in the same way over
 /// the same tables, so they have the same outcome and the same chances to split off a task.
 pub fn only_the_tree_counts(p: &Program, q: &Program, tables: &[Table], fuel: u64)
-    ensures run { program_of p.now ≡ program_of q.now → whole_run p.now tables.now fuel ≡ whole_run q.now tables.now fuel }
-    ensures outcome { program_of p.now ≡ program_of q.now → meaning p.now tables.now fuel ≡ meaning q.now tables.now fuel }
-    ensures chances { program_of p.now ≡ program_of q.now → chances p.now tables.now fuel ≡ chances q.now tables.now fuel }
+    ensures run { program_of p.now ≡ program_of q.now
+        → whole_run p.now tables.now fuel ≡ whole_run q.now tables.now fuel }
+    ensures outcome { program_of p.now ≡ program_of q.now
+        → meaning p.now tables.now fuel ≡ meaning q.now tables.now fuel }
+    ensures chances { program_of p.now ≡ program_of q.now
+        → chances p.now tables.now fuel ≡ chances q.now tables.now fuel }
 {}
 
-/// The `par` loops of a `par` are itself and those of its body, where its variable is visible too and
-/// where it is the nearest of the `par` loops round.
+/// The `par` loops of a `par` are itself and those of its body, where its variable is visible too
+/// and where it is the nearest of the `par` loops round.
 pub fn a_par_is_round_its_body(l: &Parallel)
     ensures { (vs : List (List ℕ)) (rounds : List Loop) → bodies vs rounds (Par l.now) ≡
         body_of vs rounds l.now ∷ bodies_of_list (vs ++ l.now.var.text.items ∷ []) ((body_of vs rounds l.now).loop ∷ rounds) l.now.body.items }

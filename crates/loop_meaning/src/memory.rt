@@ -37,7 +37,8 @@ pub fn count_tick(m: &mut Memory, fuel: u64) -> Stop
 
 /// Makes a variable visible.
 pub fn declare(alloc: Global, m: &mut Memory, x: &[u8], n: i64) -> Result<(), NoMemory>
-    ensures { OnOk result (let s = state_of m.old in state_of m.new ≡ record s { vars = declare s.vars x.now n }) }
+    ensures { OnOk result
+        (let s = state_of m.old in state_of m.new ≡ record s { vars = declare s.vars x.now n }) }
 {
     let name = Items::new(x.to_vec(alloc)?);
     m.vars.push(Variable { name, value: n })?;

@@ -1,8 +1,11 @@
 // The run of a whole program.
 
-ghost use Rattle.std.specs.Prelude.{◌≡◌, ◌+◌, ◌*◌, ◌≤◌, IfOk, MatchOption, [], min, unsigned_abs, false, true};
+ghost use Rattle.std.specs.Prelude.{◌≡◌, ◌+◌, ◌*◌, ◌≤◌, IfOk, MatchOption, [], min, unsigned_abs};
+ghost use Rattle.std.specs.Prelude.{false, true};
 ghost use Rattle.loop_meaning.specs.State.{table_of};
-ghost use Rattle.loop_meaning.specs.Meaning.{meaning, cell_count, input_cells, is_bad_size, is_too_large, zero_table, make_tables, first_state, whole_run};
+ghost use Rattle.loop_meaning.specs.Meaning.{meaning, cell_count, input_cells, is_bad_size};
+ghost use Rattle.loop_meaning.specs.Meaning.{is_too_large, zero_table, make_tables, first_state};
+ghost use Rattle.loop_meaning.specs.Meaning.{whole_run};
 ghost use Rattle.loop_meaning.specs.Ends.{state_of, Ends};
 
 use crate::expression::{table_at, value_of};
@@ -83,7 +86,12 @@ fn is_bad_size(n: i64) -> bool
 /// The cells counted so far with those of a new table, or none where that is too large.
 fn more_cells(cells: u64, i: i64, j: i64) -> Option<u64>
     requires { cells ≤ TOO_MANY_CELLS }
-    ensures { MatchOption result (is_too_large cells i j ≡ true) (λ n. (is_too_large cells i j ≡ false) × (n ≡ cells + unsigned_abs i * unsigned_abs j) × (n ≤ MAX_TABLE_CELLS) × (unsigned_abs i ≤ MAX_SIDE) × (unsigned_abs j ≤ MAX_SIDE)) }
+    ensures { MatchOption result (is_too_large cells i j ≡ true)
+        (λ n. (is_too_large cells i j ≡ false)
+        × (n ≡ cells + unsigned_abs i * unsigned_abs j)
+        × (n ≤ MAX_TABLE_CELLS)
+        × (unsigned_abs i ≤ MAX_SIDE)
+        × (unsigned_abs j ≤ MAX_SIDE)) }
 {
     if is_bad_size(i) || is_bad_size(j) {
         return None;
@@ -123,7 +131,8 @@ fn make_tables(
     m: &mut Memory,
 ) -> Result<Stop, NoMemory>
     requires { first ≤ TOO_MANY_CELLS }
-    ensures { IfOk result (λ y. Ends (make_tables given.now first decls.now (state_of m.old)) y (state_of m.new)) }
+    ensures { IfOk result
+        (λ y. Ends (make_tables given.now first decls.now (state_of m.old)) y (state_of m.new)) }
 {
     let mut cells = first;
     for d in decls {
@@ -152,7 +161,8 @@ fn run_main(k: &Setting, tables: &[Table], m: &mut Memory) -> Result<Stop, NoMem
     requires no_reduces { k.now.reduces.now ≡ [] }
     requires depth { k.now.depth ≡ 0 }
     requires first { state_of m.old ≡ first_state }
-    ensures { IfOk result (λ y. Ends (whole_run k.now.program.now tables.now k.now.fuel) y (state_of m.new)) }
+    ensures { IfOk result
+        (λ y. Ends (whole_run k.now.program.now tables.now k.now.fuel) y (state_of m.new)) }
 {
     let cells = input_cells(&k.program.tables, tables);
     match make_tables(k.alloc, tables, cells, &k.program.tables, m)? {

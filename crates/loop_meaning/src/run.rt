@@ -3,7 +3,9 @@
 ghost use Rattle.std.specs.Prelude.{◌≡◌, ◌-◌, ◌+ℤ◌, IfOk, Some, [], ◌+◌, pos, FitsSigned};
 ghost use Rattle.std.specs.Int.{int_gap, w64};
 ghost use Rattle.tp_value.specs.declared.limits.TheConstants.{MAX_CALL_DEPTH};
-ghost use Rattle.loop_meaning.specs.Statements.{run, run_list, run_call, run_both, two_calls, block, turns, iteration, iterate, given_two, unless_wide, too_wide};
+ghost use Rattle.loop_meaning.specs.Statements.{run, run_list, run_call, run_both, two_calls};
+ghost use Rattle.loop_meaning.specs.Statements.{block, turns, iteration, iterate, given_two};
+ghost use Rattle.loop_meaning.specs.Statements.{unless_wide, too_wide};
 ghost use Rattle.loop_meaning.specs.Calls.{call_at, enter};
 ghost use Rattle.loop_meaning.specs.Ends.{setting_of, state_of, Ends, CallEnds};
 
@@ -19,7 +21,8 @@ use tp_value::{MAX_CALL_DEPTH, MAX_PAR_LENGTH, NoMemory, Stop, TrapKind};
 
 #[cycle(run)]
 fn run_stmt(k: &Setting, m: &mut Memory, s: &Stmt) -> Result<Stop, NoMemory>
-    ensures { IfOk result (λ x. Ends (run (setting_of k.now) s.now (state_of m.old)) x (state_of m.new)) }
+    ensures { IfOk result
+        (λ x. Ends (run (setting_of k.now) s.now (state_of m.old)) x (state_of m.new)) }
 {
     match s {
         Stmt::Let(x, e) => run_let(k.alloc, m, x, e),
@@ -49,7 +52,8 @@ fn run_stmt(k: &Setting, m: &mut Memory, s: &Stmt) -> Result<Stop, NoMemory>
 /// The statements of a list in order.
 #[cycle(run)]
 pub fn run_list(k: &Setting, m: &mut Memory, body: &[Stmt]) -> Result<Stop, NoMemory>
-    ensures { IfOk result (λ x. Ends (run_list (setting_of k.now) body.now (state_of m.old)) x (state_of m.new)) }
+    ensures { IfOk result
+        (λ x. Ends (run_list (setting_of k.now) body.now (state_of m.old)) x (state_of m.new)) }
 {
     for s in body {
         match run_stmt(k, m, s)? {
@@ -62,7 +66,9 @@ pub fn run_list(k: &Setting, m: &mut Memory, body: &[Stmt]) -> Result<Stop, NoMe
 
 #[cycle(run)]
 fn run_block(k: &Setting, m: &mut Memory, body: &[Stmt]) -> Result<Stop, NoMemory>
-    ensures { IfOk result (λ x. Ends (block (run_list (setting_of k.now) body.now) (state_of m.old)) x (state_of m.new)) }
+    ensures { IfOk result
+        (λ x. Ends (block (run_list (setting_of k.now) body.now) (state_of m.old)) x
+        (state_of m.new)) }
 {
     let n = m.vars.len();
     let stop = run_list(k, m, body)?;
@@ -73,7 +79,11 @@ fn run_block(k: &Setting, m: &mut Memory, body: &[Stmt]) -> Result<Stop, NoMemor
 /// A `while`: each turn counts a tick, so that turns beyond the fuel and one are never begun.
 #[cycle(run)]
 fn run_while(k: &Setting, m: &mut Memory, body: &[Stmt], e: &Expr) -> Result<Stop, NoMemory>
-    ensures { IfOk result (λ x. Ends (turns (k.now.fuel + 1) k.now.fuel e.now (block (run_list (setting_of k.now) body.now)) (state_of m.old)) x (state_of m.new)) }
+    ensures { IfOk result
+        (λ x. Ends
+        (turns (k.now.fuel + 1) k.now.fuel e.now (block (run_list (setting_of k.now) body.now))
+        (state_of m.old))
+        x (state_of m.new)) }
 {
     let turns = k.fuel + 1;
     for i in 0..turns {
@@ -106,7 +116,10 @@ fn run_iteration(
     x: &[u8],
     i: i64,
 ) -> Result<Stop, NoMemory>
-    ensures { IfOk result (λ y. Ends (iteration k.now.fuel x.now (run_list (setting_of k.now) body.now) [] i (state_of m.old)) y (state_of m.new)) }
+    ensures { IfOk result
+        (λ y. Ends
+        (iteration k.now.fuel x.now (run_list (setting_of k.now) body.now) [] i (state_of m.old))
+        y (state_of m.new)) }
 {
     let n = m.vars.len();
     match count_tick(m, k.fuel) {
@@ -133,7 +146,11 @@ fn run_iterations(
     n: u64,
 ) -> Result<Stop, NoMemory>
     requires { FitsSigned w64 (first +ℤ pos n) }
-    ensures { IfOk result (λ y. Ends (iterate k.now.fuel x.now (run_list (setting_of k.now) body.now) [] [] n first (state_of m.old)) y (state_of m.new)) }
+    ensures { IfOk result
+        (λ y. Ends
+        (iterate k.now.fuel x.now (run_list (setting_of k.now) body.now) [] [] n first
+        (state_of m.old))
+        y (state_of m.new)) }
 {
     for j in 0..n {
         match run_iteration(k, m, body, x, first.wrapping_add_unsigned(j))? {
@@ -160,7 +177,12 @@ fn run_loop(
     a: &Expr,
     b: &Expr,
 ) -> Result<Stop, NoMemory>
-    ensures { IfOk result (λ y. Ends (let s = state_of m.old in given_two a.now b.now s (λ i j. iterate k.now.fuel x.now.text.items (run_list (setting_of k.now) body.now) [] [] (int_gap i j) i s)) y (state_of m.new)) }
+    ensures { IfOk result
+        (λ y. Ends
+        (let s = state_of m.old in given_two a.now b.now s
+        (λ i j. iterate k.now.fuel x.now.text.items (run_list (setting_of k.now) body.now) [] []
+        (int_gap i j) i s))
+        y (state_of m.new)) }
 {
     match value_of(m, a) {
         Answer::Number(i) => match value_of(m, b) {
@@ -175,7 +197,13 @@ fn run_loop(
 #[cycle(run)]
 fn run_body(k: &Setting, m: &mut Memory, l: &ParLoop, first: i64, n: u64) -> Result<Stop, NoMemory>
     requires { FitsSigned w64 (first +ℤ pos n) }
-    ensures { IfOk result (λ y. Ends (iterate k.now.fuel l.now.var.text.items (run_list (record (setting_of k.now) { reduces = l.now.reduces.items }) l.now.body.items) [] [] n first (state_of m.old)) y (state_of m.new)) }
+    ensures { IfOk result
+        (λ y. Ends
+        (iterate k.now.fuel l.now.var.text.items
+        (run_list (record (setting_of k.now) { reduces = l.now.reduces.items })
+        l.now.body.items)
+        [] [] n first (state_of m.old))
+        y (state_of m.new)) }
 {
     let inner = Setting {
         alloc: k.alloc,
@@ -189,7 +217,16 @@ fn run_body(k: &Setting, m: &mut Memory, l: &ParLoop, first: i64, n: u64) -> Res
 
 #[cycle(run)]
 fn run_par(k: &Setting, m: &mut Memory, l: &ParLoop) -> Result<Stop, NoMemory>
-    ensures { IfOk result (λ y. Ends (let s = state_of m.old in given_two l.now.from l.now.to s (λ i j. unless_wide (too_wide i j) l.now.place (iterate k.now.fuel l.now.var.text.items (run_list (record (setting_of k.now) { reduces = l.now.reduces.items }) l.now.body.items) [] [] (int_gap i j) i) s)) y (state_of m.new)) }
+    ensures { IfOk result
+        (λ y. Ends
+        (let s = state_of m.old in given_two l.now.from l.now.to s
+        (λ i j. unless_wide (too_wide i j) l.now.place
+        (iterate k.now.fuel l.now.var.text.items
+        (run_list (record (setting_of k.now) { reduces = l.now.reduces.items })
+        l.now.body.items)
+        [] [] (int_gap i j) i)
+        s))
+        y (state_of m.new)) }
 {
     match value_of(m, &l.from) {
         Answer::Number(i) => match value_of(m, &l.to) {
@@ -210,7 +247,11 @@ fn run_par(k: &Setting, m: &mut Memory, l: &ParLoop) -> Result<Stop, NoMemory>
 /// A function's body and its result, at the depth of its call.
 #[cycle(run)]
 fn enter(k: &Setting, m: &mut Memory, f: &Func, ns: &[i64]) -> Result<Returned, NoMemory>
-    ensures { IfOk result (λ r. CallEnds (enter (record (setting_of k.now) { reduces = [] }) (Some f.now) ns.now [] (state_of m.old)) r.stop r.value (state_of m.new)) }
+    ensures { IfOk result
+        (λ r. CallEnds
+        (enter (record (setting_of k.now) { reduces = [] }) (Some f.now) ns.now []
+        (state_of m.old))
+        r.stop r.value (state_of m.new)) }
 {
     let inner = Setting {
         alloc: k.alloc,
@@ -239,7 +280,11 @@ fn enter(k: &Setting, m: &mut Memory, f: &Func, ns: &[i64]) -> Result<Returned, 
 /// A call of a function.
 #[cycle(run)]
 fn call(k: &Setting, m: &mut Memory, f: &Name, ns: &[i64]) -> Result<Returned, NoMemory>
-    ensures { IfOk result (λ r. CallEnds (call_at k.now.program.now.funcs.items k.now.fuel (MAX_CALL_DEPTH - k.now.depth) f.now.text.items f.now.place ns.now [] (state_of m.old)) r.stop r.value (state_of m.new)) }
+    ensures { IfOk result
+        (λ r. CallEnds
+        (call_at k.now.program.now.funcs.items k.now.fuel (MAX_CALL_DEPTH - k.now.depth)
+        f.now.text.items f.now.place ns.now [] (state_of m.old))
+        r.stop r.value (state_of m.new)) }
 {
     match count_tick(m, k.fuel) {
         Stop::Done => {}
@@ -263,7 +308,8 @@ fn call(k: &Setting, m: &mut Memory, f: &Name, ns: &[i64]) -> Result<Returned, N
 
 #[cycle(run)]
 fn run_call(k: &Setting, m: &mut Memory, x: &Name, f: &App) -> Result<Stop, NoMemory>
-    ensures { IfOk result (λ y. Ends (run_call (setting_of k.now) x.now f.now (state_of m.old)) y (state_of m.new)) }
+    ensures { IfOk result
+        (λ y. Ends (run_call (setting_of k.now) x.now f.now (state_of m.old)) y (state_of m.new)) }
 {
     match numbers_of(k.alloc, m, &f.args)? {
         Numbers::All(ns) => {
@@ -292,7 +338,10 @@ fn run_two(
     g: &Name,
     ms: &[i64],
 ) -> Result<Stop, NoMemory>
-    ensures { IfOk result (λ r. Ends (two_calls (setting_of k.now) x.now f.now ns.now y.now g.now ms.now [] (state_of m.old)) r (state_of m.new)) }
+    ensures { IfOk result
+        (λ r. Ends
+        (two_calls (setting_of k.now) x.now f.now ns.now y.now g.now ms.now [] (state_of m.old)) r
+        (state_of m.new)) }
 {
     let first = call(k, m, f, ns)?;
     match first.stop {
@@ -318,7 +367,9 @@ fn run_both(
     z: &Name,
     g: &App,
 ) -> Result<Stop, NoMemory>
-    ensures { IfOk result (λ y. Ends (run_both (setting_of k.now) x.now f.now z.now g.now (state_of m.old)) y (state_of m.new)) }
+    ensures { IfOk result
+        (λ y. Ends (run_both (setting_of k.now) x.now f.now z.now g.now (state_of m.old)) y
+        (state_of m.new)) }
 {
     match numbers_of(k.alloc, m, &f.args)? {
         Numbers::All(ns) => match numbers_of(k.alloc, m, &g.args)? {

@@ -3,7 +3,8 @@
 ghost use Rattle.std.specs.Prelude.{◌≡◌, IfOk, ◌++◌, if◌then◌else◌};
 ghost use Rattle.std.specs.Fmt.{signed_decimal};
 ghost use Rattle.loop_rules.specs.Names.{operator_of};
-ghost use Rattle.loop_meaning.specs.State.{State, declare, done, row_lines, table_of, has_cell, with_cell, write_cell, print_line, print_table};
+ghost use Rattle.loop_meaning.specs.State.{State, declare, done, row_lines, table_of, has_cell};
+ghost use Rattle.loop_meaning.specs.State.{with_cell, write_cell, print_line, print_table};
 ghost use Rattle.loop_meaning.specs.Statements.{given, given_two, set_var, folded, put_cell};
 ghost use Rattle.loop_meaning.specs.Ends.{state_of, Ends};
 
@@ -19,7 +20,10 @@ use tp_value::{Items, NoMemory, Op, Stop, Table, TrapKind};
 
 /// `let x = e;`
 pub fn run_let(alloc: Global, m: &mut Memory, x: &Name, e: &Expr) -> Result<Stop, NoMemory>
-    ensures { let s = state_of m.old in IfOk result (λ y. Ends (given e.now s (λ n. done (record s { vars = declare s.vars x.now.text.items n }))) y (state_of m.new)) }
+    ensures { let s = state_of m.old in IfOk result
+        (λ y. Ends
+        (given e.now s (λ n. done (record s { vars = declare s.vars x.now.text.items n }))) y
+        (state_of m.new)) }
 {
     match value_of(m, e) {
         Answer::Number(n) => {
@@ -32,7 +36,8 @@ pub fn run_let(alloc: Global, m: &mut Memory, x: &Name, e: &Expr) -> Result<Stop
 
 /// `x = e;`
 pub fn run_set(m: &mut Memory, x: &Name, e: &Expr) -> Stop
-    ensures { let s = state_of m.old in Ends (given e.now s (λ n. done (set_var x.now n s))) result (state_of m.new) }
+    ensures { let s = state_of m.old in Ends (given e.now s (λ n. done (set_var x.now n s))) result
+        (state_of m.new) }
 {
     match value_of(m, e) {
         Answer::Number(n) => {
@@ -57,7 +62,13 @@ fn operator_of(reduces: &[Reduce], x: &[u8]) -> Option<Op>
 
 /// `fold x with e;`
 pub fn run_fold(m: &mut Memory, reduces: &[Reduce], x: &Name, e: &Expr) -> Stop
-    ensures { let s = state_of m.old in Ends (given e.now s (λ n. done (record s { vars = folded (operator_of reduces.now x.now.text.items) s.vars x.now.text.items n }))) result (state_of m.new) }
+    ensures { let s = state_of m.old in Ends
+        (given e.now s
+        (λ n. done
+        (record s {
+          vars = folded (operator_of reduces.now x.now.text.items) s.vars x.now.text.items n;
+        })))
+        result (state_of m.new) }
 {
     match value_of(m, e) {
         Answer::Number(n) => {
@@ -84,7 +95,8 @@ fn push_number(alloc: Global, out: &mut Vec<u8>, n: i64) -> Result<(), NoMemory>
 
 /// `print e;`
 pub fn run_print(alloc: Global, m: &mut Memory, e: &Expr) -> Result<Stop, NoMemory>
-    ensures { let s = state_of m.old in IfOk result (λ y. Ends (given e.now s (λ n. done (print_line n s))) y (state_of m.new)) }
+    ensures { let s = state_of m.old in IfOk result
+        (λ y. Ends (given e.now s (λ n. done (print_line n s))) y (state_of m.new)) }
 {
     match value_of(m, e) {
         Answer::Number(n) => {
@@ -97,7 +109,8 @@ pub fn run_print(alloc: Global, m: &mut Memory, e: &Expr) -> Result<Stop, NoMemo
 }
 
 fn push_table(out: &mut Vec<u8>, t: &Table) -> Result<(), NoMemory>
-    ensures { IfOk result (λ u. out.new.items ≡ out.old.items ++ row_lines t.now.rows t.now.cols t.now.cells) }
+    ensures { IfOk result
+        (λ u. out.new.items ≡ out.old.items ++ row_lines t.now.rows t.now.cols t.now.cells) }
 {
     let cols = t.cols as usize;
     let mut rest = t.cells.items();
@@ -112,7 +125,8 @@ fn push_table(out: &mut Vec<u8>, t: &Table) -> Result<(), NoMemory>
 
 /// `emit t;`
 pub fn run_emit(m: &mut Memory, t: &Name) -> Result<Stop, NoMemory>
-    ensures { let s = state_of m.old in IfOk result (λ y. Ends (done (print_table (table_of s.tables t.now.text.items) s)) y (state_of m.new)) }
+    ensures { let s = state_of m.old in IfOk result
+        (λ y. Ends (done (print_table (table_of s.tables t.now.text.items) s)) y (state_of m.new)) }
 {
     match table_at(&m.tables, t.text.as_slice()) {
         Some(table) => push_table(&mut m.output, table)?,
@@ -140,7 +154,9 @@ fn put_in(alloc: Global, t: &mut Table, i: i64, j: i64, n: i64) -> bool
 
 fn put_cell(alloc: Global, tables: &mut [Table], x: &[u8], i: i64, j: i64, n: i64) -> bool
     ensures answer { result ≡ has_cell (table_of tables.old x.now) i j }
-    ensures after { tables.new ≡ (if has_cell (table_of tables.old x.now) i j then write_cell tables.old x.now i j n else tables.old) }
+    ensures after { tables.new
+        ≡ (if has_cell (table_of tables.old x.now) i j then write_cell tables.old x.now i j n else
+        tables.old) }
 {
     for k in 0..tables.len() {
         if tables[k].name.items() == x {
@@ -152,7 +168,9 @@ fn put_cell(alloc: Global, tables: &mut [Table], x: &[u8], i: i64, j: i64, n: i6
 
 /// `t[a][b] = e;`
 pub fn run_put(alloc: Global, m: &mut Memory, t: &Name, a: &Expr, b: &Expr, e: &Expr) -> Stop
-    ensures { let s = state_of m.old in Ends (given_two a.now b.now s (λ i j. given e.now s (λ n. put_cell t.now i j n s))) result (state_of m.new) }
+    ensures { let s = state_of m.old in Ends
+        (given_two a.now b.now s (λ i j. given e.now s (λ n. put_cell t.now i j n s))) result
+        (state_of m.new) }
 {
     match value_of(m, a) {
         Answer::Number(i) => match value_of(m, b) {

@@ -1,9 +1,12 @@
 -- When a call of a stack is refused. Each refusal has one cause here, and a call that is not
 -- refused has none.
-use Rattle.std.specs.Prelude.{◌≡◌, ◌≢◌, ℕ, ◌+◌, ◌-◌, ◌<◌, ◌≤◌, ◌^◌, ℤ, pos, Option, None, Some, IsSome, length, All, Any}
+use Rattle.std.specs.Prelude.{◌≡◌, ◌≢◌, ℕ, ◌+◌, ◌-◌, ◌<◌, ◌≤◌, ◌^◌, ℤ, pos, Option, None, Some}
+use Rattle.std.specs.Prelude.{IsSome, length, All, Any}
 use Rattle.stack_marks.specs.declared.mark.Mark.{Mark}
 use Rattle.stack_marks.specs.declared.mark.StackFault.{StackFault}
-use Rattle.stack_marks.specs.declared.mark.StackFault.TheVariants.{OutOfRange, NotMarked, MarkedCell, MarkOrder, TooLong, NoMemory}
+use Rattle.stack_marks.specs.declared.mark.StackFault.TheVariants.{OutOfRange, NotMarked}
+use Rattle.stack_marks.specs.declared.mark.StackFault.TheVariants.{MarkedCell, MarkOrder, TooLong}
+use Rattle.stack_marks.specs.declared.mark.StackFault.TheVariants.{NoMemory}
 use Rattle.stack_marks.specs.Stacks.{StackValue, word_at}
 
 -- the cells up to the limit of positions have room for n more

@@ -12,11 +12,18 @@ pub record LinksValue : Type 0 where
 
 -- the mark at a position taken away
 abbrev pub without : LinksValue → ℕ → LinksValue
-without s at = record { lowest = s.lowest; room = s.room; marks = filter (λ m. not (int_eq (pos m.at) (pos at))) s.marks }
+without s at =
+    record {
+      lowest = s.lowest;
+      room = s.room;
+      marks = filter
+          (λ m. not (int_eq (pos m.at) (pos at))) s.marks;
+    }
 
 -- the marks below a position taken away
 abbrev pub from_on : LinksValue → ℕ → LinksValue
-from_on s low = record { lowest = s.lowest; room = s.room; marks = filter (λ m. nat_le low m.at) s.marks }
+from_on s low =
+    record { lowest = s.lowest; room = s.room; marks = filter (λ m. nat_le low m.at) s.marks }
 
 -- links of cells from a position on, with no mark and room for so many
 abbrev pub HasLinks : LinksValue → ℕ → ℕ → Type 0

@@ -1,5 +1,7 @@
 -- What a stack is seen as, and what each call makes of it.
-use Rattle.std.specs.Prelude.{◌≡◌, ℕ, suc, ◌+◌, ◌-◌, ◌<◌, ◌≤◌, ◌^◌, ℤ, pos, negsuc, not, nat_le, if◌then◌else◌, Option, None, List, [], ◌∷◌, ◌++◌, length, take, drop, slice_get, slice_index_or, slice_set, filter, replicate}
+use Rattle.std.specs.Prelude.{◌≡◌, ℕ, suc, ◌+◌, ◌-◌, ◌<◌, ◌≤◌, ◌^◌, ℤ, pos, negsuc, not, nat_le}
+use Rattle.std.specs.Prelude.{if◌then◌else◌, Option, None, List, [], ◌∷◌, ◌++◌, length, take, drop}
+use Rattle.std.specs.Prelude.{slice_get, slice_index_or, slice_set, filter, replicate}
 use Rattle.std.specs.Ordering.{int_eq}
 use Rattle.tpal_syntax.specs.declared.words.Word.{Word}
 use Rattle.tpal_syntax.specs.declared.words.Word.TheVariants.{Nil}
@@ -47,7 +49,8 @@ popped s n = record { base = s.base; cells = take (length s.cells - n) s.cells; 
 
 -- one word set
 abbrev pub with_word : StackValue → ℤ → Word → StackValue
-with_word s (pos at) word = record { base = s.base; cells = slice_set s.cells (at - s.base) word; marks = s.marks }
+with_word s (pos at) word =
+    record { base = s.base; cells = slice_set s.cells (at - s.base) word; marks = s.marks }
 with_word s (negsuc at) word = s
 
 -- one more mark, the newest
@@ -56,7 +59,13 @@ marked s m = record { base = s.base; cells = s.cells; marks = s.marks ++ m ∷ [
 
 -- the mark at a position taken away
 abbrev pub unmarked : StackValue → ℤ → StackValue
-unmarked s at = record { base = s.base; cells = s.cells; marks = filter (λ m. not (int_eq (pos m.at) at)) s.marks }
+unmarked s at =
+    record {
+      base = s.base;
+      cells = s.cells;
+      marks = filter (λ m. not (int_eq (pos m.at) at))
+          s.marks;
+    }
 
 -- the oldest mark taken away
 abbrev pub without_oldest : StackValue → StackValue
@@ -68,7 +77,8 @@ rest_of s base n = record { base = s.base; cells = take (base + n - s.base) s.ce
 
 -- the cells that the child of such a cut begins with
 abbrev pub child_of : StackValue → ℕ → ℕ → StackValue
-child_of s base n = record { base = base; cells = take n (drop (base - s.base) s.cells); marks = [] }
+child_of s base n =
+    record { base = base; cells = take n (drop (base - s.base) s.cells); marks = [] }
 
 -- where the left of such a cut begins: a loop's keeps the activation, a call's what lies above it
 abbrev pub left_base : CutKind → ℕ → ℕ → ℕ
@@ -76,7 +86,13 @@ left_base Loop base n = base
 left_base Call base n = base + n
 
 abbrev pub from_position : StackValue → ℕ → StackValue
-from_position s low = record { base = low; cells = drop (low - s.base) s.cells; marks = filter (λ m. nat_le low m.at) s.marks }
+from_position s low =
+    record {
+      base = low;
+      cells = drop (low - s.base) s.cells;
+      marks = filter (λ m. nat_le low m.at)
+          s.marks;
+    }
 
 abbrev pub left_of : StackValue → ℕ → ℕ → CutKind → StackValue
 left_of s base n kind = from_position s (left_base kind base n)

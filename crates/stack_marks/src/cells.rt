@@ -1,9 +1,11 @@
 // The stack, and the calls on its cells.
 
-ghost use Rattle.std.specs.Prelude.{◌≡◌, ℕ, ◌+◌, ◌-◌, ◌<◌, ◌≤◌, ◌^◌, [], length, All, Any, IsSome, IfOk, IfErr, OnOk, OnErr, MatchOption, Ok, Err, Some, None};
+ghost use Rattle.std.specs.Prelude.{◌≡◌, ℕ, ◌+◌, ◌-◌, ◌<◌, ◌≤◌, ◌^◌, [], length, All, Any, IsSome};
+ghost use Rattle.std.specs.Prelude.{IfOk, IfErr, OnOk, OnErr, MatchOption, Ok, Err, Some, None};
 ghost use Rattle.std.specs.Bool.{OnTrue, OnFalse};
 ghost use Rattle.stack_marks.specs.Stacks.{word_at, pushed, popped, with_word, InOrder};
-ghost use Rattle.stack_marks.specs.Causes.{HasRoom, PushCause, PopCause, new_top, IsNoPosition, IsIndex};
+ghost use Rattle.stack_marks.specs.Causes.{HasRoom, PushCause, PopCause, new_top, IsNoPosition};
+ghost use Rattle.stack_marks.specs.Causes.{IsIndex};
 
 use crate::links::Links;
 use crate::mark::StackFault;
@@ -69,8 +71,8 @@ impl Stack {
         Ok(())
     }
 
-    /// The same where there may be no room yet. It stands apart, so that the call that finds room is
-    /// short.
+    /// The same where there may be no room yet. It stands apart, so that the call that finds room
+    /// is short.
     #[inline(never)]
     fn push_growing(&mut self, cells: u32) -> Result<(), StackFault>
         ensures pushed { OnOk result (self.new ≡ pushed self.old cells) }
@@ -110,7 +112,8 @@ impl Stack {
 
     /// The word at a position; `OutOfRange` where it isn't one of the stack.
     pub fn get(&self, at: i64) -> Result<Word, StackFault>
-        ensures { MatchOption (word_at self.now at) (result ≡ Err StackFault.OutOfRange) (λ word. result ≡ Ok word) }
+        ensures { MatchOption (word_at self.now at) (result ≡ Err StackFault.OutOfRange)
+            (λ word. result ≡ Ok word) }
     {
         match index_of(self.base, self.cells.len(), at) {
             Some(index) => Ok(self.cells[index]),

@@ -1,6 +1,7 @@
 // A stack cut at an activation.
 
-ghost use Rattle.std.specs.Prelude.{◌≡◌, ◌+◌, ◌≤◌, ◌-◌, [], length, take, drop, filter, nat_le, OnOk, IfOk, IfErr};
+ghost use Rattle.std.specs.Prelude.{◌≡◌, ◌+◌, ◌≤◌, ◌-◌, [], length, take, drop, filter, nat_le};
+ghost use Rattle.std.specs.Prelude.{OnOk, IfOk, IfErr};
 ghost use Rattle.stack_marks.specs.Links.{HasLinks};
 ghost use Rattle.stack_marks.specs.Stacks.{IsSound, rest_of, left_of, child_of};
 ghost use Rattle.stack_marks.specs.Causes.{Holds, CutCause};
@@ -23,8 +24,8 @@ pub struct Cut {
 }
 
 impl Stack {
-    /// Cuts the stack at an activation, `cells` cells from position `base` on: the rest has all cells
-    /// below the activation's end, the child those of the activation, and the left those from
+    /// Cuts the stack at an activation, `cells` cells from position `base` on: the rest has all
+    /// cells below the activation's end, the child those of the activation, and the left those from
     /// `base` on for a loop, and from the activation's end on for a call, with the marks there. It
     /// is refused where the activation isn't in the stack, and for want of memory, and hands the
     /// stack back then.
@@ -94,7 +95,13 @@ fn parts(stack: Stack, copies: CutMemory, base: u64, high: usize, left_base: u64
     requires child_links { HasLinks copies.child_links base (length copies.child.items) }
     requires rest_links { HasLinks copies.rest_links stack.base high }
     ensures rest { result.rest ≡ record { base = stack.base; cells = take high stack.cells; marks = [] } }
-    ensures left { result.left ≡ record { base = left_base; cells = copies.left.items; marks = filter (λ m. nat_le left_base m.at) stack.marks } }
+    ensures left { result.left
+        ≡ record {
+          base = left_base;
+          cells = copies.left.items;
+          marks = filter
+              (λ m. nat_le left_base m.at) stack.marks;
+        } }
     ensures child { result.child ≡ record { base = base; cells = copies.child.items; marks = [] } }
 {
     let CutMemory {

@@ -1,6 +1,8 @@
 // The marks of a stack, linked from each marked cell to the next older and the next newer.
 
-ghost use Rattle.std.specs.Prelude.{◌≡◌, ◌≢◌, ◌+◌, ◌-◌, ◌<◌, ◌≤◌, ◌^◌, [], ◌∷◌, ◌++◌, length, replicate, true, All, Any, IfOk, IfSome, IfNone, OnOk, slice_get};
+ghost use Rattle.std.specs.Prelude.{◌≡◌, ◌≢◌, ◌+◌, ◌-◌, ◌<◌, ◌≤◌, ◌^◌, [], ◌∷◌, ◌++◌, length};
+ghost use Rattle.std.specs.Prelude.{replicate, true, All, Any, IfOk, IfSome, IfNone, OnOk};
+ghost use Rattle.std.specs.Prelude.{slice_get};
 ghost use Rattle.std.specs.Bool.{OnTrue, OnFalse};
 ghost use Rattle.std.specs.Vec.{vec_capacity};
 ghost use Rattle.stack_marks.specs.Links.{without, from_on};
@@ -114,7 +116,9 @@ impl Links {
 
     /// The position of the newest mark.
     pub(crate) fn newest(&self) -> Option<u64>
-        ensures some { IfSome result (λ newest. Any (λ m. m.at ≡ newest) self.now.marks × All (λ m. m.at ≤ newest) self.now.marks) }
+        ensures some { IfSome result
+            (λ newest. Any (λ m. m.at ≡ newest) self.now.marks
+            × All (λ m. m.at ≤ newest) self.now.marks) }
         ensures none { IfNone result (self.now.marks ≡ []) }
     {
         match self.ends {

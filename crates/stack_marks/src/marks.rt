@@ -1,7 +1,9 @@
 // The calls on marks. None of them takes memory: each cell came with room for a mark and its links.
 
-ghost use Rattle.std.specs.Prelude.{◌≡◌, ◌≢◌, ℕ, pos, ◌<◌, ◌^◌, length, All, Any, IsSome, IfSome, IfNone, IfErr, OnOk, OnErr, slice_get};
-ghost use Rattle.stack_marks.specs.Stacks.{word_at, marked, unmarked, without_oldest, InOrder, IsAt};
+ghost use Rattle.std.specs.Prelude.{◌≡◌, ◌≢◌, ℕ, pos, ◌<◌, ◌^◌, length, All, Any, IsSome, IfSome};
+ghost use Rattle.std.specs.Prelude.{IfNone, IfErr, OnOk, OnErr, slice_get};
+ghost use Rattle.stack_marks.specs.Stacks.{word_at, marked, unmarked, without_oldest, InOrder};
+ghost use Rattle.stack_marks.specs.Stacks.{IsAt};
 ghost use Rattle.stack_marks.specs.Causes.{HoldsMark, MarkCause, UnmarkCause};
 
 use crate::cells::{Stack, index_of, stands_from};
@@ -31,8 +33,8 @@ impl Stack {
         Ok(())
     }
 
-    /// Takes the mark at a position away. It is refused where it isn't a position of the stack, then
-    /// where no mark stands there.
+    /// Takes the mark at a position away. It is refused where it isn't a position of the stack,
+    /// then where no mark stands there.
     pub fn unmark(&mut self, at: i64) -> Result<(), StackFault>
         ensures unmarked { OnOk result (self.new ≡ unmarked self.old at) }
         ensures held { OnOk result (IsSome (word_at self.old at) × Any (λ m. pos m.at ≡ at) self.old.marks) }
