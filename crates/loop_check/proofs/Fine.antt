@@ -1,4 +1,4 @@
--- What it means at each site that no rule is broken, and that functions write nothing.
+-- What it means at each site that no rule is broken, and that functions write and print nothing.
 use Rattle.std.proofs.Common.{◌≡◌, ℕ, List, [], ◌∷◌, ◌++◌, Some, Bool, true, false, cond, bytes_eq, refl, subst, Contains}
 use Rattle.tp_value.specs.declared.Place.{Place}
 use Rattle.loop_syntax.specs.declared.Name.{Name}
@@ -7,15 +7,15 @@ use Rattle.loop_syntax.specs.declared.Program.{Program}
 use Rattle.loop_rules.specs.declared.part.Part.TheVariants.{OfFunc}
 use Rattle.loop_rules.specs.Names.{func_of}
 use Rattle.loop_rules.specs.Sites.{Act, DeclaresTable, DeclaresFunc, DeclaresAll, Declares, Uses, Assigns, Folds, AssignsBoth, NamesTable, ReadsCell, WritesCell, Calls, Evaluates, Shows, Parallel, Spot, Site, in_whole, in_list, in_params, in_decls, declared_var, spot_of_list, top, tables_of, func_spot, in_func, in_funcs, in_main, sites}
-use Rattle.loop_rules.specs.Broken.{C1', C2', C3', C4', C5', C6', C7', C8', C10'}
+use Rattle.loop_rules.specs.Broken.{C1', C2', C3', C4', C5', C6', C7', C8', C9', C10'}
 use Rattle.loop_rules.specs.Scopes.{at, c1, c10}
 use Rattle.loop_rules.specs.Reductions.{any_loop, c2, c3}
 use Rattle.loop_rules.specs.Carries.{carries, c4, c5, c6}
-use Rattle.loop_rules.specs.Keeps.{in_function, c7}
+use Rattle.loop_rules.specs.Keeps.{in_function, c7, c9}
 use Rattle.loop_rules.specs.Reading.{ReadsTable}
 use Rattle.loop_check.specs.Unbroken.{NoneBroken}
 use Rattle.loop_check.proofs.Lists.{Each, each_left, each_right, each_both, each_of, contains_here}
-use Rattle.loop_check.proofs.Calls.{NotWrite, NoWrites}
+use Rattle.loop_check.proofs.Calls.{Quiet, QuietFuncs}
 use Rattle.loop_check.proofs.Walk.{whole_walk, list_walk, end_walk}
 
 pub at_none : (x : Name) (b : Bool) → at x b ≡ [] → b ≡ false
@@ -44,6 +44,7 @@ pub record Fine (p : Program) (a : Act) (w : Spot) : Type 0 where
   pub f6 : c6 a w ≡ []
   pub f7 : c7 a w ≡ []
   pub f8 : (c : Name) (n : ℕ) → a ≡ Calls c n → (t : List ℕ) → ReadsTable p c.text.items t → any_loop (carries t) w.rounds ≡ true → ⊥
+  pub f9 : c9 a w ≡ []
   pub f10 : c10 a w ≡ []
 
 abbrev pub AllFine : Program → List Site → Type 0
@@ -62,6 +63,7 @@ module _ (p : Program) (none : NoneBroken p) where
     f6 = none_of (c6 s.act s.spot) (λ q k. none.unbroken C6' q (record { where_at = s; stands = h; breaks = k }));
     f7 = none_of (c7 s.act s.spot) (λ q k. none.unbroken C7' q (record { where_at = s; stands = h; breaks = k }));
     f8 = λ c n e t r k. none.unbroken C8' c.place (record { where_at = s; stands = h; breaks = record { callee = c; arguments = n; is_call = e; table = t; reads = r; carried = k; here = refl } });
+    f9 = none_of (c9 s.act s.spot) (λ q k. none.unbroken C9' q (record { where_at = s; stands = h; breaks = k }));
     f10 = none_of (c10 s.act s.spot) (λ q k. none.unbroken C10' q (record { where_at = s; stands = h; breaks = k }));
   }
 
@@ -81,52 +83,53 @@ pub body_fine : (p : Program) (f : Func) → AllFine p (in_func p f) → AllFine
 body_fine p f h =
     each_right (λ (s : Site). Fine p s.act s.spot) (in_params (top OfFunc (tables_of p) p.funcs.items) f.params.items) (in_list (func_spot p f) f.body.items ++ in_whole (spot_of_list (func_spot p f) f.body.items) f.result) h.1
 
--- what is done in a function is no write
-not_write : (p : Program) (a : Act) (w : Spot) → Fine p a w → w.part ≡ OfFunc → NotWrite a
-not_write p (WritesCell t a b) w f i = let h : in_function OfFunc t.place ≡ [] = subst (λ z. in_function z t.place ≡ []) i f.f7 in absurd (cc)
-not_write p (ReadsCell t a b) w f i = tt
-not_write p (Assigns y) w f i = tt
-not_write p (Folds y) w f i = tt
-not_write p (Calls c n) w f i = tt
-not_write p (DeclaresTable t) w f i = tt
-not_write p (DeclaresFunc d) w f i = tt
-not_write p (DeclaresAll ys) w f i = tt
-not_write p (Declares y) w f i = tt
-not_write p (Uses y) w f i = tt
-not_write p (AssignsBoth y z) w f i = tt
-not_write p (NamesTable t) w f i = tt
-not_write p (Evaluates e) w f i = tt
-not_write p (Shows q) w f i = tt
-not_write p (Parallel q z l) w f i = tt
+-- what is done in a function writes and prints nothing
+act_quiet : (p : Program) (a : Act) (w : Spot) → Fine p a w → w.part ≡ OfFunc → Quiet a
+act_quiet p (WritesCell t a b) w f i = let h : in_function OfFunc t.place ≡ [] = subst (λ z. in_function z t.place ≡ []) i f.f7 in absurd (cc)
+act_quiet p (ReadsCell t a b) w f i = tt
+act_quiet p (Assigns y) w f i = tt
+act_quiet p (Folds y) w f i = tt
+act_quiet p (Calls c n) w f i = tt
+act_quiet p (DeclaresTable t) w f i = tt
+act_quiet p (DeclaresFunc d) w f i = tt
+act_quiet p (DeclaresAll ys) w f i = tt
+act_quiet p (Declares y) w f i = tt
+act_quiet p (Uses y) w f i = tt
+act_quiet p (AssignsBoth y z) w f i = tt
+act_quiet p (NamesTable t) w f i = tt
+act_quiet p (Evaluates e) w f i = tt
+act_quiet p (Shows q) w f i = let h : in_function OfFunc q ≡ [] = subst (λ z. in_function z q ≡ []) i f.f7 in absurd (cc)
+act_quiet p (Parallel q z l) w f i = tt
 
-params_quiet : (w : Spot) (xs : List Name) → Each (λ (s : Site). NotWrite s.act) (in_params w xs)
+params_quiet : (w : Spot) (xs : List Name) → Each (λ (s : Site). Quiet s.act) (in_params w xs)
 params_quiet w [] = tt
 params_quiet w (x ∷ xs) = (tt, params_quiet (declared_var w x) xs)
 
-func_quiet : (p : Program) (f : Func) → AllFine p (in_func p f) → Each (λ (s : Site). NotWrite s.act) (in_func p f)
+func_quiet : (p : Program) (f : Func) → AllFine p (in_func p f) → Each (λ (s : Site). Quiet s.act) (in_func p f)
 func_quiet p f h =
     let w : Spot = func_spot p f in
     let body : List Site = in_list w f.body.items in
     let last : List Site = in_whole (spot_of_list w f.body.items) f.result in
     let both : AllFine p (body ++ last) = body_fine p f h in
-    let quiet : Site → Type 0 = λ s. NotWrite s.act in (
+    let quiet : Site → Type 0 = λ s. Quiet s.act in (
       tt,
       each_both quiet (in_params (top OfFunc (tables_of p) p.funcs.items) f.params.items) (body ++ last) (params_quiet _ f.params.items) (each_both quiet body last
-          (list_walk (Fine p) (λ a w. NotWrite a) (λ w. w.part ≡ OfFunc) (not_write p) (λ w y i. i) (λ w y i. i) (λ w y cs rs q z g c i. i) w refl f.body.items (each_left _ body last both))
-          (whole_walk (Fine p) (λ a w. NotWrite a) (λ w. w.part ≡ OfFunc) (not_write p) (λ w y i. i) (λ w y i. i) (λ w y cs rs q z g c i. i) (spot_of_list w f.body.items)
-          (end_walk (Fine p) (λ a w. NotWrite a) (λ w. w.part ≡ OfFunc) (not_write p) (λ w y i. i) (λ w y i. i) (λ w y cs rs q z g c i. i) w refl f.body.items) f.result (each_right _ body last both))),
+          (list_walk (Fine p) (λ a w. Quiet a) (λ w. w.part ≡ OfFunc) (act_quiet p) (λ w y i. i) (λ w y i. i) (λ w y cs rs q z g c i. i) w refl f.body.items (each_left _ body last both))
+          (whole_walk (Fine p) (λ a w. Quiet a) (λ w. w.part ≡ OfFunc) (act_quiet p) (λ w y i. i) (λ w y i. i) (λ w y cs rs q z g c i. i) (spot_of_list w f.body.items)
+          (end_walk (Fine p) (λ a w. Quiet a) (λ w. w.part ≡ OfFunc) (act_quiet p) (λ w y i. i) (λ w y i. i) (λ w y cs rs q z g c i. i) w refl f.body.items) f.result (each_right _ body last both))),
     )
 
--- the functions of a program that breaks no rule write nothing
-funcs_quiet : (p : Program) (before fs : List Func) → AllFine p (in_funcs p before fs) → (f : List ℕ) (g : Func) → func_of fs f ≡ Some g → Each (λ (s : Site). NotWrite s.act) (in_func p g)
-funcs_quiet p before [] h f g e = absurd (cc)
-funcs_quiet p before (d ∷ ds) h f g e =
-    go (λ k. funcs_quiet p (before ++ d ∷ []) ds (each_right (λ (s : Site). Fine p s.act s.spot) (in_func p d) (in_funcs p (before ++ d ∷ []) ds) h.1) f g k)
-    (func_quiet p d (each_left (λ (s : Site). Fine p s.act s.spot) (in_func p d) (in_funcs p (before ++ d ∷ []) ds) h.1)) (bytes_eq d.name.text.items f) e
+-- the function of that name
+pub func_fine : (p : Program) (before fs : List Func) → AllFine p (in_funcs p before fs) → (f : List ℕ) (g : Func) → func_of fs f ≡ Some g → AllFine p (in_func p g)
+func_fine p before [] h f g e = absurd (cc)
+func_fine p before (d ∷ ds) h f g e =
+    go (λ k. func_fine p (before ++ d ∷ []) ds (each_right (λ (s : Site). Fine p s.act s.spot) (in_func p d) (in_funcs p (before ++ d ∷ []) ds) h.1) f g k)
+    (each_left (λ (s : Site). Fine p s.act s.spot) (in_func p d) (in_funcs p (before ++ d ∷ []) ds) h.1) (bytes_eq d.name.text.items f) e
   where
-    go : (func_of ds f ≡ Some g → Each (λ (s : Site). NotWrite s.act) (in_func p g)) → Each (λ (s : Site). NotWrite s.act) (in_func p d) → (b : Bool) → cond b (Some d) (func_of ds f) ≡ Some g → Each (λ (s : Site). NotWrite s.act) (in_func p g)
-    go k l true q = (let m : d ≡ g = cc in subst (λ z. Each (λ (s : Site). NotWrite s.act) (in_func p z)) m l)
+    go : (func_of ds f ≡ Some g → AllFine p (in_func p g)) → AllFine p (in_func p d) → (b : Bool) → cond b (Some d) (func_of ds f) ≡ Some g → AllFine p (in_func p g)
+    go k l true q = (let m : d ≡ g = cc in subst (λ z. AllFine p (in_func p z)) m l)
     go k l false q = k q
 
-pub no_writes : (p : Program) → NoneBroken p → NoWrites p
-no_writes p none = λ f g e. funcs_quiet p [] p.funcs.items (funcs_fine p none) f g e
+-- the functions of a program that breaks no rule write and print nothing
+pub quiet_funcs : (p : Program) → NoneBroken p → QuietFuncs p
+quiet_funcs p none = λ f g e. func_quiet p g (func_fine p [] p.funcs.items (funcs_fine p none) f g e)

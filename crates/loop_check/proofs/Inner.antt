@@ -17,7 +17,7 @@ use Rattle.loop_rules.specs.Reductions.{any_loop, reduced}
 use Rattle.loop_rules.specs.Sites.{Loop, Act, DeclaresTable, DeclaresFunc, DeclaresAll, Declares, Uses, Assigns, Folds, AssignsBoth, NamesTable, ReadsCell, WritesCell, Calls, Evaluates, Shows, Parallel, Spot, in_list}
 use Rattle.loop_meaning.specs.declared.value.Answer.TheVariants.{Number}
 use Rattle.loop_meaning.specs.declared.value.Variable.{Variable}
-use Rattle.loop_meaning.specs.State.{lookup}
+use Rattle.loop_meaning.specs.State.{State, lookup, declare}
 use Rattle.loop_meaning.specs.Expressions.{eval}
 use Rattle.loop_check.proofs.Bools.{no_both, not_false, and_left, and_right}
 use Rattle.loop_check.proofs.Found.{found_lookup, place_in, eq_is, is_in_more}
@@ -49,14 +49,21 @@ WriteRegion h x (Some c) a b = Region h x c a b
 abbrev pub Kept : Loop → List ℕ → Type 0
 Kept r y = (is_in r.outside y ≡ true) × (reduced y r ≡ false)
 
--- what an iteration of that loop may touch of the table x, where its body begins with these variables
-abbrev pub mode_of : Loop → List ℕ → List Variable → Mode
-mode_of r x vs = record {
+-- the state in which the body of iteration i begins, but for the tick
+abbrev pub begun : State → List ℕ → ℤ → State
+begun s x i = record s { vars = declare s.vars x i }
+
+-- what an iteration of that loop may touch of the table x, where its body begins in this state
+abbrev pub mode_of : Loop → List ℕ → State → Mode
+mode_of r x start = record {
   frozen = λ y. (y ≡ r.var) ⊎ Kept r y;
   stands = λ y. place_in (r.outside ++ r.var ∷ []) y;
-  holds = λ y. lookup vs y;
-  reads = λ t a b. t ≡ x → ReadRegion (λ y. lookup vs y) r.var (item_of r.carries x) a b;
-  writes = λ t a b. t ≡ x → WriteRegion (λ y. lookup vs y) r.var (item_of r.carries x) a b;
+  holds = λ y. lookup start.vars y;
+  reads = λ t a b. t ≡ x → ReadRegion (λ y. lookup start.vars y) r.var (item_of r.carries x) a b;
+  writes = λ t a b. t ≡ x → WriteRegion (λ y. lookup start.vars y) r.var (item_of r.carries x) a b;
+  shows = Unit {0};
+  tables = start.tables;
+  output = start.output;
 }
 
 var_value : (a : Expr) (y : List ℕ) → is_var a y ≡ true → (vs : List Variable) (ts : List Table) (i : ℤ) → (eval vs ts a).answer ≡ Number i → lookup vs y ≡ i
@@ -81,25 +88,25 @@ int_value (Neg' p a l) m h vs ts i e = absurd (no_both true refl (sym h))
 int_value (Bin' o l p a q b) m h vs ts i e = absurd (no_both true refl (sym h))
 
 -- a cell of the shape lies in the region
-module _ (r : Loop) (x : List ℕ) (rows : (y : List ℕ) → RowVar (item_of r.carries x) y → Kept r y) (start : List Variable) (vs : List Variable) (ts : List Table) (fixed : Fixed (mode_of r x start) vs) (a b : Expr) (i j : ℤ) (ea : (eval vs ts a).answer ≡ Number i) (eb : (eval vs ts b).answer ≡ Number j) where
-  kept : (y : List ℕ) → (y ≡ r.var) ⊎ Kept r y → lookup vs y ≡ lookup start y
-  kept y f = found_lookup (place_in (r.outside ++ r.var ∷ []) y) vs y (lookup start y) (fixed.found y f)
+module _ (r : Loop) (x : List ℕ) (rows : (y : List ℕ) → RowVar (item_of r.carries x) y → Kept r y) (start s : State) (fixed : Fixed (mode_of r x start) s) (a b : Expr) (i j : ℤ) (ea : (eval s.vars s.tables a).answer ≡ Number i) (eb : (eval s.vars s.tables b).answer ≡ Number j) where
+  kept : (y : List ℕ) → (y ≡ r.var) ⊎ Kept r y → lookup s.vars y ≡ lookup start.vars y
+  kept y f = found_lookup (place_in (r.outside ++ r.var ∷ []) y) s.vars y (lookup start.vars y) (fixed.found y f)
 
-  own : (e : Expr) (n : ℤ) (z : List ℕ) → (eval vs ts e).answer ≡ Number n → is_var e z ≡ true → z ≡ r.var → n ≡ lookup start r.var
-  own e n z q v s = sym (var_value e r.var (subst (λ l. is_var e l ≡ true) s v) vs ts n q) ∙ kept r.var (inl refl)
+  own : (e : Expr) (n : ℤ) (z : List ℕ) → (eval s.vars s.tables e).answer ≡ Number n → is_var e z ≡ true → z ≡ r.var → n ≡ lookup start.vars r.var
+  own e n z q v k = sym (var_value e r.var (subst (λ l. is_var e l ≡ true) k v) s.vars s.tables n q) ∙ kept r.var (inl refl)
 
-  pub in_region : (c : Carry) → item_of r.carries x ≡ Some c → last_index c ≡ r.var → fits c a b ≡ true → Region (λ y. lookup start y) r.var c i j
+  pub in_region : (c : Carry) → item_of r.carries x ≡ Some c → last_index c ≡ r.var → fits c a b ≡ true → Region (λ y. lookup start.vars y) r.var c i j
   in_region (carry.Rows t k) is l f = own a i k.text.items ea f l
   in_region (carry.Cells t (row.Var k) v) is l f = (
-    sym (var_value a k.text.items (and_left (is_var a k.text.items) (is_var b v.text.items) f) vs ts i ea) ∙ kept k.text.items (inr (rows k.text.items (subst (λ o. RowVar o k.text.items) (sym is) refl))),
+    sym (var_value a k.text.items (and_left (is_var a k.text.items) (is_var b v.text.items) f) s.vars s.tables i ea) ∙ kept k.text.items (inr (rows k.text.items (subst (λ o. RowVar o k.text.items) (sym is) refl))),
     own b j v.text.items eb (and_right (is_var a k.text.items) (is_var b v.text.items) f) l,
   )
   in_region (carry.Cells t (row.Int n) v) is l f = (
-    int_value a n (and_left (is_int a n) (is_var b v.text.items) f) vs ts i ea,
+    int_value a n (and_left (is_int a n) (is_var b v.text.items) f) s.vars s.tables i ea,
     own b j v.text.items eb (and_right (is_int a n) (is_var b v.text.items) f) l,
   )
 
-module _ (prog : Program) (r : Loop) (outer : List Loop) (x : List ℕ) (start : List Variable) (head : HeadOk r outer)
+module _ (prog : Program) (r : Loop) (outer : List Loop) (x : List ℕ) (start : State) (head : HeadOk r outer)
     (rows : (y : List ℕ) → RowVar (item_of r.carries x) y → Kept r y) where
   index : (c : Carry) → item_of r.carries x ≡ Some c → last_index c ≡ r.var
   index c is = item_index outer r c (item_fine x [] r.carries r outer c head.items is)
@@ -119,25 +126,25 @@ module _ (prog : Program) (r : Loop) (outer : List Loop) (x : List ℕ) (start :
   ])
 
   reads_ok : (t : Name) (a b : Expr) (w : Spot) → Inside r outer w.rounds → bad_read w.rounds t.text.items a b ≡ false → ActOk (mode_of r x start) prog (ReadsCell t a b)
-  reads_ok t a b w i f = λ vs ts m n fixed ea eb e.
-      go vs ts m n fixed ea eb (subst (λ z. bad_read w.rounds z a b ≡ false) e f) (item_of r.carries x) refl
+  reads_ok t a b w i f = λ s m n fixed ea eb e.
+      go s m n fixed ea eb (subst (λ z. bad_read w.rounds z a b ≡ false) e f) (item_of r.carries x) refl
     where
-      go : (vs : List Variable) (ts : List Table) (m n : ℤ) → Fixed (mode_of r x start) vs → (eval vs ts a).answer ≡ Number m → (eval vs ts b).answer ≡ Number n → bad_read w.rounds x a b ≡ false → (o : Option Carry) → item_of r.carries x ≡ o → ReadRegion (λ y. lookup start y) r.var o m n
-      go vs ts m n fixed ea eb g None is = tt
-      go vs ts m n fixed ea eb g (Some c) is = in_region r x rows start vs ts fixed a b m n ea eb c is (index c is) (read_shape r outer x c is a b w.rounds i g)
+      go : (s : State) (m n : ℤ) → Fixed (mode_of r x start) s → (eval s.vars s.tables a).answer ≡ Number m → (eval s.vars s.tables b).answer ≡ Number n → bad_read w.rounds x a b ≡ false → (o : Option Carry) → item_of r.carries x ≡ o → ReadRegion (λ y. lookup start.vars y) r.var o m n
+      go s m n fixed ea eb g None is = tt
+      go s m n fixed ea eb g (Some c) is = in_region r x rows start s fixed a b m n ea eb c is (index c is) (read_shape r outer x c is a b w.rounds i g)
 
   writes_ok : (t : Name) (a b : Expr) (w : Spot) → Inside r outer w.rounds → bad_write w.rounds t.text.items a b ≡ false → ActOk (mode_of r x start) prog (WritesCell t a b)
-  writes_ok t a b w i f = λ vs ts m n fixed ea eb e.
-      go vs ts m n fixed ea eb (subst (λ z. bad_write w.rounds z a b ≡ false) e f) (item_of r.carries x) refl
+  writes_ok t a b w i f = λ s m n fixed ea eb e.
+      go s m n fixed ea eb (subst (λ z. bad_write w.rounds z a b ≡ false) e f) (item_of r.carries x) refl
     where
-      go : (vs : List Variable) (ts : List Table) (m n : ℤ) → Fixed (mode_of r x start) vs → (eval vs ts a).answer ≡ Number m → (eval vs ts b).answer ≡ Number n → bad_write w.rounds x a b ≡ false → (o : Option Carry) → item_of r.carries x ≡ o → WriteRegion (λ y. lookup start y) r.var o m n
-      go vs ts m n fixed ea eb g None is = write_carried r outer x a b w.rounds is i g
-      go vs ts m n fixed ea eb g (Some c) is = in_region r x rows start vs ts fixed a b m n ea eb c is (index c is) (write_shape r outer x c is a b w.rounds i g)
+      go : (s : State) (m n : ℤ) → Fixed (mode_of r x start) s → (eval s.vars s.tables a).answer ≡ Number m → (eval s.vars s.tables b).answer ≡ Number n → bad_write w.rounds x a b ≡ false → (o : Option Carry) → item_of r.carries x ≡ o → WriteRegion (λ y. lookup start.vars y) r.var o m n
+      go s m n fixed ea eb g None is = write_carried r outer x a b w.rounds is i g
+      go s m n fixed ea eb g (Some c) is = in_region r x rows start s fixed a b m n ea eb c is (index c is) (write_shape r outer x c is a b w.rounds i g)
 
   calls_ok : (f : Name) (n : ℕ) (w : Spot) → Inside r outer w.rounds → Fine prog (Calls f n) w → ActOk (mode_of r x start) prog (Calls f n)
   calls_ok f n w i fine = λ t q l m e. go l m t q e (item_of r.carries x) refl
     where
-      go : (l m : ℤ) (t : List ℕ) → ReadsTable prog f.text.items t → t ≡ x → (o : Option Carry) → item_of r.carries x ≡ o → ReadRegion (λ y. lookup start y) r.var o l m
+      go : (l m : ℤ) (t : List ℕ) → ReadsTable prog f.text.items t → t ≡ x → (o : Option Carry) → item_of r.carries x ≡ o → ReadRegion (λ y. lookup start.vars y) r.var o l m
       go l m t q e None is = tt
       go l m t q e (Some c) is =
           absurd (fine.f8 f n refl t q (any_inside (carries t) r outer w.rounds i (subst (λ z. carries z r ≡ true) (sym e) (carried r x c is))))

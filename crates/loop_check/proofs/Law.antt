@@ -23,12 +23,12 @@ use Rattle.loop_check.specs.Unbroken.{NoneBroken}
 use Rattle.loop_check.proofs.Lists.{each_at, contains_none, contains_cons, contains_append}
 use Rattle.loop_check.proofs.Bools.{or_left, not_false}
 use Rattle.loop_check.proofs.Found.{Found, found_lookup, found_end, found_in, place_in, is_in_end, is_in_more, names_more}
-use Rattle.loop_check.proofs.Keeps.{Mode, Notes, Fixed, Keeps, list_ok}
-use Rattle.loop_check.proofs.Calls.{NoWrites, call_ok}
-use Rattle.loop_check.proofs.Fine.{Fine, AllFine, at_none, no_writes}
-use Rattle.loop_check.proofs.Bodies.{each_body}
+use Rattle.loop_check.proofs.Keeps.{Mode, Notes, Fixed, Keeps, ticks_fixed, list_ok}
+use Rattle.loop_check.proofs.Calls.{QuietFuncs, call_ok}
+use Rattle.loop_check.proofs.Fine.{Fine, AllFine, at_none, quiet_funcs}
+use Rattle.loop_check.proofs.Bodies.{body_at, each_par}
 use Rattle.loop_check.proofs.Shapes.{HeadOk, item_fine, item_row}
-use Rattle.loop_check.proofs.Inner.{RowVar, Kept, Region, ReadRegion, WriteRegion, mode_of, list_inner}
+use Rattle.loop_check.proofs.Inner.{RowVar, Kept, Region, ReadRegion, WriteRegion, begun, mode_of, list_inner}
 
 -- ---- the cells of notes
 
@@ -53,11 +53,11 @@ notes_writes m (Emits t ∷ ns) c h k = notes_writes m ns c h.1 k
 notes_writes m (Chance ∷ ns) c h k = notes_writes m ns c h.1 k
 
 -- the notes of an iteration, whose body begins with the loop's variable
-iteration_notes : (m : Mode) (prog : Program) (fuel : ℕ) (x : List ℕ) (body : State → Ran) (i : ℤ) (s : State) → Keeps m prog body → Fixed m (declare s.vars x i) → Notes m (iteration fuel x body [] i s).notes
+pub iteration_notes : (m : Mode) (prog : Program) (fuel : ℕ) (x : List ℕ) (body : State → Ran) (i : ℤ) (s : State) → Keeps m prog body → Fixed m (begun s x i) → Notes m (iteration fuel x body [] i s).notes
 iteration_notes m prog fuel x body i s k h = go (is_tick_allowed fuel s.ticks) refl
   where
     go : (b : Bool) → is_tick_allowed fuel s.ticks ≡ b → Notes m (iteration fuel x body [] i s).notes
-    go true e = rw e ((k (record s { vars = declare s.vars x i; ticks = s.ticks + 1 }) h).notes)
+    go true e = rw e ((k (record s { vars = declare s.vars x i; ticks = s.ticks + 1 }) (ticks_fixed m prog (begun s x i) (s.ticks + 1) h)).notes)
     go false e = rw e tt
 
 -- ---- two iterations
@@ -108,19 +108,19 @@ row_apart r outer t h (Some (carry.Cells x (row.Int n) j)) e y q = absurd q
 row_apart r outer t h (Some (carry.Cells x (row.Var k) j)) e y q =
     subst (λ z. reduced z r ≡ false) (sym q) (item_row outer r (carry.Cells x (row.Var k) j) (item_fine t [] r.carries r outer (carry.Cells x (row.Var k) j) h.items e))
 
-module _ (p : Program) (nw : NoWrites p) (w : Spot) (x : Name) (cs : List Carry) (rs : List Reduce) where
+module _ (p : Program) (quiet : QuietFuncs p) (w : Spot) (x : Name) (cs : List Carry) (rs : List Reduce) where
   -- what an iteration touches of the table t
   pub body_keeps : (body : List Stmt) (place later : Place) → Fine p (Parallel place later (the_loop w x cs rs)) w → AllFine p (in_carries w cs) → AllFine p (in_list (in_par w x cs rs) body)
       → (fuel depth : ℕ) (s : State) → map (λ (v : Variable). v.name) s.vars ≡ w.scope → (i : ℤ) (t : List ℕ)
-      → Keeps (mode_of (the_loop w x cs rs) t (declare s.vars x.text.items i)) p (run_list (setting p fuel depth rs) body) × Fixed (mode_of (the_loop w x cs rs) t (declare s.vars x.text.items i)) (declare s.vars x.text.items i)
+      → Keeps (mode_of (the_loop w x cs rs) t (begun s x.text.items i)) p (run_list (setting p fuel depth rs) body) × Fixed (mode_of (the_loop w x cs rs) t (begun s x.text.items i)) (begun s x.text.items i)
   body_keeps body place later head uses inner fuel depth s names i t = (
-    list_ok (mode_of (the_loop w x cs rs) t start) p (in_par w x cs rs) (setting p fuel depth rs) (call_ok p nw fuel (MAX_CALL_DEPTH - depth) (mode_of (the_loop w x cs rs) t start)) body
+    list_ok (mode_of (the_loop w x cs rs) t start) p (in_par w x cs rs) (setting p fuel depth rs) (call_ok p quiet fuel (MAX_CALL_DEPTH - depth) (mode_of (the_loop w x cs rs) t start)) body
         (list_inner p (the_loop w x cs rs) w.rounds t start head_ok rows (in_par w x cs rs) (inl (refl, refl), own) body inner),
-    record { found = found },
+    record { found = found; written = λ h. refl; shown = λ h. refl },
   )
     where
-      start : List Variable
-      start = declare s.vars x.text.items i
+      start : State
+      start = begun s x.text.items i
 
       head_ok : HeadOk (the_loop w x cs rs) w.rounds
       head_ok = record { items = head.f6; targets = head.f3 }
@@ -131,7 +131,7 @@ module _ (p : Program) (nw : NoWrites p) (w : Spot) (x : Name) (cs : List Carry)
       own : is_in (w.loops ++ x.text.items ∷ []) x.text.items ≡ true
       own = is_in_end w.loops x.text.items
 
-      all_names : map (λ (v : Variable). v.name) start ≡ w.scope ++ x.text.items ∷ []
+      all_names : map (λ (v : Variable). v.name) start.vars ≡ w.scope ++ x.text.items ∷ []
       all_names = names_more s.vars x.text.items i ∙ ap (λ l. l ++ x.text.items ∷ []) names
 
       seen : (y : List ℕ) → (y ≡ x.text.items) ⊎ Kept (the_loop w x cs rs) y → is_in (w.scope ++ x.text.items ∷ []) y ≡ true
@@ -140,15 +140,15 @@ module _ (p : Program) (nw : NoWrites p) (w : Spot) (x : Name) (cs : List Carry)
         | inr q ↦ is_in_more w.scope x.text.items y q.0
       ]
 
-      found : (y : List ℕ) → (y ≡ x.text.items) ⊎ Kept (the_loop w x cs rs) y → Found (place_in (w.scope ++ x.text.items ∷ []) y) start y (lookup start y)
-      found y f = subst (λ l. Found (place_in l y) start y (lookup start y)) all_names (found_in start y (subst (λ l. is_in l y ≡ true) (sym all_names) (seen y f)))
+      found : (y : List ℕ) → (y ≡ x.text.items) ⊎ Kept (the_loop w x cs rs) y → Found (place_in (w.scope ++ x.text.items ∷ []) y) start.vars y (lookup start.vars y)
+      found y f = subst (λ l. Found (place_in l y) start.vars y (lookup start.vars y)) all_names (found_in start.vars y (subst (λ l. is_in l y ≡ true) (sym all_names) (seen y f)))
 
   pub iteration_keeps : (body : List Stmt) (place later : Place) → Fine p (Parallel place later (the_loop w x cs rs)) w → Fine p (Declares x) w → AllFine p (in_carries w cs) → AllFine p (in_list (in_par w x cs rs) body)
       → (fuel depth : ℕ) (s : State) → map (λ (v : Variable). v.name) s.vars ≡ w.scope → (i : ℤ) (t : List ℕ)
-      → Notes (mode_of (the_loop w x cs rs) t (declare s.vars x.text.items i)) (iteration fuel x.text.items (run_list (setting p fuel depth rs) body) [] i s).notes
+      → Notes (mode_of (the_loop w x cs rs) t (begun s x.text.items i)) (iteration fuel x.text.items (run_list (setting p fuel depth rs) body) [] i s).notes
   iteration_keeps body place later head fresh uses inner fuel depth s names i t =
       let k = body_keeps body place later head uses inner fuel depth s names i t in
-      iteration_notes (mode_of (the_loop w x cs rs) t (declare s.vars x.text.items i)) p fuel x.text.items (run_list (setting p fuel depth rs) body) i s k.0 k.1
+      iteration_notes (mode_of (the_loop w x cs rs) t (begun s x.text.items i)) p fuel x.text.items (run_list (setting p fuel depth rs) body) i s k.0 k.1
 
   -- the loop's variable has the iteration's number
   pub own_value : Fine p (Declares x) w → (s : State) → map (λ (v : Variable). v.name) s.vars ≡ w.scope → (i : ℤ) → lookup (declare s.vars x.text.items i) x.text.items ≡ i
@@ -157,25 +157,25 @@ module _ (p : Program) (nw : NoWrites p) (w : Spot) (x : Name) (cs : List Carry)
       (found_end s.vars x.text.items i (subst (λ l. is_in l x.text.items ≡ false) (sym names) (or_left _ (is_in (texts w.tables) x.text.items || is_in (func_names w.funcs) x.text.items) (at_none x (is_visible w x.text.items) fresh.f1))))
 
   pub par_apart : (body : List Stmt) (place later : Place) → Fine p (Parallel place later (the_loop w x cs rs)) w → Fine p (Declares x) w → AllFine p (in_carries w cs) → AllFine p (in_list (in_par w x cs rs) body)
-      → Apart p (record { loop = the_loop w x cs rs; rounds = w.rounds; statements = body })
+      → Apart p (body_at w x cs rs body)
   par_apart body place later head fresh uses inner = record {
     apart = λ fuel depth s t agree i j ne c hw ho.
         let ki = iteration_keeps body place later head fresh uses inner fuel depth s agree.first i c.table in
         let kj = iteration_keeps body place later head fresh uses inner fuel depth t agree.second j c.table in
-        let si : List Variable = declare s.vars x.text.items i in
-        let sj : List Variable = declare t.vars x.text.items j in
+        let si : State = begun s x.text.items i in
+        let sj : State = begun t x.text.items j in
         let ri : Ran = iteration fuel x.text.items (run_list (setting p fuel depth rs) body) [] i s in
         let rj : Ran = iteration fuel x.text.items (run_list (setting p fuel depth rs) body) [] j t in
-        let first : WriteRegion (λ y. lookup si y) x.text.items (item_of cs c.table) c.row c.col = notes_writes (mode_of (the_loop w x cs rs) c.table si) ri.notes c ki hw refl in
-        let same : lookup si x.text.items ≡ lookup sj x.text.items = elim (contains_append (read_cells rj.notes) (write_cells rj.notes) c ho) [
-          | inl z ↦ apart_reads (λ y. lookup si y) (λ y. lookup sj y) x.text.items (item_of cs c.table) c.row c.col first (notes_reads (mode_of (the_loop w x cs rs) c.table sj) rj.notes c kj z refl)
-          | inr z ↦ apart_writes (λ y. lookup si y) (λ y. lookup sj y) x.text.items (item_of cs c.table) c.row c.col first (notes_writes (mode_of (the_loop w x cs rs) c.table sj) rj.notes c kj z refl)
+        let first : WriteRegion (λ y. lookup si.vars y) x.text.items (item_of cs c.table) c.row c.col = notes_writes (mode_of (the_loop w x cs rs) c.table si) ri.notes c ki hw refl in
+        let same : lookup si.vars x.text.items ≡ lookup sj.vars x.text.items = elim (contains_append (read_cells rj.notes) (write_cells rj.notes) c ho) [
+          | inl z ↦ apart_reads (λ y. lookup si.vars y) (λ y. lookup sj.vars y) x.text.items (item_of cs c.table) c.row c.col first (notes_reads (mode_of (the_loop w x cs rs) c.table sj) rj.notes c kj z refl)
+          | inr z ↦ apart_writes (λ y. lookup si.vars y) (λ y. lookup sj.vars y) x.text.items (item_of cs c.table) c.row c.col first (notes_writes (mode_of (the_loop w x cs rs) c.table sj) rj.notes c kj z refl)
         ] in
         ne (sym (own_value fresh s agree.first i) ∙ same ∙ own_value fresh t agree.second j);
   }
 
 pub disjoint_law : (p : Program) → NoneBroken p → Disjoint p
 disjoint_law p none =
-    let nw = no_writes p none in
-    let all = each_body p none (Apart p) (λ w x cs rs body place later a b c d. par_apart p nw w x cs rs body place later a b c d) in
+    let quiet = quiet_funcs p none in
+    let all = each_par p none (Apart p) (λ w x cs rs body place later i a b c d. par_apart p quiet w x cs rs body place later a b c d) in
     record { apart = λ b h. (each_at (Apart p) (bodies_of p) b all h).apart }

@@ -10,6 +10,7 @@ pub mod Inner
 pub mod Bodies
 pub mod Law
 pub mod Parts
+pub mod Spared
 pub mod Searching
 pub mod Backwards
 pub mod Apart

@@ -76,6 +76,16 @@ item_outside rounds r d h = or_right (not (bytes_eq (last_index d) r.var) || row
 
 -- ---- the shape
 
+-- an item t[i] stands inside no other loop
+rows_outside : (r0 : Loop) (outer : List Loop) (x y : Name) (rs : List Loop) → Inside r0 outer rs → outside_nearest rs (carry.Rows x y) ≡ false → ⊥
+rows_outside r0 outer x y [] i h = i
+rows_outside r0 outer x y (q ∷ qs) i h = no_both true refl h
+
+rows_item : (o : Option Carry) (k : RowAt) → is_rows_item o k ≡ true → (t i : Name) × (o ≡ Some (carry.Rows t i))
+rows_item None k h = absurd (no_both true refl (sym h))
+rows_item (Some (carry.Cells t k2 j)) k h = absurd (no_both true refl (sym h))
+rows_item (Some (carry.Rows t i)) k h = (t, i, refl)
+
 -- a cell with the shape of an item within that of the loop round has that loop's shape
 within_shape : (o : Option Carry) (k : RowAt) (a : Expr) → is_rows_item o k ≡ true → is_row k a ≡ true → (t i : Name) × (o ≡ Some (carry.Rows t i)) × (is_var a i.text.items ≡ true)
 within_shape None k a h f = absurd (no_both true refl (sym h))
@@ -91,12 +101,8 @@ module _ (r0 : Loop) (outer : List Loop) (t : List ℕ) (c : Carry) (is : item_o
   at_second : (r1 : Loop) (rs : List Loop) → Inside r0 outer (r1 ∷ rs) → (x i : Name) → item_of r1.carries t ≡ Some (carry.Rows x i) → is_var a i.text.items ≡ true → fits c a b ≡ true
   at_second r1 rs i x y e v = elim i [
     | inl q ↦ (let z : Some (carry.Rows x y) ≡ Some c = sym (subst (λ l. item_of l.carries t ≡ Some (carry.Rows x y)) q.0 e) ∙ is in let w : carry.Rows x y ≡ c = cc in subst (λ d. fits d a b ≡ true) w v)
-    | inr k ↦ absurd (none rs k.1 (item_outside rs r1 (carry.Rows x y) (item_fine t [] r1.carries r1 rs (carry.Rows x y) k.0.items e)))
+    | inr k ↦ absurd (rows_outside r0 outer x y rs k.1 (item_outside rs r1 (carry.Rows x y) (item_fine t [] r1.carries r1 rs (carry.Rows x y) k.0.items e)))
   ]
-    where
-      none : (rs : List Loop) → Inside r0 outer rs → outside_nearest rs (carry.Rows x y) ≡ false → ⊥
-      none [] i h = i
-      none (q ∷ qs) i h = no_both true refl h
 
   at_first : (r : Loop) (rs : List Loop) (d : Carry) → item_of r.carries t ≡ Some d → HeadOk r rs → Inside r0 outer rs → fits d a b ≡ true → fits c a b ≡ true
   at_first r [] d e k i f = absurd i
@@ -134,6 +140,58 @@ write_carried r0 outer t a b [] e i h = i
 write_carried r0 outer t a b (r ∷ rs) e i h =
     no_both (any_loop (λ q. not (carries t q)) (r ∷ rs)) (any_inside (λ q. not (carries t q)) r0 outer (r ∷ rs) i (rw e refl))
     (or_left (any_loop (λ q. not (carries t q)) (r ∷ rs)) (not (has_shape r t a b)) h)
+
+-- ---- a table that r0 doesn't carry
+
+pub any_round : (f : Loop → Bool) (r0 : Loop) (outer rs : List Loop) → Inside r0 outer rs → any_loop f outer ≡ true → any_loop f rs ≡ true
+any_round f r0 outer [] i h = absurd i
+any_round f r0 outer (r ∷ rs) i h = elim i [
+  | inl e ↦ go (f r) (subst (λ z. any_loop f z ≡ true) (sym e.1) h)
+  | inr k ↦ go (f r) (any_round f r0 outer rs k.1 h)
+]
+  where
+    go : (b : Bool) → any_loop f rs ≡ true → (b || any_loop f rs) ≡ true
+    go true h = refl
+    go false h = h
+
+-- no loop inside carries it
+module _ (r0 : Loop) (outer : List Loop) (t : List ℕ) (is : item_of r0.carries t ≡ None) where
+  not_own : (r : Loop) (d : Carry) → r ≡ r0 → item_of r.carries t ≡ Some d → ⊥
+  not_own r d q e = let z : Some d ≡ None = sym (subst (λ l. item_of l.carries t ≡ Some d) q e) ∙ is in absurd (cc)
+
+  no_rows : (r : Loop) (rs : List Loop) → Inside r0 outer (r ∷ rs) → (x y : Name) → item_of r.carries t ≡ Some (carry.Rows x y) → ⊥
+  no_rows r rs i x y e = elim i [
+    | inl q ↦ not_own r (carry.Rows x y) q.0 e
+    | inr k ↦ rows_outside r0 outer x y rs k.1 (item_outside rs r (carry.Rows x y) (item_fine t [] r.carries r rs (carry.Rows x y) k.0.items e))
+  ]
+
+  within_none : (r : Loop) (rs : List Loop) (d : Carry) → item_of r.carries t ≡ Some d → HeadOk r rs → Inside r0 outer rs → ⊥
+  within_none r rs (carry.Rows x y) e k i = rows_outside r0 outer x y rs i (item_outside rs r (carry.Rows x y) (item_fine t [] r.carries r rs (carry.Rows x y) k.items e))
+  within_none r [] (carry.Cells x y j) e k i = i
+  within_none r (r1 ∷ rs) (carry.Cells x y j) e k i =
+      let within : is_rows_item (item_of r1.carries x.text.items) y ≡ true = not_false _ (item_outside (r1 ∷ rs) r (carry.Cells x y j) (item_fine t [] r.carries r (r1 ∷ rs) (carry.Cells x y j) k.items e)) in
+      let same : x.text.items ≡ t = eq_is x.text.items t (item_name t r.carries (carry.Cells x y j) e) in
+      let w = rows_item (item_of r1.carries t) y (subst (λ z. is_rows_item (item_of r1.carries z) y ≡ true) same within) in
+      no_rows r1 rs i w.0 w.1 w.2
+
+  pub no_item : (r : Loop) (rs : List Loop) → Inside r0 outer (r ∷ rs) → (a b : Expr) → has_shape r t a b ≡ true → ⊥
+  no_item r rs i a b h = go (item_of r.carries t) refl h
+    where
+      go : (o : Option Carry) → item_of r.carries t ≡ o → fits_some o a b ≡ true → ⊥
+      go None e f = no_both true refl (sym f)
+      go (Some d) e f = elim i [
+        | inl q ↦ not_own r d q.0 e
+        | inr k ↦ within_none r rs d e k.0 k.1
+      ]
+
+  -- a cell of it is read only where no loop round r0 carries it
+  pub read_round : (a b : Expr) (rs : List Loop) → Inside r0 outer rs → bad_read rs t a b ≡ false → any_loop (carries t) outer ≡ false
+  read_round a b [] i h = absurd i
+  read_round a b (r ∷ rs) i h = go (any_loop (carries t) outer) refl
+    where
+      go : (c : Bool) → any_loop (carries t) outer ≡ c → c ≡ false
+      go false q = refl
+      go true q = absurd (no_item r rs i a b (not_false (has_shape r t a b) (subst (λ z. (z && not (has_shape r t a b)) ≡ false) (any_round (carries t) r0 outer (r ∷ rs) i q) h)))
 
 -- ---- a variable that is declared outside r0 and that r0 doesn't reduce is folded nowhere inside
 

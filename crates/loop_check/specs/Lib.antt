@@ -2,6 +2,8 @@
 pub mod Unbroken
 -- Parts: which cells of a carried table an iteration touches, and which variables it leaves
 pub mod Parts
+-- Spared: the tables that an iteration leaves alone, and what calls leave alone
+pub mod Spared
 -- Search: the first broken rule, as the walk finds it
 pub mod Search
 -- Walk: how the walk's state stands for a spot

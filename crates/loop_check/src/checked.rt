@@ -5,6 +5,7 @@ ghost use Rattle.loop_meaning.specs.Cells.{Disjoint};
 ghost use Rattle.loop_rules.specs.Unbroken.{IsResolved};
 ghost use Rattle.loop_check.specs.Checking.{IsCause, IsVerdict};
 ghost use Rattle.loop_check.specs.Parts.{Parted};
+ghost use Rattle.loop_check.specs.Spared.{Spared};
 ghost use Rattle.loop_check.specs.Unbroken.{NoneBroken};
 
 use crate::fault::Fault;
@@ -69,12 +70,14 @@ fn fault_of(alloc: Global, program: &Program) -> Result<Option<Fault>, NoMemory>
 /// Looks at the rules C2, C3, C4, C5, C6 and C8. Where one of them is broken the answer is the one at
 /// the least place, and among those there the one with the least number. Where none is, no iteration
 /// of a `par` writes a cell that another one reads or writes, and each keeps to its part of each
-/// carried table. Which functions read which tables is found once.
+/// carried table and touches no other table that a `par` round it carries. Which functions read which
+/// tables is found once.
 pub fn check(alloc: Global, program: Resolved) -> Result<Checked, RuleFault>
     ensures program { IfOk result (λ checked. checked ≡ program) }
     ensures unbroken { IfOk result (λ checked. NoneBroken program) }
     ensures disjoint { IfOk result (λ checked. Disjoint program) }
     ensures parted { IfOk result (λ checked. Parted program) }
+    ensures spared { IfOk result (λ checked. Spared program) }
     ensures cause { IfErr result (IsCause program) }
 {
     match fault_of(alloc, program.program())? {

@@ -7,6 +7,7 @@ ghost use Rattle.loop_syntax.specs.Tree.{program_of};
 ghost use Rattle.loop_meaning.specs.Cells.{Disjoint};
 ghost use Rattle.loop_check.specs.Checking.{IsFirstBroken};
 ghost use Rattle.loop_check.specs.Parts.{Parted};
+ghost use Rattle.loop_check.specs.Spared.{Spared};
 ghost use Rattle.loop_check.specs.Unbroken.{NoneBroken};
 
 use loop_syntax::Program;
@@ -21,6 +22,13 @@ pub fn disjoint(program: &Program)
 /// them only its item's part, and leaves the variables round the loop that it doesn't reduce.
 pub fn parted(program: &Program)
     ensures { NoneBroken program.now → Parted program.now }
+{}
+
+/// Where no rule is broken, an iteration of a `par` reads and writes no table that a `par` round it
+/// carries and its own doesn't, itself or in what it calls, and it prints nothing. A call writes no
+/// cell and prints nothing.
+pub fn spared(program: &Program)
+    ensures { NoneBroken program.now → Spared program.now }
 {}
 
 /// Where a program lies in memory is no matter: of two programs with one tree both break no rule at

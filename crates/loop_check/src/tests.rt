@@ -173,14 +173,25 @@ fn reads(rt: HostRuntime) {
         58,
     );
     assert!(&rt; other_row);
+    // each iteration of both loops keeps to its own cells, and yet a part of the inner loop, cut off to run
+    // elsewhere, would have no row of t
     let nearest = is_refused(
         alloc,
-        b"table t[3][3]; main { par i in 0..3 carry t[i] { par j in 0..3 { let x = t[i][j]; } } }",
+        b"table t[4][4]; main { par i in 0..4 carry t[i] { par j in 0..4 { let x = t[i][j]; } } }",
         5,
         1,
         74,
     );
     assert!(&rt; nearest);
+    // nor may the inner one call a function that reads it
+    let called = is_refused(
+        alloc,
+        b"table t[4][4]; fn g(i) { return t[i][0]; } main { par i in 0..4 carry t[i] { par j in 0..4 { let x = 0; call x = g(i); } } }",
+        8,
+        1,
+        114,
+    );
+    assert!(&rt; called);
 }
 
 #[test]
