@@ -5,7 +5,8 @@ use Rattle.loop_syntax.specs.declared.Program.{Program}
 use Rattle.loop_rules.specs.declared.resolved.RuleFault.{RuleFault}
 use Rattle.loop_rules.specs.declared.resolved.RuleFault.TheVariants as faults
 use Rattle.loop_rules.specs.Resolving.{IsNoLater}
-use Rattle.loop_rules.specs.Broken.{Rule, C1', C2', C3', C4', C5', C6', C7', C8', C9', C10', C11', number_of, Broken}
+use Rattle.loop_rules.specs.Broken.{Rule, C1', C2', C3', C4', C5', C6', C7', C8', C9', C10', C11'}
+use Rattle.loop_rules.specs.Broken.{number_of, Broken}
 use Rattle.loop_check.specs.declared.fault.Fault.{Fault}
 
 -- whether `check` looks at a rule
@@ -28,7 +29,10 @@ pub record IsFirstBroken (program : Program) (number : ℕ) (place : Place) : Ty
   pub of_check : IsOfCheck rule
   pub numbered : number ≡ number_of rule
   pub broken : Broken program rule place
-  pub first : (other : Rule) (elsewhere : Place) → IsOfCheck other → Broken program other elsewhere → IsNoLater rule place other elsewhere
+  pub first : (other : Rule) (elsewhere : Place)
+      → IsOfCheck other
+      → Broken program other elsewhere
+      → IsNoLater rule place other elsewhere
 
 -- why a program is refused
 abbrev pub IsCause : Program → RuleFault → Type 0
@@ -37,5 +41,6 @@ IsCause program faults.NoMemory = Unit {0}
 
 -- what a search comes to: none of these rules is broken, or this one is the first
 abbrev pub IsVerdict : Program → Option Fault → Type 0
-IsVerdict program None = (rule : Rule) (place : Place) → IsOfCheck rule → Broken program rule place → ⊥
+IsVerdict program None =
+    (rule : Rule) (place : Place) → IsOfCheck rule → Broken program rule place → ⊥
 IsVerdict program (Some fault) = IsFirstBroken program fault.rule fault.place

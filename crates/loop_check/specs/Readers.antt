@@ -13,7 +13,10 @@ use Rattle.loop_check.specs.Usage.{uses}
 abbrev pub add_users : Program → Usage → List Func → List (List ℕ) → List (List ℕ)
 add_users p u [] xs = xs
 add_users p u (f ∷ fs) xs =
-    add_users p u fs (cond (not (is_in xs f.name.text.items) && uses p u (func_of p.funcs.items f.name.text.items)) (xs ++ f.name.text.items ∷ []) xs)
+    add_users p u fs
+    (cond
+    (not (is_in xs f.name.text.items) && uses p u (func_of p.funcs.items f.name.text.items))
+    (xs ++ f.name.text.items ∷ []) xs)
 
 -- a function and a table
 pub record Pair : Type 0 where
@@ -35,4 +38,7 @@ pub record IsReadersOf (p : Program) (t : List ℕ) (xs : List (List ℕ)) : Typ
 -- the readers are exactly the functions that read one of these tables, each with it
 pub record IsReaders (p : Program) (tables : List Name) (rs : List Reader) : Type 0 where
   pub sound : (r : Pair) → Contains (pairs_of rs) r → ReadsTable p r.func r.table
-  pub complete : (f t : List ℕ) → is_in (texts tables) t ≡ true → ReadsTable p f t → Contains (pairs_of rs) (pair t f)
+  pub complete : (f t : List ℕ)
+      → is_in (texts tables) t ≡ true
+      → ReadsTable p f t
+      → Contains (pairs_of rs) (pair t f)

@@ -1,5 +1,6 @@
 -- The search for the first broken rule of disjoint writes: the words of its contracts.
-use Rattle.std.specs.Prelude.{ℕ, Bool, false, cond, ◌||◌, ◌&&◌, List, [], ◌∷◌, nat_lt, nat_eq, bytes_eq, Option, Some, None}
+use Rattle.std.specs.Prelude.{ℕ, Bool, false, cond, ◌||◌, ◌&&◌, List, [], ◌∷◌, nat_lt, nat_eq}
+use Rattle.std.specs.Prelude.{bytes_eq, Option, Some, None}
 use Rattle.tp_value.specs.declared.Place.{Place}
 use Rattle.loop_rules.specs.Sites.{Loop, Act, Calls, Spot, Site}
 use Rattle.loop_rules.specs.Scopes.{at, is_before}
@@ -28,7 +29,8 @@ lowest b n (p ∷ ps) = lowest (lower b (record { rule = n; place = p })) n ps
 -- whether a function is among these with a table that a `par` round carries
 abbrev pub reads_carried : List Reader → List ℕ → List Loop → Bool
 reads_carried [] f rounds = false
-reads_carried (r ∷ rs) f rounds = (bytes_eq r.func.now f && any_loop (carries r.table.now) rounds) || reads_carried rs f rounds
+reads_carried (r ∷ rs) f rounds =
+    (bytes_eq r.func.now f && any_loop (carries r.table.now) rounds) || reads_carried rs f rounds
 
 -- a call to one of these functions inside a `par` that carries its table
 abbrev pub c8 : List Reader → Act → Spot → List Place
@@ -38,7 +40,13 @@ c8 rs _ w = []
 -- the first of what was found and what a site breaks
 abbrev pub lowest_at : List Reader → Option Fault → Site → Option Fault
 lowest_at rs b s =
-    lowest (lowest (lowest (lowest (lowest (lowest b 2 (c2 s.act s.spot)) 3 (c3 s.act s.spot)) 4 (c4 s.act s.spot)) 5 (c5 s.act s.spot)) 6 (c6 s.act s.spot)) 8 (c8 rs s.act s.spot)
+    lowest
+    (lowest
+    (lowest
+    (lowest (lowest (lowest b 2 (c2 s.act s.spot)) 3 (c3 s.act s.spot)) 4 (c4 s.act s.spot))
+    5 (c5 s.act s.spot))
+    6 (c6 s.act s.spot))
+    8 (c8 rs s.act s.spot)
 
 abbrev pub lowest_in : List Reader → Option Fault → List Site → Option Fault
 lowest_in rs b [] = b

@@ -48,7 +48,17 @@ nearest_holds t (r ∷ rs) = holds t r
 
 -- a spot as far as these rules look at it
 abbrev pub spot : List (List ℕ) → List Loop → Spot
-spot scope rounds = record { part = OfMain; tables = []; funcs = []; scope = scope; loops = []; depth = 0; rounds = rounds }
+spot scope rounds =
+    record {
+      part = OfMain;
+      tables = [];
+      funcs = [];
+      scope = scope;
+      loops = [];
+      depth = 0;
+      rounds =
+          rounds;
+    }
 
 -- that of the walk's state
 abbrev pub inside : state.Spot.Spot → Spot
@@ -63,6 +73,7 @@ abbrev pub carried_tables : List Carry → List (List ℕ)
 carried_tables cs = map (λ c. (table_name c).text.items) cs
 
 -- the walk went over these sites, and stands at that spot
-pub record Walked (readers : List Reader) (before after : Option Fault) (ss : List Site) (new : state.Spot.Spot) (at : Spot) : Type 0 where
+pub record Walked (readers : List Reader) (before after : Option Fault) (ss : List Site)
+    (new : state.Spot.Spot) (at : Spot) : Type 0 where
   pub found : after ≡ lowest_in readers before ss
   pub stands : inside new ≡ at

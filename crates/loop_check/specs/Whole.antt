@@ -11,4 +11,5 @@ use Rattle.loop_check.specs.Walk.{spot}
 -- the first of what was found and what the bodies of functions break
 abbrev pub lowest_of_funcs : List Reader → Option Fault → List Func → Option Fault
 lowest_of_funcs rs b [] = b
-lowest_of_funcs rs b (f ∷ fs) = lowest_of_funcs rs (lowest_in rs b (in_list (spot (texts f.params.items) []) f.body.items)) fs
+lowest_of_funcs rs b (f ∷ fs) =
+    lowest_of_funcs rs (lowest_in rs b (in_list (spot (texts f.params.items) []) f.body.items)) fs

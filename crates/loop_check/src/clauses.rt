@@ -1,9 +1,11 @@
 // The clauses of a `par`.
 
 ghost use Rattle.std.specs.Prelude.{◌≡◌, ◌||◌, []};
-ghost use Rattle.loop_rules.specs.Carries.{c6, last_index, row_reduced, outside_nearest, bad_item, bad_items};
+ghost use Rattle.loop_rules.specs.Carries.{c6, last_index, row_reduced, outside_nearest, bad_item};
+ghost use Rattle.loop_rules.specs.Carries.{bad_items};
 ghost use Rattle.loop_rules.specs.Names.{is_in, table_name};
-ghost use Rattle.loop_rules.specs.Reductions.{c3, any_loop, other_operator, reduced_otherwise, bad_targets};
+ghost use Rattle.loop_rules.specs.Reductions.{c3, any_loop, other_operator, reduced_otherwise};
+ghost use Rattle.loop_rules.specs.Reductions.{bad_targets};
 ghost use Rattle.loop_rules.specs.Sites.{Parallel};
 ghost use Rattle.tp_value.specs.declared.Place.{Place};
 ghost use Rattle.loop_check.specs.Search.{lowest};
@@ -22,7 +24,9 @@ const CARRIES: u8 = 6;
 
 /// Whether a reduction doesn't agree with the loops round.
 fn disagrees(rounds: &[Round], q: &Reduce) -> bool
-    ensures { result ≡ (any_loop (other_operator q.now) (rounds_of rounds.now) || any_loop (reduced_otherwise q.now) (rounds_of rounds.now)) }
+    ensures { result
+        ≡ (any_loop (other_operator q.now) (rounds_of rounds.now) || any_loop
+        (reduced_otherwise q.now) (rounds_of rounds.now)) }
 {
     any_round(rounds, &Test::OtherOperator(q)) || any_round(rounds, &Test::ReducedOtherwise(q))
 }
@@ -41,7 +45,10 @@ fn is_target(before: &[Reduce], x: &[u8]) -> bool
 
 /// Whether a reduction may not stand there, behind those.
 fn bad_target(rounds: &[Round], before: &[Reduce], q: &Reduce) -> bool
-    ensures { result ≡ ((any_loop (other_operator q.now) (rounds_of rounds.now) || any_loop (reduced_otherwise q.now) (rounds_of rounds.now)) || is_in (targets_of before.now) q.now.target.text.items) }
+    ensures { result
+        ≡ ((any_loop (other_operator q.now) (rounds_of rounds.now) || any_loop
+        (reduced_otherwise q.now) (rounds_of rounds.now))
+        || is_in (targets_of before.now) q.now.target.text.items) }
 {
     disagrees(rounds, q) || is_target(before, &q.target.text)
 }
@@ -115,14 +122,17 @@ fn is_carried(before: &[Carry], t: &[u8]) -> bool
 
 /// Whether an item may not stand there, behind those.
 fn bad_carry(rounds: &[Round], round: &Round, before: &[Carry], c: &Carry) -> bool
-    ensures { result ≡ (bad_item (rounds_of rounds.now) (loop_of round.now) c.now || is_in (carried_tables before.now) (table_name c.now).text.items) }
+    ensures { result
+        ≡ (bad_item (rounds_of rounds.now) (loop_of round.now) c.now || is_in
+        (carried_tables before.now) (table_name c.now).text.items) }
 {
     bad_item(rounds, round, c) || is_carried(before, &table_name(c).text)
 }
 
 /// The items of the carry list.
 fn items(w: &Spot, found: &mut Option<Fault>, round: &Round, cs: &[Carry])
-    ensures { found.new ≡ lowest found.old 6 (bad_items [] cs.now (loop_of round.now) (rounds_of w.now.rounds.now)) }
+    ensures { found.new
+        ≡ lowest found.old 6 (bad_items [] cs.now (loop_of round.now) (rounds_of w.now.rounds.now)) }
 {
     for i in 0..cs.len() {
         let c = &cs[i];
@@ -137,7 +147,9 @@ fn items(w: &Spot, found: &mut Option<Fault>, round: &Round, cs: &[Carry])
 
 /// The head of a `par`.
 pub fn parallel(w: &Spot, found: &mut Option<Fault>, round: &Round)
-    ensures { (p q : Place) → let act = Parallel p q (loop_of round.now) in found.new ≡ lowest (lowest found.old 3 (c3 act (inside w.now))) 6 (c6 act (inside w.now)) }
+    ensures { (p q : Place)
+        → let act = Parallel p q (loop_of round.now) in found.new
+        ≡ lowest (lowest found.old 3 (c3 act (inside w.now))) 6 (c6 act (inside w.now)) }
 {
     targets(w, found, &round.par.reduces);
     items(w, found, round, &round.par.carries);

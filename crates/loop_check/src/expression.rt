@@ -1,7 +1,8 @@
 // The walk over expressions and calls.
 
 ghost use Rattle.std.specs.Prelude.{◌≡◌, ◌∷◌, []};
-ghost use Rattle.loop_rules.specs.Sites.{in_expr, in_whole, in_args, in_app, in_carries, Uses, ReadsCell, Calls};
+ghost use Rattle.loop_rules.specs.Sites.{in_expr, in_whole, in_args, in_app, in_carries, Uses};
+ghost use Rattle.loop_rules.specs.Sites.{ReadsCell, Calls};
 ghost use Rattle.loop_rules.specs.Carries.{c5, bad_read};
 ghost use Rattle.loop_rules.specs.Reductions.{c3};
 ghost use Rattle.loop_check.specs.Search.{lowest, lowest_in, c8, reads_carried};
@@ -31,7 +32,8 @@ pub fn occurs(w: &Spot, found: &mut Option<Fault>, x: &Name)
     note_if(found, REDUCED, reduced, x.place);
 }
 
-/// Whether a read is of a table that a loop round carries, where the nearest doesn't, or without its shape.
+/// Whether a read is of a table that a loop round carries, where the nearest doesn't, or without
+/// its shape.
 fn bad_read(rounds: &[Round], t: &[u8], a: &Expr, b: &Expr) -> bool
     ensures { result ≡ bad_read (rounds_of rounds.now) t.now a.now b.now }
 {

@@ -1,5 +1,5 @@
-// What follows from the rules: which cells an iteration of a `par` touches, and that a program's tree
-// alone decides which rule is the first broken one.
+// What follows from the rules: which cells an iteration of a `par` touches, and that a program's
+// tree alone decides which rule is the first broken one.
 
 ghost use Rattle.std.specs.Prelude.{◌≡◌, ℕ};
 ghost use Rattle.tp_value.specs.declared.Place.{Place};
@@ -35,13 +35,18 @@ pub fn spared(program: &Program)
 /// all or neither, and both have the same first broken one of those that `check` looks at.
 pub fn only_the_tree_counts(p: &Program, q: &Program)
     ensures unbroken { program_of p.now ≡ program_of q.now → NoneBroken p.now → NoneBroken q.now }
-    ensures broken { program_of p.now ≡ program_of q.now → (rule : ℕ) (place : Place) → IsFirstBroken p.now rule place → IsFirstBroken q.now rule place }
+    ensures broken { program_of p.now ≡ program_of q.now
+        → (rule : ℕ) (place : Place)
+        → IsFirstBroken p.now rule place
+        → IsFirstBroken q.now rule place }
 {}
 
 /// Of the rules that `check` looks at a program has one first broken rule, and none where it breaks
 /// no rule.
 pub fn one_rule_is_first(p: &Program)
-    ensures alone { (rule other : ℕ) (place elsewhere : Place) → IsFirstBroken p.now rule place → IsFirstBroken p.now other elsewhere
+    ensures alone { (rule other : ℕ) (place elsewhere : Place)
+        → IsFirstBroken p.now rule place
+        → IsFirstBroken p.now other elsewhere
         → (rule ≡ other) × (place ≡ elsewhere) }
     ensures not_both { (rule : ℕ) (place : Place) → NoneBroken p.now → IsFirstBroken p.now rule place → ⊥ }
 {}

@@ -55,7 +55,8 @@ pub fn table_name(c: &Carry) -> &Name
 
 /// The item of a carry list for that table, the first where it names the table twice.
 pub fn item_of<'a>(carries: &'a [Carry], t: &[u8]) -> Option<&'a Carry>
-    ensures { MatchOption result (item_of carries.now t.now ≡ None) (λ c. item_of carries.now t.now ≡ Some c.now) }
+    ensures { MatchOption result (item_of carries.now t.now ≡ None)
+        (λ c. item_of carries.now t.now ≡ Some c.now) }
 {
     for c in carries {
         if table_name(c).text.as_slice() == t {

@@ -15,7 +15,9 @@ use tp_value::NoMemory;
 
 /// Adds the functions that do that, each once.
 fn add_users<'a>(names: &mut Vec<&'a [u8]>, program: &'a Program, u: &Usage) -> Result<(), NoMemory>
-    ensures { IfOk result (λ r. texts_of names.new.items ≡ add_users program.now u.now program.now.funcs.items (texts_of names.old.items)) }
+    ensures { IfOk result
+        (λ r. texts_of names.new.items
+        ≡ add_users program.now u.now program.now.funcs.items (texts_of names.old.items)) }
 {
     for f in &program.funcs {
         if !is_in(names, &f.name.text) && uses(program, &f.name.text, u) {
@@ -48,7 +50,9 @@ fn push_readers<'a>(
     names: &[&'a [u8]],
     table: &'a [u8],
 ) -> Result<(), NoMemory>
-    ensures { IfOk result (λ r. pairs_of readers.new.items ≡ pairs_of readers.old.items ++ map (pair table.now) (texts_of names.now)) }
+    ensures { IfOk result
+        (λ r. pairs_of readers.new.items
+        ≡ pairs_of readers.old.items ++ map (pair table.now) (texts_of names.now)) }
 {
     for func in names {
         readers.push(Reader { func: *func, table })?;

@@ -1,7 +1,8 @@
 // The shapes of cells.
 
 ghost use Rattle.std.specs.Prelude.{◌≡◌};
-ghost use Rattle.loop_rules.specs.Carries.{is_var, is_int, is_row, fits, has_shape, is_rows_item, is_within};
+ghost use Rattle.loop_rules.specs.Carries.{is_var, is_int, is_row, fits, has_shape, is_rows_item};
+ghost use Rattle.loop_rules.specs.Carries.{is_within};
 ghost use Rattle.loop_rules.specs.Names.{item_of};
 ghost use Rattle.loop_check.specs.Walk.{loop_of};
 

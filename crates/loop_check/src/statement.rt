@@ -3,7 +3,9 @@
 ghost use Rattle.std.specs.Prelude.{◌≡◌, ◌∷◌, ◌++◌, IfOk, IsTrue};
 ghost use Rattle.loop_rules.specs.Carries.{c4, bad_write};
 ghost use Rattle.loop_rules.specs.Reductions.{c2, c3};
-ghost use Rattle.loop_rules.specs.Sites.{site, spot_after, spot_of_list, in_stmt, in_list, in_whole, declared_var, in_par, the_loop, Assigns, Folds, Declares, WritesCell};
+ghost use Rattle.loop_rules.specs.Sites.{site, spot_after, spot_of_list, in_stmt, in_list};
+ghost use Rattle.loop_rules.specs.Sites.{in_whole, declared_var, in_par, the_loop, Assigns, Folds};
+ghost use Rattle.loop_rules.specs.Sites.{Declares, WritesCell};
 ghost use Rattle.loop_check.specs.Search.{lowest, lowest_in};
 ghost use Rattle.loop_check.specs.Walk.{texts_of, rounds_of, spot, inside, Walked};
 
@@ -25,7 +27,9 @@ const OUTSIDE: u8 = 2;
 const WRITES: u8 = 4;
 
 fn assigns(w: &Spot, found: &mut Option<Fault>, x: &Name)
-    ensures { found.new ≡ lowest (lowest found.old 2 (c2 (Assigns x.now) (inside w.now))) 3 (c3 (Assigns x.now) (inside w.now)) }
+    ensures { found.new
+        ≡ lowest (lowest found.old 2 (c2 (Assigns x.now) (inside w.now))) 3
+        (c3 (Assigns x.now) (inside w.now)) }
 {
     let outside = any_round(w.rounds, &Test::Outside(&x.text));
     note_if(found, OUTSIDE, outside, x.place);
@@ -40,7 +44,8 @@ fn folds(w: &Spot, found: &mut Option<Fault>, x: &Name)
     note_if(found, REDUCED, !reduced, x.place);
 }
 
-/// Whether a write is inside loops that don't all carry the table, or without the nearest one's shape.
+/// Whether a write is inside loops that don't all carry the table, or without the nearest one's
+/// shape.
 fn bad_write(rounds: &[Round], t: &[u8], a: &Expr, b: &Expr) -> bool
     ensures { result ≡ bad_write (rounds_of rounds.now) t.now a.now b.now }
 {
@@ -67,7 +72,9 @@ fn in_put(
     b: &Expr,
     e: &Expr,
 )
-    ensures { found.new ≡ lowest_in readers.now found.old (in_stmt (inside w.now) (Stmt.Put t.now a.now b.now e.now)) }
+    ensures { found.new
+        ≡ lowest_in readers.now found.old
+        (in_stmt (inside w.now) (Stmt.Put t.now a.now b.now e.now)) }
 {
     writes(w, found, t, a, b);
     in_whole(w, readers, found, a);
@@ -84,7 +91,9 @@ fn in_both(
     y: &Name,
     g: &App,
 )
-    ensures { found.new ≡ lowest_in readers.now found.old (in_stmt (inside w.now) (Stmt.Both x.now f.now y.now g.now)) }
+    ensures { found.new
+        ≡ lowest_in readers.now found.old
+        (in_stmt (inside w.now) (Stmt.Both x.now f.now y.now g.now)) }
 {
     assigns(w, found, x);
     in_app(w, readers, found, f);
@@ -94,7 +103,9 @@ fn in_both(
 
 /// The two bounds of a loop over x.
 fn in_bounds(w: &Spot, readers: &[Reader], found: &mut Option<Fault>, x: &Name, a: &Expr, b: &Expr)
-    ensures { let s = inside w.now in found.new ≡ lowest_in readers.now found.old (site s (Declares x.now) ∷ in_whole s a.now ++ in_whole s b.now) }
+    ensures { let s = inside w.now in found.new
+        ≡ lowest_in readers.now found.old
+        (site s (Declares x.now) ∷ in_whole s a.now ++ in_whole s b.now) }
 {
     occurs(w, found, x);
     in_whole(w, readers, found, a);
@@ -109,7 +120,9 @@ fn in_stmt<'a>(
     found: &mut Option<Fault>,
     s: &'a Stmt,
 ) -> Result<(), NoMemory>
-    ensures { IfOk result (λ u. Walked readers.now found.old found.new (in_stmt (inside w.old) s.now) w.new (spot_after (inside w.old) s.now)) }
+    ensures { IfOk result
+        (λ u. Walked readers.now found.old found.new (in_stmt (inside w.old) s.now) w.new
+        (spot_after (inside w.old) s.now)) }
 {
     match s {
         Stmt::Let(x, e) => {
@@ -172,7 +185,9 @@ pub fn in_list<'a>(
     found: &mut Option<Fault>,
     body: &'a [Stmt],
 ) -> Result<(), NoMemory>
-    ensures { IfOk result (λ u. Walked readers.now found.old found.new (in_list (inside w.old) body.now) w.new (spot_of_list (inside w.old) body.now)) }
+    ensures { IfOk result
+        (λ u. Walked readers.now found.old found.new (in_list (inside w.old) body.now) w.new
+        (spot_of_list (inside w.old) body.now)) }
 {
     for s in body {
         in_stmt(alloc, w, readers, found, s)?;
@@ -189,7 +204,9 @@ fn in_block<'a>(
     found: &mut Option<Fault>,
     body: &'a [Stmt],
 ) -> Result<(), NoMemory>
-    ensures { IfOk result (λ u. Walked readers.now found.old found.new (in_list (inside w.old) body.now) w.new (inside w.old)) }
+    ensures { IfOk result
+        (λ u. Walked readers.now found.old found.new (in_list (inside w.old) body.now) w.new
+        (inside w.old)) }
 {
     let n = w.scope.len();
     in_list(alloc, w, readers, found, body)?;
@@ -207,7 +224,9 @@ fn in_loop<'a>(
     body: &'a [Stmt],
     x: &'a Name,
 ) -> Result<(), NoMemory>
-    ensures { IfOk result (λ u. Walked readers.now found.old found.new (in_list (declared_var (inside w.old) x.now) body.now) w.new (inside w.old)) }
+    ensures { IfOk result
+        (λ u. Walked readers.now found.old found.new
+        (in_list (declared_var (inside w.old) x.now) body.now) w.new (inside w.old)) }
 {
     let n = w.scope.len();
     w.scope.push(&x.text)?;
@@ -249,7 +268,12 @@ fn in_body<'a>(
     found: &mut Option<Fault>,
     l: &'a ParLoop,
 ) -> Result<(), NoMemory>
-    ensures { IfOk result (λ u. found.new ≡ lowest_in readers.now found.old (in_list (declared_var (spot (texts_of scope.entry.items) (rounds_of rounds.now)) l.now.var) l.now.body.items)) }
+    ensures { IfOk result
+        (λ u. found.new
+        ≡ lowest_in readers.now found.old
+        (in_list
+        (declared_var (spot (texts_of scope.entry.items) (rounds_of rounds.now)) l.now.var)
+        l.now.body.items)) }
 {
     let mut w = Spot {
         scope,
@@ -267,7 +291,8 @@ fn in_par<'a>(
     found: &mut Option<Fault>,
     l: &'a ParLoop,
 ) -> Result<(), NoMemory>
-    ensures { IfOk result (λ u. found.new ≡ lowest_in readers.now found.old (in_stmt (inside w.now) (Stmt.Par l.now))) }
+    ensures { IfOk result
+        (λ u. found.new ≡ lowest_in readers.now found.old (in_stmt (inside w.now) (Stmt.Par l.now))) }
 {
     let round = Round {
         outside: w.scope.as_slice(),

@@ -173,8 +173,8 @@ fn reads(rt: HostRuntime) {
         58,
     );
     assert!(&rt; other_row);
-    // each iteration of both loops keeps to its own cells, and yet a part of the inner loop, cut off to run
-    // elsewhere, would have no row of t
+    // each iteration of both loops keeps to its own cells, and yet a part of the inner loop, cut
+    // off to run elsewhere, would have no row of t
     let nearest = is_refused(
         alloc,
         b"table t[4][4]; main { par i in 0..4 carry t[i] { par j in 0..4 { let x = t[i][j]; } } }",

@@ -83,7 +83,8 @@ fn in_app(u: &Usage, found: &mut bool, f: &App)
 
 #[tactic(auto, using(crate::proofs::Using::any_append))]
 fn in_two(u: &Usage, found: &mut bool, a: &Expr, b: &Expr)
-    ensures { found.new ≡ any_use u.now found.old (in_whole anywhere a.now ++ in_whole anywhere b.now) }
+    ensures { found.new
+        ≡ any_use u.now found.old (in_whole anywhere a.now ++ in_whole anywhere b.now) }
 {
     in_expr(u, found, a);
     in_expr(u, found, b);
@@ -91,7 +92,9 @@ fn in_two(u: &Usage, found: &mut bool, a: &Expr, b: &Expr)
 
 #[tactic(auto, using(crate::proofs::Using::any_append))]
 fn in_put(u: &Usage, found: &mut bool, a: &Expr, b: &Expr, e: &Expr)
-    ensures { found.new ≡ any_use u.now found.old (in_whole anywhere a.now ++ (in_whole anywhere b.now ++ in_whole anywhere e.now)) }
+    ensures { found.new
+        ≡ any_use u.now found.old
+        (in_whole anywhere a.now ++ (in_whole anywhere b.now ++ in_whole anywhere e.now)) }
 {
     in_expr(u, found, a);
     in_expr(u, found, b);
@@ -154,7 +157,8 @@ fn in_par(u: &Usage, found: &mut bool, l: &ParLoop)
 
 /// The function of that name, the first where two have it.
 fn func_of<'a>(funcs: &'a [Func], x: &[u8]) -> Option<&'a Func>
-    ensures { MatchOption result (func_of funcs.now x.now ≡ None) (λ f. func_of funcs.now x.now ≡ Some f.now) }
+    ensures { MatchOption result (func_of funcs.now x.now ≡ None)
+        (λ f. func_of funcs.now x.now ≡ Some f.now) }
 {
     for f in funcs {
         if f.name.text.as_slice() == x {

@@ -34,7 +34,10 @@ fn in_body<'a>(
     found: &mut Option<Fault>,
     body: &'a [Stmt],
 ) -> Result<(), NoMemory>
-    ensures { IfOk result (λ u. found.new ≡ lowest_in readers.now found.old (in_list (spot (texts_of scope.entry.items) []) body.now)) }
+    ensures { IfOk result
+        (λ u. found.new
+        ≡ lowest_in readers.now found.old
+        (in_list (spot (texts_of scope.entry.items) []) body.now)) }
 {
     let mut w = Spot { scope, rounds: &[] };
     in_list(alloc, &mut w, readers, found, body)
@@ -46,7 +49,10 @@ fn in_func(
     found: &mut Option<Fault>,
     f: &Func,
 ) -> Result<(), NoMemory>
-    ensures { IfOk result (λ u. found.new ≡ lowest_in readers.now found.old (in_list (spot (texts f.now.params.items) []) f.now.body.items)) }
+    ensures { IfOk result
+        (λ u. found.new
+        ≡ lowest_in readers.now found.old
+        (in_list (spot (texts f.now.params.items) []) f.now.body.items)) }
 {
     let scope = texts(alloc, &f.params)?;
     in_body(alloc, scope, readers, found, &f.body)
@@ -72,7 +78,8 @@ fn in_main(
     found: &mut Option<Fault>,
     body: &[Stmt],
 ) -> Result<(), NoMemory>
-    ensures { IfOk result (λ u. found.new ≡ lowest_in readers.now found.old (in_list (spot [] []) body.now)) }
+    ensures { IfOk result
+        (λ u. found.new ≡ lowest_in readers.now found.old (in_list (spot [] []) body.now)) }
 {
     in_body(alloc, Vec::new(alloc), readers, found, body)
 }
