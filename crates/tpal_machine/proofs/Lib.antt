@@ -42,3 +42,9 @@ pub mod Kit
 pub mod Sample
 -- instructions that go on to the next one, counted afterwards
 pub mod Further
+-- what takes memory
+pub mod Memory
+-- what a step, a turn, an answer and a merge keep
+pub mod Keeping
+-- what a task owes after a step and after a turn
+pub mod Owed

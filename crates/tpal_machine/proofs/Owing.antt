@@ -1,5 +1,5 @@
 -- What a task is bound to: by its step, and at most one ending.
-use Rattle.std.proofs.Common.{◌≡◌, ℕ, Bool, true, false, None, refl, ap, sym, subst, ◌∙◌}
+use Rattle.std.proofs.Common.{◌≡◌, ℕ, ◌+◌, ◌≤◌, Bool, true, false, None, refl, ap, sym, subst, ◌∙◌, arith}
 use Rattle.tpal_syntax.specs.Listing.{Listing}
 use Rattle.tpal_machine.specs.declared.ends.Ending.{Ending}
 use Rattle.tpal_machine.specs.declared.ends.Ending.TheVariants as ending
@@ -12,22 +12,22 @@ use Rattle.tpal_machine.specs.Step.{Step, step}
 use Rattle.tpal_machine.specs.Within.{Owing, NextOwes, JoinedOwes}
 
 -- bound to an ending for some least number of points
-record Somehow (code : Listing) (heartbeat : ℕ) (due : Bool) (state : State) (e : Ending) : Type 0 where
-  least : ℕ
-  bound : Bound code heartbeat due least state e
+pub record Somehow (code : Listing) (heartbeat : ℕ) (due : Bool) (state : State) (e : Ending) : Type 0 where
+  pub least : ℕ
+  pub bound : Bound code heartbeat due least state e
 
 module _ (code : Listing) (heartbeat : ℕ) where
-  abbrev Some_bound : Owing
+  abbrev pub Some_bound : Owing
   Some_bound due state e = Somehow code heartbeat due state e
 
   some : (n : ℕ) (due : Bool) (state : State) (e : Ending) → Bound code heartbeat due n state e → Some_bound due state e
   some n due state e bound = record { least = n; bound = bound }
 
   -- what a task that is bound to an ending is bound to after a step
-  abbrev By_step : Bool → State → Ending → Step → Type 0
+  abbrev pub By_step : Bool → State → Ending → Step → Type 0
   By_step due state e one = NextOwes code heartbeat Some_bound due state e one
 
-  by_step : (due : Bool) (n : ℕ) (state : State) (e : Ending) → Bound code heartbeat due n state e → By_step due state e (step code heartbeat true state)
+  pub by_step : (due : Bool) (n : ℕ) (state : State) (e : Ending) → Bound code heartbeat due n state e → By_step due state e (step code heartbeat true state)
   by_step false n state e (ends _ _ is) = subst (By_step false state e) (sym is) (refl, refl)
   by_step due n state e (goes _ _ m _ after _ few is bound) = subst (By_step due state e) (sym is) (some m due after e bound)
   by_step false n state e (beats _ m _ after diverted _ few goes_on is bound other) =
@@ -59,6 +59,15 @@ module _ (code : Listing) (heartbeat : ℕ) where
           joined_owes = some 0 false joined e bound;
         },
       )
+
+  -- a task that is bound with a least number of points is bound with none
+  pub no_least : (due : Bool) (n : ℕ) (state : State) (e : Ending) → Bound code heartbeat due n state e → Bound code heartbeat due 0 state e
+  no_least false n state e (ends _ _ is) = ends state e is
+  no_least due n state e (goes _ _ m _ after _ few is bound) = goes due 0 0 state after e (omega arith) is (no_least due m after e bound)
+  no_least false n state e (beats _ m _ after diverted _ few calmly is bound other) = beats 0 0 state after diverted e (omega arith) calmly is (no_least false m after e bound) other
+  no_least true n state e (asks _ waits _ is bound) = asks state waits e is bound
+  no_least false n state e (forks _ parts p q _ is left right merged) = forks state parts p q e is left right merged
+  no_least false n state e (forks_on _ parts p q joined _ is left right merged bound) = forks_on state parts p q joined e is left right merged bound
 
   -- a task is bound to at most one ending
   pub one_ending : (due : Bool) (n m : ℕ) (state : State) (e f : Ending) → Bound code heartbeat due n state e → Bound code heartbeat due m state f → e ≡ f

@@ -25,8 +25,11 @@ use Rattle.tpal_machine.specs.declared.ends.Tie.{Tie}
 use Rattle.tpal_machine.specs.declared.faults.Fault.{Fault}
 use Rattle.tpal_machine.specs.declared.faults.Fault.TheVariants as fault
 use Rattle.tpal_machine.specs.Cut.{Forked, on_record, on_pending, fork_under}
+use Rattle.tpal_machine.specs.Cut as cutting
 use Rattle.tpal_machine.specs.Effect as effect
 use Rattle.tpal_machine.specs.Effect.{Effect, Halting, on_oldest}
+use Rattle.tpal_machine.specs.Ended.{ended}
+use Rattle.tpal_machine.specs.Keeping.{IsUndiverted}
 use Rattle.tpal_machine.specs.Owes.{Bound}
 use Rattle.tpal_machine.specs.Owes as owes
 use Rattle.tpal_machine.specs.Reading.{register, operand, with_register, block_at, note_of}
@@ -35,24 +38,24 @@ use Rattle.tpal_machine.specs.Serial as serial
 use Rattle.tpal_machine.specs.State.{State}
 use Rattle.tpal_machine.specs.Step.{Step, Goes, Beats, Ends, Asks, Forks, Stuck, Strays, at_block, entered_by, stepped, asked, halting, forked, if_jump, executed, jump, halt, is_end, join_end, joined, join, finished, advanced, step_at, step_in, step}
 
--- the same step, but where the first is a beat
-abbrev pub Agree : Step → Step → Type 0
-Agree (Goes after) other = other ≡ Goes after
-Agree (Beats diverted) other = Unit {0}
-Agree (Ends e) other = other ≡ Ends e
-Agree (Asks waits) other = other ≡ Asks waits
-Agree (Forks parts) other = other ≡ Forks parts
-Agree (Stuck f) other = other ≡ Stuck f
-Agree Strays other = other ≡ Strays
+-- a step that is no beat
+abbrev IsPlain : Step → Type 0
+IsPlain (Goes after) = Unit {0}
+IsPlain (Beats diverted) = ⊥
+IsPlain (Ends e) = Unit {0}
+IsPlain (Asks waits) = Unit {0}
+IsPlain (Forks parts) = Unit {0}
+IsPlain (Stuck f) = Unit {0}
+IsPlain Strays = Unit {0}
 
-same : (one : Step) → Agree one one
-same (Goes after) = refl
-same (Beats diverted) = tt
-same (Ends e) = refl
-same (Asks waits) = refl
-same (Forks parts) = refl
-same (Stuck f) = refl
-same Strays = refl
+same : (one : Step) → IsPlain one → IsUndiverted one one
+same (Goes after) plain = refl
+same (Beats diverted) plain = absurd plain
+same (Ends e) plain = refl
+same (Asks waits) plain = refl
+same (Forks parts) plain = refl
+same (Stuck f) plain = refl
+same Strays plain = refl
 
 -- the entry of a promotion-ready block, by the tests of which it is made
 abbrev ready : Bool → Bool → Bool → Bool → ℕ → ℕ → State → Step
@@ -61,11 +64,11 @@ ready quiet full marked allowed l handler state =
     (Beats (record (with_register (at_block handler state) 30 (word.Label l)) { beat = cond quiet (record state.beat { quiet = false }) (cond (not quiet && (full && (marked && allowed))) (record { count = 0; quiet = true; granted = true }) state.beat) }))
     (Goes (record (at_block l state) { beat = cond quiet (record state.beat { quiet = false }) (cond (not quiet && (full && (marked && allowed))) (record { count = 0; quiet = true; granted = true }) state.beat) }))
 
-ready_agrees : (quiet full marked : Bool) (l handler : ℕ) (state : State) → Agree (ready quiet full marked true l handler state) (ready quiet full marked false l handler state)
+ready_agrees : (quiet full marked : Bool) (l handler : ℕ) (state : State) → IsUndiverted (ready quiet full marked true l handler state) (ready quiet full marked false l handler state)
 ready_agrees true full marked l handler state = refl
 ready_agrees false false marked l handler state = refl
 ready_agrees false true false l handler state = refl
-ready_agrees false true true l handler state = tt
+ready_agrees false true true l handler state = (_, refl)
 
 ready_unmarked : (quiet full : Bool) (l handler : ℕ) (state : State) → ready quiet full false true l handler state ≡ ready quiet full false false l handler state
 ready_unmarked true full l handler state = refl
@@ -76,90 +79,118 @@ ready_unmarked false true l handler state = refl
 abbrev Common : (Step → Step → Type 0) → ℕ → State → Type 0
 Common Both heartbeat state = (l handler : ℕ) (after : State) → after.stack ≡ state.stack → Both (ready after.beat.quiet (nat_le heartbeat after.beat.count) (effect.has_mark after.stack) true l handler after) (ready after.beat.quiet (nat_le heartbeat after.beat.count) (effect.has_mark after.stack) false l handler after)
 
-module _ (Both : Step → Step → Type 0) (every : (one : Step) → Both one one) (code : Listing) (heartbeat : ℕ) (state : State) (entry : Common Both heartbeat state) where
+module _ (Both : Step → Step → Type 0) (every : (one : Step) → IsPlain one → Both one one) (code : Listing) (heartbeat : ℕ) (state : State) (entry : Common Both heartbeat state) where
+  on_effect : (r : Effect) → Both (stepped r) (stepped r)
+  on_effect (Ok after) = every (Goes after) tt
+  on_effect (Err f) = every (Stuck f) tt
+
+  on_ask : (r : Effect) → Both (asked r) (asked r)
+  on_ask (Ok waits) = every (Asks waits) tt
+  on_ask (Err f) = every (Stuck f) tt
+
+  on_halt : (r : Halting) → Both (halting code r) (halting code r)
+  on_halt (Ok (effect.Goes after)) = every (Goes after) tt
+  on_halt (Ok (effect.Stops stop after)) = every (Ends (ended code stop after)) tt
+  on_halt (Err f) = every (Stuck f) tt
+
+  on_fork : (r : Result Forked Fault) → Both (forked r) (forked r)
+  on_fork (Ok parts) = every (Forks parts) tt
+  on_fork (Err f) = every (Stuck f) tt
+
+  on_end : (k : ℕ) (after : State) → Both (join_end code k after) (join_end code k after)
+  on_end k after = by_end (is_end after.goal k)
+    where
+      by_end : (b : Bool) → Both (cond b (halting code (effect.stops after.pending Done after)) (Stuck fault.WrongRecord)) (cond b (halting code (effect.stops after.pending Done after)) (Stuck fault.WrongRecord))
+      by_end true = on_halt (effect.stops after.pending Done after)
+      by_end false = every (Stuck fault.WrongRecord) tt
+
+  on_halted : (g : Goal) (after : State) → Both (halt g code after) (halt g code after)
+  on_halted goal.Root after = on_halt (effect.stops after.pending Done after)
+  on_halted (goal.At rec side target) after = every (Stuck fault.NotRoot) tt
+
   by_note : (n : Note) (l : ℕ) (after : State) → after.stack ≡ state.stack → Both (entered_by n heartbeat true l after) (entered_by n heartbeat false l after)
-  by_note note.Plain l after stack = every _
+  by_note note.Plain l after stack = every _ tt
   by_note (note.Ready handler) l after stack = entry l handler after stack
-  by_note (note.Target target) l after stack = every _
+  by_note (note.Target target) l after stack = every _ tt
 
-  by_choice : (b : Bool) (one other more : Step) → Both one other → Both (cond b more one) (cond b more other)
-  by_choice true one other more both = every more
-  by_choice false one other more both = both
+  by_choice : (b : Bool) (one other more : Step) → Both more more → Both one other → Both (cond b more one) (cond b more other)
+  by_choice true one other more alike both = alike
+  by_choice false one other more alike both = both
 
-  by_other : (b : Bool) (one other more : Step) → Both one other → Both (cond b one more) (cond b other more)
-  by_other true one other more both = both
-  by_other false one other more both = every more
+  by_other : (b : Bool) (one other more : Step) → Both more more → Both one other → Both (cond b one more) (cond b other more)
+  by_other true one other more alike both = both
+  by_other false one other more alike both = alike
 
   by_test : (w : Word) (l : ℕ) (after : State) → after.stack ≡ state.stack → Both (if_jump code heartbeat true w l after) (if_jump code heartbeat false w l after)
-  by_test (word.Int n) l after stack = by_choice (int_eq n (pos 0)) _ _ _ (by_note (note_of (block_at code l)) l after stack)
-  by_test (word.Label k) l after stack = every _
-  by_test (word.Rec k) l after stack = every _
-  by_test word.Nil l after stack = every _
+  by_test (word.Int n) l after stack = by_choice (int_eq n (pos 0)) _ _ _ (every (Goes after) tt) (by_note (note_of (block_at code l)) l after stack)
+  by_test (word.Label k) l after stack = every _ tt
+  by_test (word.Rec k) l after stack = every _ tt
+  by_test word.Nil l after stack = every _ tt
 
   by_label : (w : Word) (after : State) → after.stack ≡ state.stack → Both (jump code heartbeat true w after) (jump code heartbeat false w after)
-  by_label (word.Int n) after stack = every _
+  by_label (word.Int n) after stack = every _ tt
   by_label (word.Label l) after stack = by_note (note_of (block_at code l)) l after stack
-  by_label (word.Rec k) after stack = every _
-  by_label word.Nil after stack = every _
+  by_label (word.Rec k) after stack = every _ tt
+  by_label word.Nil after stack = every _ tt
 
   by_met : (met : Option Tie) (k : ℕ) (after : State) → after.stack ≡ state.stack → Both (joined code heartbeat true met k after) (joined code heartbeat false met k after)
-  by_met None k after stack = every _
-  by_met (Some tie) k after stack = by_other (nat_eq tie.rec k) _ _ _ (by_choice (is_some after.pending) _ _ _ (by_note (note_of (block_at code tie.target)) tie.target (record after { met = None }) stack))
+  by_met None k after stack = on_end k after
+  by_met (Some tie) k after stack = by_other (nat_eq tie.rec k) _ _ _ (on_end k after) (by_choice (is_some after.pending) _ _ _ (every (Stuck fault.Pending) tt) (by_note (note_of (block_at code tie.target)) tie.target (record after { met = None }) stack))
 
   by_record : (w : Word) (after : State) → after.stack ≡ state.stack → Both (join code heartbeat true w after) (join code heartbeat false w after)
-  by_record (word.Int n) after stack = every _
-  by_record (word.Label l) after stack = every _
+  by_record (word.Int n) after stack = every _ tt
+  by_record (word.Label l) after stack = every _ tt
   by_record (word.Rec k) after stack = by_met after.met k after stack
-  by_record word.Nil after stack = every _
+  by_record word.Nil after stack = every _ tt
 
   by_term : (t : Term) (after : State) → after.stack ≡ state.stack → Both (finished code heartbeat true t after) (finished code heartbeat false t after)
   by_term (term.Jump v) after stack = by_label (operand after.registers v) after stack
-  by_term term.Halt after stack = every _
+  by_term term.Halt after stack = on_halted after.goal after
   by_term (term.Join r) after stack = by_record (register after.registers r) after stack
 
   by_instr : (i : Instr) (after : State) → after.stack ≡ state.stack → Both (executed code heartbeat true i after) (executed code heartbeat false i after)
-  by_instr (instr.Move to v) after stack = every _
-  by_instr (instr.Calc to left alu right) after stack = every _
+  by_instr (instr.Move to v) after stack = every _ tt
+  by_instr (instr.Calc to left alu right) after stack = on_effect (effect.calc to left alu right after)
   by_instr (instr.IfJump test l) after stack = by_test (register after.registers test) l after stack
-  by_instr (instr.Load to base off) after stack = every _
-  by_instr (instr.Store base off v) after stack = every _
-  by_instr (instr.Salloc n) after stack = every _
-  by_instr (instr.Sfree n) after stack = every _
-  by_instr (instr.PrmPush base off cells split) after stack = every _
-  by_instr (instr.PrmPop base off) after stack = every _
-  by_instr instr.PrmDrop after stack = every _
-  by_instr (instr.PrmEmpty r) after stack = every _
-  by_instr (instr.PrmSplit base split) after stack = every _
-  by_instr (instr.JrAlloc to target) after stack = every _
-  by_instr (instr.Fork r child) after stack = every _
-  by_instr (instr.Fetch to table row col) after stack = every _
-  by_instr (instr.Put table row col v) after stack = every _
-  by_instr (instr.Rows to table) after stack = every _
-  by_instr (instr.Cols to table) after stack = every _
-  by_instr (instr.Make table rows cols place) after stack = every _
-  by_instr instr.Tick after stack = every _
-  by_instr (instr.Trap kind place) after stack = every _
-  by_instr (instr.Print r) after stack = every _
-  by_instr (instr.Emit table) after stack = every _
+  by_instr (instr.Load to base off) after stack = on_effect (effect.load to base off after)
+  by_instr (instr.Store base off v) after stack = on_effect (effect.store base off v after)
+  by_instr (instr.Salloc n) after stack = on_effect (effect.salloc n after)
+  by_instr (instr.Sfree n) after stack = on_effect (effect.sfree n after)
+  by_instr (instr.PrmPush base off cells split) after stack = on_effect (effect.prmpush base off cells split after)
+  by_instr (instr.PrmPop base off) after stack = on_effect (effect.prmpop base off after)
+  by_instr instr.PrmDrop after stack = on_effect (effect.prmdrop after)
+  by_instr (instr.PrmEmpty r) after stack = every _ tt
+  by_instr (instr.PrmSplit base split) after stack = on_effect (effect.prmsplit base split after)
+  by_instr (instr.JrAlloc to target) after stack = on_ask (effect.jralloc code to target after)
+  by_instr (instr.Fork r child) after stack = on_fork (cutting.fork code r child after)
+  by_instr (instr.Fetch to table row col) after stack = on_effect (effect.fetch to table row col after)
+  by_instr (instr.Put table row col v) after stack = on_effect (effect.put table row col v after)
+  by_instr (instr.Rows to table) after stack = every _ tt
+  by_instr (instr.Cols to table) after stack = every _ tt
+  by_instr (instr.Make table rows cols place) after stack = on_halt (effect.make code table rows cols place after)
+  by_instr instr.Tick after stack = on_halt (effect.tick after)
+  by_instr (instr.Trap kind place) after stack = on_halt (effect.trap kind place after)
+  by_instr (instr.Print r) after stack = on_effect (effect.print r after)
+  by_instr (instr.Emit table) after stack = on_effect (effect.emit table after)
 
   by_place : (i : Option Instr) (t : Term) → Both (step_at code heartbeat true i t state) (step_at code heartbeat false i t state)
   by_place None t = by_term t (advanced state) refl
   by_place (Some i) t = by_instr i (advanced state) refl
 
   by_block : (b : Option Block) → Both (step_in code heartbeat true b state) (step_in code heartbeat false b state)
-  by_block None = every _
+  by_block None = every Strays tt
   by_block (Some block) = by_place (slice_get block.body state.at) block.term
 
   both : Both (step code heartbeat true state) (step code heartbeat false state)
   both = by_block (block_at code state.block)
 
 -- a step that isn't diverted is the same where diversions are allowed, but where that one is a beat
-agrees : (code : Listing) (heartbeat : ℕ) (state : State) → Agree (step code heartbeat true state) (step code heartbeat false state)
-agrees code heartbeat state = both Agree same code heartbeat state (λ l handler after stack. ready_agrees after.beat.quiet (nat_le heartbeat after.beat.count) (effect.has_mark after.stack) l handler after)
+pub agrees : (code : Listing) (heartbeat : ℕ) (state : State) → IsUndiverted (step code heartbeat true state) (step code heartbeat false state)
+agrees code heartbeat state = both IsUndiverted same code heartbeat state (λ l handler after stack. ready_agrees after.beat.quiet (nat_le heartbeat after.beat.count) (effect.has_mark after.stack) l handler after)
 
 -- where no mark stands, no step is a beat
 unmarked : (code : Listing) (heartbeat : ℕ) (state : State) → effect.has_mark state.stack ≡ false → step code heartbeat true state ≡ step code heartbeat false state
-unmarked code heartbeat state none = both (λ one other. one ≡ other) (λ one. refl) code heartbeat state (λ l handler after stack.
+unmarked code heartbeat state none = both (λ one other. one ≡ other) (λ one plain. refl) code heartbeat state (λ l handler after stack.
     let free : effect.has_mark after.stack ≡ false = ap effect.has_mark stack ∙ none in
     ap (λ m. ready after.beat.quiet (nat_le heartbeat after.beat.count) m true l handler after) free
     ∙ ready_unmarked after.beat.quiet (nat_le heartbeat after.beat.count) l handler after
@@ -296,14 +327,14 @@ no_fork code heartbeat state parts none is = subst NoFork is (block_on (block_at
 module _ (code : Listing) (heartbeat : ℕ) where
   -- what a task is bound to whatever is diverted it is bound to where nothing is
   pub owes_serially : (n : ℕ) (state : State) (e : Ending) → Bound code heartbeat false n state e → BoundSerially code heartbeat n state e
-  owes_serially n state e (owes.ends _ _ is) = serial.ends state e (subst (λ s. Agree s (step code heartbeat false state)) is (agrees code heartbeat state))
+  owes_serially n state e (owes.ends _ _ is) = serial.ends state e (subst (λ s. IsUndiverted s (step code heartbeat false state)) is (agrees code heartbeat state))
   owes_serially n state e (owes.goes _ _ m _ after _ few is bound) =
-      serial.goes n m state after e few (subst (λ s. Agree s (step code heartbeat false state)) is (agrees code heartbeat state)) (owes_serially m after e bound)
+      serial.goes n m state after e few (subst (λ s. IsUndiverted s (step code heartbeat false state)) is (agrees code heartbeat state)) (owes_serially m after e bound)
   owes_serially n state e (owes.beats _ m _ after diverted _ few calmly is bound also) = serial.goes n m state after e few calmly (owes_serially m after e bound)
   owes_serially n state e (owes.forks _ parts p q _ is left right merged) =
-      serial.forks state parts p q e (subst (λ s. Agree s (step code heartbeat false state)) is (agrees code heartbeat state)) (owes_serially 0 parts.left (ending.At parts.rec Left p) left) (owes_serially 0 parts.child (ending.At parts.rec Right q) right) merged
+      serial.forks state parts p q e (subst (λ s. IsUndiverted s (step code heartbeat false state)) is (agrees code heartbeat state)) (owes_serially 0 parts.left (ending.At parts.rec Left p) left) (owes_serially 0 parts.child (ending.At parts.rec Right q) right) merged
   owes_serially n state e (owes.forks_on _ parts p q next _ is left right merged bound) =
-      serial.forks_on state parts p q next e (subst (λ s. Agree s (step code heartbeat false state)) is (agrees code heartbeat state)) (owes_serially 0 parts.left (ending.At parts.rec Left p) left) (owes_serially 0 parts.child (ending.At parts.rec Right q) right) merged (owes_serially 0 next e bound)
+      serial.forks_on state parts p q next e (subst (λ s. IsUndiverted s (step code heartbeat false state)) is (agrees code heartbeat state)) (owes_serially 0 parts.left (ending.At parts.rec Left p) left) (owes_serially 0 parts.child (ending.At parts.rec Right q) right) merged (owes_serially 0 next e bound)
 
   -- where no mark ever stands, what a task is bound to where nothing is diverted it is bound to
   pub owes_unmarked : (n : ℕ) (state : State) (e : Ending) → BoundSerially code heartbeat n state e → IsUnmarked code heartbeat state → Bound code heartbeat false n state e

@@ -40,3 +40,9 @@ pub mod Within
 pub mod Serial
 -- a small code written by hand
 pub mod Sample
+-- what a step, a turn and a merge keep of a task
+pub mod Keeping
+-- what a task owes after a step, and after a turn
+pub mod Owed
+-- what takes memory
+pub mod Memory

@@ -1,9 +1,12 @@
 // What a task ends with.
 
-ghost use Rattle.std.specs.Prelude.{◌≡◌, IfOk, IsTrue, slice_set};
+ghost use Rattle.std.specs.Prelude.{◌≡◌, IfOk, OnErr, IsTrue, slice_set};
 ghost use Rattle.tpal_machine.specs.Ended.{is_done, words_of, slices_of, side_of, ended};
+ghost use Rattle.tpal_machine.specs.Memory.{Collects};
 ghost use Rattle.tpal_machine.specs.Reading.{table_at, the_target, no_cells};
 ghost use Rattle.tpal_machine.specs.Seen.{state_of};
+ghost use Rattle.tpal_machine.specs.Step.{Ends};
+ghost use Rattle.tp_value.specs.declared.values.Stop.TheVariants as stops;
 ghost use Rattle.tpal_syntax.specs.Conditions.{are_distinct_tables};
 ghost use Rattle.tpal_syntax.specs.Parts.{table_of};
 
@@ -90,8 +93,10 @@ fn slices_of(
 }
 
 /// A side that stopped.
+#[tactic(auto, using(crate::proofs::Memory::done_is))]
 fn side_of(frame: Frame, code: &Code, target: u32, stop: Stop) -> Result<Side, NoMemory>
-    ensures { IfOk result (λ side. side ≡ side_of (the_target code.now target) stop (state_of frame)) }
+    ensures side { IfOk result (λ side. side ≡ side_of (the_target code.now target) stop (state_of frame)) }
+    ensures memory { OnErr result (stop ≡ stops.Done) }
 {
     let alloc = *frame.output.allocator();
     let ticks = frame.fuel.spent();
@@ -117,7 +122,8 @@ fn side_of(frame: Frame, code: &Code, target: u32, stop: Stop) -> Result<Side, N
 
 /// What a task ends with, by a stop.
 pub(crate) fn ended(frame: Frame, code: &Code, stop: Stop) -> Result<Ending, NoMemory>
-    ensures { IfOk result (λ ending. ending ≡ ended code.now stop (state_of frame)) }
+    ensures ended { IfOk result (λ ending. ending ≡ ended code.now stop (state_of frame)) }
+    ensures memory { OnErr result (Collects (Ends (ended code.now stop (state_of frame)))) }
 {
     match frame.goal {
         Goal::Root => Ok(Ending::Root(Outcome {

@@ -3,6 +3,7 @@
 ghost use Rattle.std.specs.Prelude.{◌≡◌, length};
 ghost use Rattle.tpal_machine.specs.Answer.{IsFlow};
 ghost use Rattle.tpal_machine.specs.Effect as effect;
+ghost use Rattle.tpal_machine.specs.Memory.{FlowTakes};
 ghost use Rattle.tpal_machine.specs.Seen.{state_of, Keeps};
 ghost use Rattle.tpal_machine.specs.Step.{enters, entered_ready, at_block};
 
@@ -30,6 +31,7 @@ fn go_to(frame: &mut Frame, label: u32)
 /// Control enters a promotion-ready block.
 fn enter_ready(frame: &mut Frame, code: &Code, pace: Pace, label: u32, handler: u32) -> Flow
     ensures flow { IsFlow code.now (entered_ready pace.heartbeat pace.allowed label handler (state_of frame.old)) result (state_of frame.new) }
+    ensures room { FlowTakes result ⊥ }
     ensures kept { Keeps frame.old frame.new }
 {
     let marked = frame.stack.oldest().is_some();
@@ -46,6 +48,7 @@ fn enter_ready(frame: &mut Frame, code: &Code, pace: Pace, label: u32, handler: 
 /// Control enters a block.
 pub(crate) fn enter(frame: &mut Frame, code: &Code, pace: Pace, label: u32) -> Flow
     ensures flow { IsFlow code.now (enters code.now pace.heartbeat pace.allowed label (state_of frame.old)) result (state_of frame.new) }
+    ensures room { FlowTakes result ⊥ }
     ensures kept { Keeps frame.old frame.new }
 {
     match code.blocks().get(label as usize) {

@@ -7,6 +7,7 @@ ghost use Rattle.tpal_machine.specs.Answer.{GivesHalt};
 ghost use Rattle.tpal_machine.specs.Effect as effect;
 ghost use Rattle.tpal_machine.specs.Passing.{standing, Stays};
 ghost use Rattle.tpal_machine.specs.Seen.{state_of, Keeps};
+ghost use Rattle.tpal_machine.specs.declared.flow.Halt.TheVariants as halts;
 
 use crate::faults::Fault;
 use crate::flow::Halt;
@@ -15,7 +16,8 @@ use tp_value::{Place, Stop, TrapKind};
 
 /// A stop, unless a join record is left to use.
 pub(crate) fn stops(frame: &Frame, stop: Stop) -> Halt
-    ensures { GivesHalt (effect.stops frame.now.pending stop (state_of frame.now)) result (state_of frame.now) }
+    ensures effect { GivesHalt (effect.stops frame.now.pending stop (state_of frame.now)) result (state_of frame.now) }
+    ensures room { result ≡ halts.NoMemory → ⊥ }
 {
     match frame.pending {
         None => Halt::Stops(stop),
@@ -26,6 +28,7 @@ pub(crate) fn stops(frame: &Frame, stop: Stop) -> Halt
 /// `tick`.
 pub(crate) fn tick(frame: &mut Frame) -> Halt
     ensures effect { GivesHalt (effect.tick (state_of frame.old)) result (state_of frame.new) }
+    ensures room { result ≡ halts.NoMemory → ⊥ }
     ensures kept { Keeps frame.old frame.new }
 {
     if frame.fuel.spend() {
@@ -51,6 +54,7 @@ pub(crate) fn tick_within(frame: &mut Frame) -> bool
 /// `trap KIND, line, col`.
 pub(crate) fn trap(frame: &mut Frame, kind: TrapKind, place: Place) -> Halt
     ensures effect { GivesHalt (effect.trap kind place (state_of frame.old)) result (state_of frame.new) }
+    ensures room { result ≡ halts.NoMemory → ⊥ }
     ensures kept { Keeps frame.old frame.new }
 {
     stops(frame, Stop::Trap(kind, place))
