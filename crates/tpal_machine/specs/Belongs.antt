@@ -43,8 +43,8 @@ abbrev pub IsPositionIn : Option Block → ℕ → Type 0
 IsPositionIn None at = ⊥
 IsPositionIn (Some block) at = at ≤ length block.body
 
--- what a task holds is of a code: it has one held table for each of the code's, its labels stand for
--- blocks, and its join targets are join targets
+-- what a task holds is of a code: it has one held table for each of the code's, its labels stand
+-- for blocks, and its join targets are join targets
 pub record HoldsOf (code : Listing) (state : State) : Type 0 where
   pub registers : length state.registers ≡ 32
   pub words : All (IsWordOf code) state.registers
@@ -55,8 +55,8 @@ pub record HoldsOf (code : Listing) (state : State) : Type 0 where
   pub met : IsTieOf code state.met
   pub waiting : IsWaitOf code state.waiting
 
--- a task belongs to a code: what it holds is of the code, and so is its next instruction or the end of the
--- block at which it stands
+-- a task belongs to a code: what it holds is of the code, and so is its next instruction or the end
+-- of the block at which it stands
 pub record BelongsTo (code : Listing) (state : State) : Type 0 where
   pub holds : HoldsOf code state
   pub next : IsPositionIn (block_at code state.block) state.at

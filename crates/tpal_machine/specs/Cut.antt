@@ -1,8 +1,11 @@
 -- The parts of a fork.
-use Rattle.std.specs.Prelude.{ℕ, zero, suc, pos, ◌+◌, Bool, true, ◌&&◌, ◌==◌, is_some, if◌then◌else◌, List, [], ◌∷◌, Option, None, Some, Result, Ok, Err, slice_set}
+use Rattle.std.specs.Prelude.{ℕ, zero, suc, pos, ◌+◌, Bool, true, ◌&&◌, ◌==◌, is_some}
+use Rattle.std.specs.Prelude.{if◌then◌else◌, List, [], ◌∷◌, Option, None, Some, Result, Ok, Err}
+use Rattle.std.specs.Prelude.{slice_set}
 use Rattle.beat_count.specs.BeatState.{BeatState}
 use Rattle.beat_count.specs.Heartbeat.{no_beat, taken}
-use Rattle.slices.specs.Holding.{Holding, cell_at, rows_below, rows_from, without_row, row_below, row_from, shared}
+use Rattle.slices.specs.Holding.{Holding, cell_at, rows_below, rows_from, without_row, row_below}
+use Rattle.slices.specs.Holding.{row_from, shared}
 use Rattle.std.specs.FinMap.{empty}
 use Rattle.stack_marks.specs.Stacks as stacks
 use Rattle.stack_marks.specs.Stacks.{StackValue}
@@ -31,9 +34,13 @@ use Rattle.tpal_machine.specs.State.{State}
 -- a table's number and where it is cut
 abbrev pub carried_at : List Word → CarryAt → Result (ℕ × TableCut) Fault
 carried_at words (carry.Rows table at) = on_number (register words at) (λ i. Ok (table, ByRows i))
-carried_at words (carry.Cells table row at) = on_number (register words row) (λ i. on_number (register words at) (λ j. Ok (table, ByCells i j)))
+carried_at words (carry.Cells table row at) =
+    on_number (register words row)
+    (λ i. on_number (register words at) (λ j. Ok (table, ByCells i j)))
 
-abbrev pub with_cut : Result (ℕ × TableCut) Fault → Result (List (ℕ × TableCut)) Fault → Result (List (ℕ × TableCut)) Fault
+abbrev pub with_cut : Result (ℕ × TableCut) Fault
+    → Result (List (ℕ × TableCut)) Fault
+    → Result (List (ℕ × TableCut)) Fault
 with_cut (Ok cut) (Ok cuts) = Ok (cut ∷ cuts)
 with_cut (Ok cut) (Err f) = Err f
 with_cut (Err f) cuts = Err f
@@ -51,7 +58,8 @@ cut_of (c ∷ cs) t = if c.0 == t then c.1 else cut_of cs t
 -- whether so many cells of a row, from a column on, are all held
 unfoldable pub is_row_held : Holding → ℕ → ℕ → ℕ → Bool
 is_row_held h row col zero = true
-is_row_held h row col (suc n) = is_some (cell_at h (pos row) (pos col)) && is_row_held h row (col + 1) n
+is_row_held h row col (suc n) =
+    is_some (cell_at h (pos row) (pos col)) && is_row_held h row (col + 1) n
 
 -- whether so many rows from one on are all held
 unfoldable pub are_rows_held : Holding → ℕ → ℕ → Bool
@@ -85,7 +93,8 @@ child_of (ByCells row at) h = row_from h row at
 child_of Whole h = if is_whole h then shared h else nothing_of h
 
 -- a part of each table from a number on
-abbrev pub each_part : (TableCut → Holding → Holding) → List (ℕ × TableCut) → ℕ → List Holding → List Holding
+abbrev pub each_part : (TableCut → Holding → Holding) → List (ℕ × TableCut) → ℕ → List Holding
+    → List Holding
 each_part part cuts t [] = []
 each_part part cuts t (h ∷ hs) = part (cut_of cuts t) h ∷ each_part part cuts (t + 1) hs
 
@@ -99,7 +108,8 @@ pub record Forked : Type 0 where
   pub child : State
 
 -- the parts of a task by the parts of its stack, a base, its record and the cuts of its tables
-abbrev pub parted : StackValue → StackValue → StackValue → ℕ → Tie → ℕ → List (ℕ × TableCut) → State → Forked
+abbrev pub parted : StackValue → StackValue → StackValue → ℕ → Tie → ℕ → List (ℕ × TableCut) → State
+    → Forked
 parted left_stack rest_stack child_stack child tie base cuts state = record {
   rec = tie.rec;
   left = record state {
@@ -142,7 +152,9 @@ parted left_stack rest_stack child_stack child tie base cuts state = record {
 -- the parts of a task by its oldest mark
 abbrev pub parts : Target → ℕ → Tie → Mark → List (ℕ × TableCut) → State → Forked
 parts target child tie mark cuts state =
-    parted (stacks.left_of state.stack mark.base mark.cells target.kind) (stacks.rest_of state.stack mark.base mark.cells) (stacks.child_of state.stack mark.base mark.cells)
+    parted (stacks.left_of state.stack mark.base mark.cells target.kind)
+    (stacks.rest_of state.stack mark.base mark.cells)
+    (stacks.child_of state.stack mark.base mark.cells)
     child tie mark.base cuts state
 
 -- goes on with the record that a word is

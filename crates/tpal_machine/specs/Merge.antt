@@ -1,5 +1,6 @@
 -- The merge of two sides.
-use Rattle.std.specs.Prelude.{◌≡◌, ℕ, ◌+◌, ◌≤◌, pos, nat_eq, if◌then◌else◌, List, [], ◌∷◌, ◌++◌, map, None, Some, AllPairs, slice_get, slice_set}
+use Rattle.std.specs.Prelude.{◌≡◌, ℕ, ◌+◌, ◌≤◌, pos, nat_eq, if◌then◌else◌, List, [], ◌∷◌, ◌++◌}
+use Rattle.std.specs.Prelude.{map, None, Some, AllPairs, slice_get, slice_set}
 use Rattle.beat_count.specs.Heartbeat.{no_beat}
 use Rattle.beat_count.specs.Joining.{joined_stop, joined_ticks}
 use Rattle.slices.specs.Holding.{Holding, together, SameSize, CommonCell}
@@ -30,7 +31,8 @@ WhereDone Done P = P
 WhereDone (Trap kind place) P = Unit {0}
 WhereDone NoFuel P = Unit {0}
 
--- a side has the words of the renaming's left names, and a part of each carried table, in their order
+-- a side has the words of the renaming's left names, and a part of each carried table, in their
+-- order
 pub record IsSideOf (target : Target) (side : Side) : Type 0 where
   pub words : WhereDone side.stop (map (λ w. w.0) side.words ≡ map (λ p. p.0) target.renames)
   pub slices : WhereDone side.stop (map (λ s. s.0) side.slices ≡ map table_of target.carries)
@@ -58,7 +60,9 @@ pub record AreSides (code : Listing) (rest : RestState) (left right : Side) : Ty
   pub right_ticks : right.ticks ≤ rest.limit + 1
   pub left_side : IsSideOf (the_target code rest.target) left
   pub right_side : IsSideOf (the_target code rest.target) right
-  pub parts : (i : ℕ) (c : CarryAt) → slice_get (the_target code rest.target).carries i ≡ Some c → AllPairs AreParts (parts_of rest left right (table_of c))
+  pub parts : (i : ℕ) (c : CarryAt)
+      → slice_get (the_target code rest.target).carries i ≡ Some c
+      → AllPairs AreParts (parts_of rest left right (table_of c))
 
 -- ---- what they merge to
 
@@ -81,22 +85,27 @@ renamed (p ∷ ps) (w ∷ ws) = (p.1, w.1) ∷ renamed ps ws
 -- the tables with these parts put to those of their numbers
 abbrev pub put_together : List Holding → List (ℕ × Holding) → List Holding
 put_together tables [] = tables
-put_together tables (s ∷ ss) = put_together (slice_set tables s.0 (together (table_at tables s.0) s.1)) ss
+put_together tables (s ∷ ss) =
+    put_together (slice_set tables s.0 (together (table_at tables s.0) s.1)) ss
 
 -- what was printed: before the fork, by the left, and by the right where the left came to its end
 abbrev pub joined_output : RestState → Side → Side → List ℕ
-joined_output rest left right = rest.output ++ left.output ++ (if is_done left.stop then right.output else [])
+joined_output rest left right =
+    rest.output ++ left.output ++ (if is_done left.stop then right.output else [])
 
 -- the end of both by a stop
 abbrev pub ended_together : Goal → Stop → ℕ → List ℕ → Ending
-ended_together goal.Root stop ticks output = ending.Root (record { stop = stop; output = output; ticks = ticks })
+ended_together goal.Root stop ticks output =
+    ending.Root (record { stop = stop; output = output; ticks = ticks })
 ended_together (goal.At rec side target) stop ticks output =
-    ending.At rec side (record { stop = stop; ticks = ticks; output = output; words = []; slices = [] })
+    ending.At rec side
+    (record { stop = stop; ticks = ticks; output = output; words = []; slices = [] })
 
--- the base of the activation in register 31, the left's words under their names, and the right's under
--- the new ones
+-- the base of the activation in register 31, the left's words under their names, and the right's
+-- under the new ones
 abbrev pub merged_registers : ℕ → List (ℕ × ℕ) → List (ℕ × Word) → List (ℕ × Word) → List Word
-merged_registers base renames left right = filled (filled (slice_set no_words 31 (word.Int (pos base))) left) (renamed renames right)
+merged_registers base renames left right =
+    filled (filled (slice_set no_words 31 (word.Int (pos base))) left) (renamed renames right)
 
 -- the task that goes on at the combining block
 abbrev pub merged_task : Target → RestState → Side → Side → ℕ → List ℕ → State
@@ -117,19 +126,25 @@ merged_task target rest left right ticks output = record {
 }
 
 abbrev pub joined_by : Stop → ℕ → List ℕ → Target → RestState → Side → Side → Joined
-joined_by Done ticks output target rest left right = Goes (merged_task target rest left right ticks output)
-joined_by (Trap kind place) ticks output target rest left right = Ends (ended_together rest.goal (Trap kind place) ticks output)
-joined_by NoFuel ticks output target rest left right = Ends (ended_together rest.goal NoFuel ticks output)
+joined_by Done ticks output target rest left right =
+    Goes (merged_task target rest left right ticks output)
+joined_by (Trap kind place) ticks output target rest left right =
+    Ends (ended_together rest.goal (Trap kind place) ticks output)
+joined_by NoFuel ticks output target rest left right =
+    Ends (ended_together rest.goal NoFuel ticks output)
 
 -- two sides put together, left then right
 abbrev pub joined : Listing → RestState → Side → Side → Joined
 joined code rest left right =
-    joined_by (joined_stop left.stop left.ticks right.stop right.ticks rest.limit) (joined_ticks left.stop left.ticks right.stop right.ticks rest.limit) (joined_output rest left right) (the_target code rest.target) rest left right
+    joined_by (joined_stop left.stop left.ticks right.stop right.ticks rest.limit)
+    (joined_ticks left.stop left.ticks right.stop right.ticks rest.limit)
+    (joined_output rest left right) (the_target code rest.target) rest left right
 
 -- what a rest and two sides merge to: nothing where they aren't of one record, or not of the code
-pub record MergeOf (code : Listing) (rest : RestState) (left right : Side) (both : Joined) : Type 0 where
-  pub sides : AreSides code rest left right
-  pub rest_belongs : RestBelongsTo code rest
-  pub left_belongs : SideBelongsTo code left
-  pub right_belongs : SideBelongsTo code right
-  pub gives : joined code rest left right ≡ both
+pub record MergeOf (code : Listing) (rest : RestState) (left right : Side) (both : Joined) : Type 0
+  where
+    pub sides : AreSides code rest left right
+    pub rest_belongs : RestBelongsTo code rest
+    pub left_belongs : SideBelongsTo code left
+    pub right_belongs : SideBelongsTo code right
+    pub gives : joined code rest left right ≡ both

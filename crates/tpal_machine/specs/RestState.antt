@@ -7,9 +7,9 @@ use Rattle.tpal_machine.specs.declared.ends.End.TheVariants as «end»
 use Rattle.tpal_machine.specs.declared.ends.Goal.{Goal}
 use Rattle.tpal_machine.specs.declared.ends.Goal.TheVariants as goal
 
--- the stack below the cut, what neither side has of each table, what was printed before the fork, where
--- the forked task ends, the base of the activation that was cut, the record and its join target, the
--- fuel's limit and the tables that were made
+-- the stack below the cut, what neither side has of each table, what was printed before the fork,
+-- where the forked task ends, the base of the activation that was cut, the record and its join
+-- target, the fuel's limit and the tables that were made
 pub record RestState : Type 0 where
   pub stack : StackValue
   pub tables : List Holding

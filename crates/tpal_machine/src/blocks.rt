@@ -9,7 +9,8 @@ use tpal_syntax::{Block, CarryAt, Code, CutKind, Note, Target};
 /// The block at a label, where there is one.
 pub(crate) fn block_at(code: &Code, label: u32) -> Option<&Block>
     ensures right { IsCode code.now.tables code.now.blocks }
-    ensures found { MatchOption result (block_at code.now label ≡ None) (λ block. block_at code.now label ≡ Some block.now) }
+    ensures found { MatchOption result (block_at code.now label ≡ None)
+        (λ block. block_at code.now label ≡ Some block.now) }
 {
     code.blocks().get(label as usize)
 }
@@ -17,7 +18,8 @@ pub(crate) fn block_at(code: &Code, label: u32) -> Option<&Block>
 /// The join target at a label, where that is one.
 #[tactic(auto, using(crate::proofs::CodeBlocks::tables_differ))]
 pub(crate) fn target_at(code: &Code, label: u32) -> Option<&Target>
-    ensures found { MatchOption result (target_at code.now label ≡ None) (λ target. target_at code.now label ≡ Some target.now) }
+    ensures found { MatchOption result (target_at code.now label ≡ None)
+        (λ target. target_at code.now label ≡ Some target.now) }
     ensures right { IfSome result (λ target. IsTrue (are_distinct_tables target.now.carries)) }
 {
     match code.blocks().get(label as usize) {

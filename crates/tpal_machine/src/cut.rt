@@ -3,7 +3,8 @@
 ghost use Rattle.std.specs.Prelude.{◌≡◌, IfOk, IfErr, Ok};
 ghost use Rattle.tpal_machine.specs.Answer.{FailsAs};
 ghost use Rattle.tpal_machine.specs.declared.cut.TableCut.TheVariants.{Whole};
-ghost use Rattle.tpal_machine.specs.Cut.{carried_at, carried, cut_of, rest_of, left_of, child_of, each_part, is_whole, nothing_of};
+ghost use Rattle.tpal_machine.specs.Cut.{carried_at, carried, cut_of, rest_of, left_of, child_of};
+ghost use Rattle.tpal_machine.specs.Cut.{each_part, is_whole, nothing_of};
 
 use crate::faults::Fault;
 use crate::flow::Trouble;

@@ -1,6 +1,7 @@
 // One step of a task.
 
-ghost use Rattle.std.specs.Prelude.{◌≡◌, ◌<◌, ◌^◌, ℕ, IfSome, MatchOption, None, Some, Err, length, slice_get};
+ghost use Rattle.std.specs.Prelude.{◌≡◌, ◌<◌, ◌^◌, ℕ, IfSome, MatchOption, None, Some, Err, length};
+ghost use Rattle.std.specs.Prelude.{slice_get};
 ghost use Rattle.tpal_machine.specs.Answer.{Gives, GivesOr, GivesHalt, IsFlow};
 ghost use Rattle.tpal_machine.specs.Effect as effects;
 ghost use Rattle.tpal_machine.specs.Effect.{Effect, Halting};
@@ -10,7 +11,8 @@ ghost use Rattle.tpal_machine.specs.Memory.{FlowTakes, InstrTakes, NextTakes};
 ghost use Rattle.tpal_machine.specs.Reading.{block_at};
 ghost use Rattle.tpal_machine.specs.Seen.{state_of, Keeps, AreLow};
 ghost use Rattle.tpal_machine.specs.State.{State};
-ghost use Rattle.tpal_machine.specs.Step.{executed, finished, if_jump, jump, halt, is_end, join, join_end, join_met, step, stepped, asked, halting};
+ghost use Rattle.tpal_machine.specs.Step.{executed, finished, if_jump, jump, halt, is_end, join};
+ghost use Rattle.tpal_machine.specs.Step.{join_end, join_met, step, stepped, asked, halting};
 ghost use Rattle.tpal_machine.specs.declared.flow.Halt.TheVariants as halts;
 ghost use Rattle.tpal_machine.specs.declared.flow.Trouble.TheVariants as troubles;
 ghost use Rattle.slices.specs.Holding.{Holding};
@@ -35,7 +37,9 @@ use tp_value::Stop;
 use tpal_syntax::{Block, Code, Instr, Term, Word};
 
 fn flow_of(done: Result<(), Fault>) -> Flow
-    ensures flow { (code : Listing) (wanted : Effect) (after : State) → Gives wanted done after → IsFlow code (stepped wanted) result after }
+    ensures flow { (code : Listing) (wanted : Effect) (after : State)
+        → Gives wanted done after
+        → IsFlow code (stepped wanted) result after }
     ensures room { FlowTakes result ⊥ }
 {
     match done {
@@ -45,8 +49,12 @@ fn flow_of(done: Result<(), Fault>) -> Flow
 }
 
 fn flow_or(done: Result<(), Trouble>) -> Flow
-    ensures flow { (code : Listing) (wanted : Effect) (after : State) → GivesOr wanted done after → IsFlow code (stepped wanted) result after }
-    ensures memory { (instr : Instr) (held : List Holding) → (done ≡ Err troubles.NoMemory → InstrTakes instr held) → FlowTakes result (InstrTakes instr held) }
+    ensures flow { (code : Listing) (wanted : Effect) (after : State)
+        → GivesOr wanted done after
+        → IsFlow code (stepped wanted) result after }
+    ensures memory { (instr : Instr) (held : List Holding)
+        → (done ≡ Err troubles.NoMemory → InstrTakes instr held)
+        → FlowTakes result (InstrTakes instr held) }
 {
     match done {
         Ok(()) => Flow::Goes,
@@ -56,7 +64,9 @@ fn flow_or(done: Result<(), Trouble>) -> Flow
 }
 
 fn asking(done: Result<(), Fault>) -> Flow
-    ensures flow { (code : Listing) (wanted : Effect) (after : State) → Gives wanted done after → IsFlow code (asked wanted) result after }
+    ensures flow { (code : Listing) (wanted : Effect) (after : State)
+        → Gives wanted done after
+        → IsFlow code (asked wanted) result after }
     ensures room { FlowTakes result ⊥ }
 {
     match done {
@@ -66,7 +76,9 @@ fn asking(done: Result<(), Fault>) -> Flow
 }
 
 fn stopping(halt: Halt) -> Flow
-    ensures flow { (code : Listing) (wanted : Halting) (after : State) → GivesHalt wanted halt after → IsFlow code (halting code wanted) result after }
+    ensures flow { (code : Listing) (wanted : Halting) (after : State)
+        → GivesHalt wanted halt after
+        → IsFlow code (halting code wanted) result after }
     ensures room { (halt ≡ halts.NoMemory → ⊥) → FlowTakes result ⊥ }
 {
     match halt {
@@ -79,7 +91,9 @@ fn stopping(halt: Halt) -> Flow
 
 /// `if-jump rA, @l`.
 fn jump_if(frame: &mut Frame, code: &Code, pace: Pace, test: Word, label: u32) -> Flow
-    ensures flow { IsFlow code.now (if_jump code.now pace.heartbeat pace.allowed test label (state_of frame.old)) result (state_of frame.new) }
+    ensures flow { IsFlow code.now
+        (if_jump code.now pace.heartbeat pace.allowed test label (state_of frame.old)) result
+        (state_of frame.new) }
     ensures room { FlowTakes result ⊥ }
     ensures kept { Keeps frame.old frame.new }
 {
@@ -100,7 +114,9 @@ fn jump_if(frame: &mut Frame, code: &Code, pace: Pace, test: Word, label: u32) -
 pub(crate) fn execute(frame: &mut Frame, code: &Code, pace: Pace, instr: &Instr) -> Flow
     requires fits { IsInstr (length frame.old.tables.items) instr.now }
     requires low { AreLow frame.old }
-    ensures flow { IsFlow code.now (executed code.now pace.heartbeat pace.allowed instr.now (state_of frame.old)) result (state_of frame.new) }
+    ensures flow { IsFlow code.now
+        (executed code.now pace.heartbeat pace.allowed instr.now (state_of frame.old)) result
+        (state_of frame.new) }
     ensures memory { FlowTakes result (InstrTakes instr.now frame.old.tables.items) }
     ensures kept { Keeps frame.old frame.new }
 {
@@ -173,7 +189,10 @@ pub(crate) fn execute(frame: &mut Frame, code: &Code, pace: Pace, instr: &Instr)
 
 /// The end of a side, or of the whole run.
 fn done(frame: &mut Frame) -> Flow
-    ensures flow { (code : Listing) → IsFlow code (halting code (effects.stops frame.old.pending Stop.Done (state_of frame.old))) result (state_of frame.new) }
+    ensures flow { (code : Listing)
+        → IsFlow code
+        (halting code (effects.stops frame.old.pending Stop.Done (state_of frame.old))) result
+        (state_of frame.new) }
     ensures room { FlowTakes result ⊥ }
     ensures kept { Keeps frame.old frame.new }
 {
@@ -182,7 +201,8 @@ fn done(frame: &mut Frame) -> Flow
 
 /// `halt`.
 fn halt_task(frame: &mut Frame, code: &Code) -> Flow
-    ensures flow { IsFlow code.now (halt frame.old.goal code.now (state_of frame.old)) result (state_of frame.new) }
+    ensures flow { IsFlow code.now (halt frame.old.goal code.now (state_of frame.old)) result
+        (state_of frame.new) }
     ensures room { FlowTakes result ⊥ }
     ensures kept { Keeps frame.old frame.new }
 {
@@ -212,7 +232,8 @@ fn is_end(goal: Goal, number: u32) -> bool
 
 /// A join under a record that isn't met: the end of a side, where it is the side's.
 fn join_end(frame: &mut Frame, code: &Code, number: u32) -> Flow
-    ensures flow { IsFlow code.now (join_end code.now number (state_of frame.old)) result (state_of frame.new) }
+    ensures flow { IsFlow code.now (join_end code.now number (state_of frame.old)) result
+        (state_of frame.new) }
     ensures room { FlowTakes result ⊥ }
     ensures kept { Keeps frame.old frame.new }
 {
@@ -225,7 +246,8 @@ fn join_end(frame: &mut Frame, code: &Code, number: u32) -> Flow
 
 /// A join under a record that both sides have met.
 fn join_met(frame: &mut Frame, code: &Code, pace: Pace, tie: Tie) -> Flow
-    ensures flow { IsFlow code.now (join_met code.now pace.heartbeat pace.allowed tie (state_of frame.old)) result (state_of frame.new) }
+    ensures flow { IsFlow code.now (join_met code.now pace.heartbeat pace.allowed tie (state_of frame.old))
+        result (state_of frame.new) }
     ensures room { FlowTakes result ⊥ }
     ensures kept { Keeps frame.old frame.new }
 {
@@ -238,7 +260,8 @@ fn join_met(frame: &mut Frame, code: &Code, pace: Pace, tie: Tie) -> Flow
 
 /// `join rA`.
 fn join_under(frame: &mut Frame, code: &Code, pace: Pace, word: Word) -> Flow
-    ensures flow { IsFlow code.now (join code.now pace.heartbeat pace.allowed word (state_of frame.old)) result (state_of frame.new) }
+    ensures flow { IsFlow code.now (join code.now pace.heartbeat pace.allowed word (state_of frame.old))
+        result (state_of frame.new) }
     ensures room { FlowTakes result ⊥ }
     ensures kept { Keeps frame.old frame.new }
 {
@@ -259,7 +282,8 @@ fn join_under(frame: &mut Frame, code: &Code, pace: Pace, word: Word) -> Flow
 
 /// `jump v`.
 fn jump_to(frame: &mut Frame, code: &Code, pace: Pace, word: Word) -> Flow
-    ensures flow { IsFlow code.now (jump code.now pace.heartbeat pace.allowed word (state_of frame.old)) result (state_of frame.new) }
+    ensures flow { IsFlow code.now (jump code.now pace.heartbeat pace.allowed word (state_of frame.old))
+        result (state_of frame.new) }
     ensures room { FlowTakes result ⊥ }
     ensures kept { Keeps frame.old frame.new }
 {
@@ -273,7 +297,8 @@ fn jump_to(frame: &mut Frame, code: &Code, pace: Pace, word: Word) -> Flow
 /// stands.
 pub(crate) fn finish(frame: &mut Frame, code: &Code, pace: Pace, term: Term) -> Flow
     requires fits { IsTerm term }
-    ensures flow { IsFlow code.now (finished code.now pace.heartbeat pace.allowed term (state_of frame.old)) result (state_of frame.new) }
+    ensures flow { IsFlow code.now (finished code.now pace.heartbeat pace.allowed term (state_of frame.old))
+        result (state_of frame.new) }
     ensures room { FlowTakes result ⊥ }
     ensures kept { Keeps frame.old frame.new }
 {
@@ -292,7 +317,8 @@ pub(crate) fn finish(frame: &mut Frame, code: &Code, pace: Pace, term: Term) -> 
 
 /// The instruction at a position of a block, where there is one.
 pub(crate) fn instr_at(block: &Block, at: usize) -> Option<&Instr>
-    ensures found { MatchOption result (slice_get block.now.body at ≡ None) (λ instr. slice_get block.now.body at ≡ Some instr.now) }
+    ensures found { MatchOption result (slice_get block.now.body at ≡ None)
+        (λ instr. slice_get block.now.body at ≡ Some instr.now) }
     ensures inside { IfSome result (λ _. at < 2 ^ 63) }
 {
     block.body.items().get(at)
@@ -304,7 +330,8 @@ pub(crate) fn step(frame: &mut Frame, code: &Code, pace: Pace, block: &Block) ->
     requires right { IsCode code.now.tables code.now.blocks }
     requires tables { length frame.old.tables.items ≡ length code.now.tables }
     requires low { AreLow frame.old }
-    ensures flow { IsFlow code.now (step code.now pace.heartbeat pace.allowed (state_of frame.old)) result (state_of frame.new) }
+    ensures flow { IsFlow code.now (step code.now pace.heartbeat pace.allowed (state_of frame.old)) result
+        (state_of frame.new) }
     ensures memory { FlowTakes result (NextTakes code.now (state_of frame.old)) }
     ensures kept { Keeps frame.old frame.new }
 {

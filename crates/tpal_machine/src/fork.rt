@@ -50,7 +50,10 @@ fn parted(
     requires rest { stacks.rest.marks ≡ [] }
     requires child { stacks.child.marks ≡ [] }
     requires base { base ≤ 2 ^ 62 }
-    ensures parts { IfOk result (λ parts. forked_state parts ≡ cutting.parted stacks.left stacks.rest stacks.child child tie base cuts.now (state_of frame)) }
+    ensures parts { IfOk result
+        (λ parts. forked_state parts
+        ≡ cutting.parted stacks.left stacks.rest stacks.child child tie base cuts.now
+        (state_of frame)) }
     ensures sound { IfOk result ArePartsSound }
     ensures err { IfErr result (λ trouble. trouble ≡ Trouble.NoMemory) }
 {
@@ -119,7 +122,9 @@ fn parted(
 /// Why a stack isn't cut.
 #[tactic(auto, using(crate::proofs::Refusals::work_refused))]
 fn cut_trouble(fault: StackFault) -> Trouble
-    ensures { (stack : StackValue) (mark : Mark) (go : Result cutting.Forked Fault) → CutCause fault stack mark.base mark.cells → FailsAs (cutting.on_work stack mark go) result }
+    ensures { (stack : StackValue) (mark : Mark) (go : Result cutting.Forked Fault)
+        → CutCause fault stack mark.base mark.cells
+        → FailsAs (cutting.on_work stack mark go) result }
 {
     match fault {
         StackFault::NoMemory => Trouble::NoMemory,
@@ -142,9 +147,12 @@ fn fork_at(
 ) -> Result<ForkParts, Trouble>
     requires low { AreLow frame }
     requires base { mark.base ≤ 2 ^ 62 }
-    ensures ok { IfOk result (λ parts. cutting.forked_at code.now child tie mark (state_of frame) ≡ Ok (forked_state parts)) }
+    ensures ok { IfOk result
+        (λ parts. cutting.forked_at code.now child tie mark (state_of frame)
+        ≡ Ok (forked_state parts)) }
     ensures sound { IfOk result ArePartsSound }
-    ensures err { IfErr result (λ trouble. FailsAs (cutting.forked_at code.now child tie mark (state_of frame)) trouble) }
+    ensures err { IfErr result
+        (λ trouble. FailsAs (cutting.forked_at code.now child tie mark (state_of frame)) trouble) }
 {
     let alloc = *frame.output.allocator();
     let cuts = carried(alloc, &frame.registers, carries_of(code, tie.target));
@@ -162,9 +170,12 @@ fn fork_at(
 /// The fork of a task under a record that is its own.
 fn fork_under(frame: Frame, code: &Code, tie: Tie, child: u32) -> Result<ForkParts, Trouble>
     requires low { AreLow frame }
-    ensures ok { IfOk result (λ parts. cutting.fork_under code.now child tie (state_of frame) ≡ Ok (forked_state parts)) }
+    ensures ok { IfOk result
+        (λ parts. cutting.fork_under code.now child tie (state_of frame)
+        ≡ Ok (forked_state parts)) }
     ensures sound { IfOk result ArePartsSound }
-    ensures err { IfErr result (λ trouble. FailsAs (cutting.fork_under code.now child tie (state_of frame)) trouble) }
+    ensures err { IfErr result
+        (λ trouble. FailsAs (cutting.fork_under code.now child tie (state_of frame)) trouble) }
 {
     let mut beat = frame.beat;
     if !beat.take() {
@@ -179,9 +190,11 @@ fn fork_under(frame: Frame, code: &Code, tie: Tie, child: u32) -> Result<ForkPar
 /// `fork rA, @l`, by value: the task comes apart.
 pub(crate) fn fork(frame: Frame, code: &Code, rec: u8, child: u32) -> Result<ForkParts, Trouble>
     requires low { AreLow frame }
-    ensures ok { IfOk result (λ parts. cutting.fork code.now rec child (state_of frame) ≡ Ok (forked_state parts)) }
+    ensures ok { IfOk result
+        (λ parts. cutting.fork code.now rec child (state_of frame) ≡ Ok (forked_state parts)) }
     ensures sound { IfOk result ArePartsSound }
-    ensures err { IfErr result (λ trouble. FailsAs (cutting.fork code.now rec child (state_of frame)) trouble) }
+    ensures err { IfErr result
+        (λ trouble. FailsAs (cutting.fork code.now rec child (state_of frame)) trouble) }
 {
     match register(&frame.registers, rec) {
         Word::Int(_) | Word::Label(_) | Word::Nil => Err(Trouble::Stuck(Fault::NotRec)),

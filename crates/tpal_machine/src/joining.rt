@@ -1,6 +1,7 @@
 // The merge of two sides.
 
-ghost use Rattle.std.specs.Prelude.{◌≡◌, ◌+◌, ◌≤◌, ◌^◌, ◌++◌, [], if◌then◌else◌, IfOk, OnOk, slice_set};
+ghost use Rattle.std.specs.Prelude.{◌≡◌, ◌+◌, ◌≤◌, ◌^◌, ◌++◌, [], if◌then◌else◌, IfOk, OnOk};
+ghost use Rattle.std.specs.Prelude.{slice_set};
 ghost use Rattle.tpal_machine.specs.Answer.{IsMerged};
 ghost use Rattle.tpal_machine.specs.Belonging.{IsMergedOf};
 ghost use Rattle.tpal_machine.specs.Belongs.{RestBelongsTo, SideBelongsTo};
@@ -78,7 +79,9 @@ fn merged_registers(
 /// Puts a part to what is held of its table.
 #[tactic(auto, using(crate::proofs::Lists::set_beyond))]
 fn append_part(tables: &mut Vec<Held>, table: u8, part: Held) -> Result<(), NoMemory>
-    ensures { OnOk result (tables.new.items ≡ slice_set tables.old.items table (together (table_at tables.old.items table) part)) }
+    ensures { OnOk result
+        (tables.new.items
+        ≡ slice_set tables.old.items table (together (table_at tables.old.items table) part)) }
 {
     if (table as usize) >= tables.len() {
         return Ok(());
@@ -107,7 +110,9 @@ fn joined_output(
     right: &[u8],
     is_left_done: bool,
 ) -> Result<Vec<u8>, NoMemory>
-    ensures { IfOk result (λ output. output.items ≡ before.items ++ left.now ++ (if is_left_done then right.now else [])) }
+    ensures { IfOk result
+        (λ output. output.items
+        ≡ before.items ++ left.now ++ (if is_left_done then right.now else [])) }
 {
     let mut output = before;
     output.extend_from_slice(left)?;
@@ -128,7 +133,10 @@ fn merged_task(
 ) -> Result<Task, NoMemory>
     requires sound { IsRestSound kept }
     requires ticks { IsFuel kept.limit ticks }
-    ensures { IfOk result (λ task. task ≡ merging.merged_task (the_target code.now kept.target) (rest_state kept) left right ticks output.items) }
+    ensures { IfOk result
+        (λ task. task
+        ≡ merging.merged_task (the_target code.now kept.target) (rest_state kept) left right ticks
+        output.items) }
 {
     let registers = merged_registers(
         kept.base,

@@ -1,8 +1,8 @@
-//! The machine that runs one task: registers, a stack with marks, held tables, a heartbeat, forks and
-//! merges. It stands on the code types of `tpal_syntax` and on `stack_marks`, `slices`, `beat_count`,
-//! `reduce_ops` and `table_text`.
-//! Contracts speak of `State`, of `step` and of `turn_of`: what a task is, what one instruction does, and
-//! what a turn of at most so many instructions comes to. Start with `task`, then `turn`.
+//! The machine that runs one task: registers, a stack with marks, held tables, a heartbeat, forks
+//! and merges. It stands on the code types of `tpal_syntax` and on `stack_marks`, `slices`,
+//! `beat_count`, `reduce_ops` and `table_text`. Contracts speak of `State`, of `step` and of
+//! `turn_of`: what a task is, what one instruction does, and what a turn of at most so many
+//! instructions comes to. Start with `task`, then `turn`.
 #![tactic(auto)]
 
 mod blocks;

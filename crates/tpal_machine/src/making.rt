@@ -1,6 +1,7 @@
 // Making tables.
 
-ghost use Rattle.std.specs.Prelude.{◌≡◌, ◌≤◌, ◌<◌, ◌-◌, ◌^◌, ◌==◌, ◌+◌, ◌*◌, nat_le, pos, min, true, false, length, slice_get, IfOk, MatchOption, Ok};
+ghost use Rattle.std.specs.Prelude.{◌≡◌, ◌≤◌, ◌<◌, ◌-◌, ◌^◌, ◌==◌, ◌+◌, ◌*◌, nat_le, pos, min};
+ghost use Rattle.std.specs.Prelude.{true, false, length, slice_get, IfOk, MatchOption, Ok};
 ghost use Rattle.std.specs.List.{list_any};
 ghost use Rattle.tpal_machine.specs.Answer.{GivesHalt};
 ghost use Rattle.tpal_machine.specs.Effect as effect;
@@ -21,7 +22,8 @@ use tpal_syntax::{Code, CodeTable};
 /// The number of rows or columns that a size is, where it is in the range of one.
 #[tactic(auto, using(crate::proofs::Sizes::no_side, crate::proofs::Sizes::large_side))]
 fn side_of(size: i64) -> Option<u32>
-    ensures { MatchOption result (effect.is_side size ≡ false) (λ n. (size ≡ pos n) × (n ≤ MAX_SIDE)) }
+    ensures { MatchOption result (effect.is_side size ≡ false)
+        (λ n. (size ≡ pos n) × (n ≤ MAX_SIDE)) }
 {
     if size < 0 || size > i64::from(MAX_SIDE) {
         None
@@ -101,7 +103,8 @@ fn zeros(alloc: Global, rows: u32, cols: u32) -> Result<Held, NoMemory>
 /// Makes a table of this size, which fits beside the others.
 fn make_zeros(frame: &mut Frame, table: u8, rows: u32, cols: u32) -> Halt
     requires { table < length frame.old.tables.items }
-    ensures effect { GivesHalt (Ok (effect.Goes (effect.with_made (state_of frame.old) table rows cols))) result (state_of frame.new) }
+    ensures effect { GivesHalt (Ok (effect.Goes (effect.with_made (state_of frame.old) table rows cols)))
+        result (state_of frame.new) }
     ensures kept { Keeps frame.old frame.new }
 {
     match zeros(*frame.output.allocator(), rows, cols) {
@@ -122,7 +125,8 @@ fn make_within(frame: &mut Frame, table: u8, rows: u32, cols: u32, place: Place)
     requires table { table < length frame.old.tables.items }
     requires rows { rows ≤ MAX_SIDE }
     requires cols { cols ≤ MAX_SIDE }
-    ensures effect { GivesHalt (effect.made table (pos rows) (pos cols) place (state_of frame.old)) result (state_of frame.new) }
+    ensures effect { GivesHalt (effect.made table (pos rows) (pos cols) place (state_of frame.old)) result
+        (state_of frame.new) }
     ensures kept { Keeps frame.old frame.new }
 {
     if fits_beside(&frame.tables, rows, cols) {
@@ -136,7 +140,8 @@ fn make_within(frame: &mut Frame, table: u8, rows: u32, cols: u32, place: Place)
 #[tactic(auto, using(crate::proofs::Sizes::made_no_rows, crate::proofs::Sizes::made_no_cols))]
 fn make_sized(frame: &mut Frame, table: u8, rows: i64, cols: i64, place: Place) -> Halt
     requires { table < length frame.old.tables.items }
-    ensures effect { GivesHalt (effect.made table rows cols place (state_of frame.old)) result (state_of frame.new) }
+    ensures effect { GivesHalt (effect.made table rows cols place (state_of frame.old)) result
+        (state_of frame.new) }
     ensures kept { Keeps frame.old frame.new }
 {
     match side_of(rows) {
@@ -161,7 +166,8 @@ pub(crate) fn make(
     requires table { table < length frame.old.tables.items }
     requires rows { rows < 32 }
     requires cols { cols < 32 }
-    ensures effect { GivesHalt (effect.make code.now table rows cols place (state_of frame.old)) result (state_of frame.new) }
+    ensures effect { GivesHalt (effect.make code.now table rows cols place (state_of frame.old)) result
+        (state_of frame.new) }
     ensures kept { Keeps frame.old frame.new }
 {
     match number_of(frame.registers[rows as usize]) {

@@ -28,7 +28,9 @@ pub(crate) fn print(frame: &mut Frame, r: u8) -> Result<(), Trouble>
 /// Appends the numbers of a row to a list; false where a cell isn't held.
 #[tactic(auto, using(crate::proofs::Lines::numbers_end, crate::proofs::Lines::numbers_more, crate::proofs::Lines::numbers_none))]
 fn push_row(row: &mut Vec<i64>, held: &Held, at: u32) -> Result<bool, NoMemory>
-    ensures { IfOk result (λ all. effect.appended row.old.items (effect.row_numbers held.now at) ≡ (if all then Some row.new.items else None)) }
+    ensures { IfOk result
+        (λ all. effect.appended row.old.items (effect.row_numbers held.now at)
+        ≡ (if all then Some row.new.items else None)) }
 {
     let cols = held.cols();
     for col in 0..cols {
@@ -43,7 +45,9 @@ fn push_row(row: &mut Vec<i64>, held: &Held, at: u32) -> Result<bool, NoMemory>
 /// Appends the line of a row; false where a cell isn't held.
 #[tactic(auto, using(crate::proofs::Lines::line_there, crate::proofs::Lines::line_missing))]
 fn push_line(output: &mut Vec<u8>, held: &Held, at: u32) -> Result<bool, NoMemory>
-    ensures { IfOk result (λ all. effect.appended output.old.items (effect.line held.now at) ≡ (if all then Some output.new.items else None)) }
+    ensures { IfOk result
+        (λ all. effect.appended output.old.items (effect.line held.now at)
+        ≡ (if all then Some output.new.items else None)) }
 {
     let mut row = Vec::new(*output.allocator());
     if !push_row(&mut row, held, at)? {
@@ -56,7 +60,9 @@ fn push_line(output: &mut Vec<u8>, held: &Held, at: u32) -> Result<bool, NoMemor
 /// Appends the lines of a table; false where a cell isn't held.
 #[tactic(auto, using(crate::proofs::Lines::rows_end, crate::proofs::Lines::rows_more, crate::proofs::Lines::rows_none))]
 fn push_lines(output: &mut Vec<u8>, held: &Held) -> Result<bool, NoMemory>
-    ensures { IfOk result (λ all. effect.appended output.old.items (effect.table_lines held.now) ≡ (if all then Some output.new.items else None)) }
+    ensures { IfOk result
+        (λ all. effect.appended output.old.items (effect.table_lines held.now)
+        ≡ (if all then Some output.new.items else None)) }
 {
     let rows = held.rows();
     for at in 0..rows {

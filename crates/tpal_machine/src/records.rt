@@ -51,7 +51,8 @@ pub(crate) fn set_register(registers: &mut [Word; 32], r: u8, word: Word)
     }
 }
 
-/// Gives a task that waits at a `jralloc` the record that it asked for, or none. It takes no memory.
+/// Gives a task that waits at a `jralloc` the record that it asked for, or none. It takes no
+/// memory.
 pub fn answer(task: Task, rec: Option<u32>) -> Task
     requires waits { IsSome task.waiting }
     ensures answered { result ≡ effect.answered rec task }

@@ -137,7 +137,8 @@ pub(crate) fn prmpush(
     split: u32,
 ) -> Result<(), Fault>
     requires { base < 32 }
-    ensures effect { Gives (effect.prmpush base off cells split (state_of frame.old)) result (state_of frame.new) }
+    ensures effect { Gives (effect.prmpush base off cells split (state_of frame.old)) result
+        (state_of frame.new) }
     ensures kept { Keeps frame.old frame.new }
 {
     let from = number_of(frame.registers[base as usize])?;
@@ -159,7 +160,8 @@ fn magnitude(number: i64) -> u64
 #[tactic(auto, using(crate::proofs::Refusals::mark_goes, crate::proofs::Refusals::mark_refused, crate::proofs::Stacks::low_marked))]
 fn mark_from(frame: &mut Frame, base: u64, off: u16, cells: u16, split: u32) -> Result<(), Fault>
     requires { base < 2 ^ 63 }
-    ensures effect { Gives (effect.with_mark_from (state_of frame.old) (pos base) off cells split) result (state_of frame.new) }
+    ensures effect { Gives (effect.with_mark_from (state_of frame.old) (pos base) off cells split) result
+        (state_of frame.new) }
     ensures kept { Keeps frame.old frame.new }
 {
     in_order(&frame.stack);
@@ -204,7 +206,9 @@ fn unmark(frame: &mut Frame, at: i64) -> Result<(), Fault>
 
 #[tactic(auto, using(crate::proofs::Refusals::unmark_none))]
 fn not_unmarked(fault: StackFault) -> Result<(), Fault>
-    ensures { (state : State) (at : ℤ) → UnmarkCause fault state.stack at → Gives (effect.without_mark at state) result state }
+    ensures { (state : State) (at : ℤ)
+        → UnmarkCause fault state.stack at
+        → Gives (effect.without_mark at state) result state }
 {
     match fault {
         StackFault::NotMarked => Ok(()),

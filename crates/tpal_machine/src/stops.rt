@@ -16,7 +16,8 @@ use tp_value::{Place, Stop, TrapKind};
 
 /// A stop, unless a join record is left to use.
 pub(crate) fn stops(frame: &Frame, stop: Stop) -> Halt
-    ensures effect { GivesHalt (effect.stops frame.now.pending stop (state_of frame.now)) result (state_of frame.now) }
+    ensures effect { GivesHalt (effect.stops frame.now.pending stop (state_of frame.now)) result
+        (state_of frame.now) }
     ensures room { result ≡ halts.NoMemory → ⊥ }
 {
     match frame.pending {
@@ -40,7 +41,10 @@ pub(crate) fn tick(frame: &mut Frame) -> Halt
 
 /// `tick` where it is within the limit. Where it answers false nothing has changed.
 pub(crate) fn tick_within(frame: &mut Frame) -> bool
-    ensures done { OnTrue result ((beat : BeatState) (at : ℕ) → effect.tick (standing beat at frame.old) ≡ Ok (effect.Goes (standing beat at frame.new))) }
+    ensures done { OnTrue result
+        ((beat : BeatState) (at : ℕ)
+        → effect.tick (standing beat at frame.old)
+        ≡ Ok (effect.Goes (standing beat at frame.new))) }
     ensures same { OnFalse result (frame.new ≡ frame.old) }
     ensures stays { Stays frame.old frame.new }
     ensures kept { Keeps frame.old frame.new }

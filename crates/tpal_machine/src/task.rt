@@ -57,9 +57,9 @@ impl Task {
     ghost use Rattle.tpal_machine.specs.Belonging.{RunsOn};
     ghost use Rattle.tpal_machine.specs.State.{first_state};
 
-    /// The first task of a run: at the first instruction of a code, with 0 in register 31 and a held
-    /// table for each of the code's: whole for an input, of size 0 by 0 for one that is made. The
-    /// fuel is in ticks.
+    /// The first task of a run: at the first instruction of a code, with 0 in register 31 and a
+    /// held table for each of the code's: whole for an input, of size 0 by 0 for one that is made.
+    /// The fuel is in ticks.
     pub fn first(alloc: Global, code: &Code, tables: Vec<Held>, fuel: u64) -> Result<Task, NoMemory>
         requires fuel { fuel ≤ MAX_FUEL }
         requires tables { length tables.items ≡ length code.now.tables }

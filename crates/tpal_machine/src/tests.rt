@@ -34,12 +34,11 @@ fn block(
     })
 }
 
-// main: plain            the body and the end that are handed in
-// head: prppt @handler   halt
-// handler: plain         r4 := jralloc @joint, fork r4, @side, then the left's end
-// joint: jtppt assoc; the renaming that is handed in; @both; what is cut and carried, also handed in
-// side: plain            the child's body and end that are handed in
-// both: plain            prints r1 and r2, emits t0, halt
+// main: plain            the body and the end that are handed in head: prppt @handler   halt
+// handler: plain         r4 := jralloc @joint, fork r4, @side, then the left's end joint: jtppt
+// assoc; the renaming that is handed in; @both; what is cut and carried, also handed in side: plain
+// the child's body and end that are handed in both: plain            prints r1 and r2, emits t0,
+// halt
 fn code_of(
     alloc: Global,
     joint: (CutKind, &[(u8, u8)], &[CarryAt]),
@@ -75,9 +74,9 @@ fn code_of(
     Code::new(alloc, tables, blocks)
 }
 
-// What is cut, the renaming, and what is carried: a loop with the rows of t0 from the number in r3 on;
-// one with the cells of row r3 from column r5 on; a call that carries nothing; and one that hands
-// nothing over.
+// What is cut, the renaming, and what is carried: a loop with the rows of t0 from the number in r3
+// on; one with the cells of row r3 from column r5 on; a call that carries nothing; and one that
+// hands nothing over.
 const ROWS: (CutKind, &[(u8, u8)], &[CarryAt]) = (
     CutKind::Loop,
     &[(1, 2)],
@@ -113,8 +112,8 @@ const PACE: Pace = Pace {
     allowed: true,
 };
 
-// The fault that a task comes to, with its place, in so many turns. Each wait is answered with record
-// 7, and a fork goes on with the child.
+// The fault that a task comes to, with its place, in so many turns. Each wait is answered with
+// record 7, and a fork goes on with the child.
 fn fault_from(task: Task, code: &Code, turns: u8) -> Option<(Fault, u32, u32)>
     requires { RunsOn code.now task }
 {
@@ -358,8 +357,8 @@ fn a_turn_counts_its_steps(rt: HostRuntime) -> Result<(), Fail> {
     Ok(())
 }
 
-// The steps and beats of a turn that comes to a promotion-ready block by its fourth instruction, and
-// asks for a record by its fifth.
+// The steps and beats of a turn that comes to a promotion-ready block by its fourth instruction,
+// and asks for a record by its fifth.
 fn counts_of(alloc: Global, budget: u32) -> Result<Option<(u64, u64)>, NoMemory>
     requires { 1 ≤ budget }
 {
@@ -607,8 +606,8 @@ const fn store(off: u16, number: i64) -> Instr {
     }
 }
 
-// Cells 7, 8 and 9, with a mark for the one cell at position 1: the child has this cell, the left what
-// lies above it, and the rest what lies up to it.
+// Cells 7, 8 and 9, with a mark for the one cell at position 1: the child has this cell, the left
+// what lies above it, and the rest what lies up to it.
 #[test]
 fn a_call_is_cut_and_put_together(rt: HostRuntime) -> Result<(), Fail> {
     let alloc = rt.alloc();

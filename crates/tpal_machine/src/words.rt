@@ -38,7 +38,9 @@ pub(crate) fn number_in(registers: &[Word; 32], r: u8) -> Option<i64>
 
 /// The number that a calculation on two numbers gives; none where it divides by 0.
 pub(crate) fn result_of(alu: Alu, left: i64, right: i64) -> Option<i64>
-    ensures { MatchOption result (calculated alu (words.Int left) (words.Int right) ≡ Err Fault.DivZero) (λ n. calculated alu (words.Int left) (words.Int right) ≡ Ok (words.Int n)) }
+    ensures { MatchOption result
+        (calculated alu (words.Int left) (words.Int right) ≡ Err Fault.DivZero)
+        (λ n. calculated alu (words.Int left) (words.Int right) ≡ Ok (words.Int n)) }
 {
     match alu {
         Alu::Add => Some(add(left, right)),
