@@ -1,6 +1,6 @@
 -- How a change of one link changes the marks and their chain.
 use Rattle.std.proofs.Common.{◌≡◌, ℕ, zero, suc, ◌+◌, ◌-◌, ◌<◌, ◌≤◌, inl, inr, Bool, true, false, cond, List, [], ◌∷◌, ◌++◌, length, get_or, set, replicate, refl, sym, ◌∙◌, ap, subst, arith}
-use Rattle.std.proofs.lemmas.Bool.{cases_lt, cases_eq, false≢true}
+use Rattle.std.proofs.lemmas.Bool.{cases_lt}
 use Rattle.std.proofs.lemmas.List.{get_or_append_left}
 use Rattle.std.proofs.Math.Seq.{get_or-append_seam}
 use Rattle.std.proofs.Common.{length-append}
@@ -10,7 +10,7 @@ use Rattle.stack_marks.specs.declared.mark.Mark.{Mark}
 use Rattle.stack_marks.specs.declared.links.Link.{Link}
 use Rattle.stack_marks.specs.Stacks.{InOrder}
 use Rattle.stack_marks.specs.Linked.{mark_of, marks_from, bare, link_at}
-use Rattle.stack_marks.proofs.Rising.{widen, rises, from_low}
+use Rattle.stack_marks.proofs.Rising.{widen}
 
 abbrev pub no_mark : Mark
 no_mark = record { at = 0; base = 0; cells = 0; split = 0 }

@@ -6,7 +6,7 @@ use Rattle.std.specs.declared.cmp.Ordering.TheVariants.{Less, Equal, Greater}
 use Rattle.std.specs.Cmp.{int_eq_equiv}
 use Rattle.tpal_syntax.specs.declared.words.Word.{Word}
 use Rattle.std.specs.List.{remove}
-use Rattle.std.specs.Prelude.{ℤ, pos, nat_le, nat_lt, filter, slice_get, Option, None, Some, IsSome, is_some, MatchOption}
+use Rattle.std.specs.Prelude.{ℤ, pos, nat_le, nat_lt, filter, slice_get, Option, None, Some, IsSome, is_some}
 use Rattle.stack_marks.specs.declared.mark.Mark.{Mark}
 use Rattle.stack_marks.specs.Stacks.{InOrder, StackValue, word_at}
 

@@ -1,5 +1,5 @@
 use Rattle.std.proofs.Common.{◌≡◌, sym, ap, ◌∙◌, drop}
-use Rattle.std.specs.Prelude.{pos, not, filter, slice_get, Some}
+use Rattle.std.specs.Prelude.{pos, not, slice_get, Some}
 use Rattle.std.specs.Ordering.{int_eq}
 use Rattle.stack_marks.specs.Stacks.{without_oldest}
 use Rattle.stack_marks.proofs.Rising.{some_kept, first_gone}

@@ -2,7 +2,7 @@ use Rattle.std.proofs.Common.{◌≡◌, ◌≢◌, ◌-◌, ◌≤◌, ◌<◌,
 use Rattle.std.specs.Prelude.{Any, All}
 use Rattle.std.specs.Bool.{OnTrue, OnFalse}
 use Rattle.stack_marks.specs.declared.links.Link.{Link}
-use Rattle.stack_marks.specs.Linked.{marks_from, bare}
+use Rattle.stack_marks.specs.Linked.{bare}
 use Rattle.stack_marks.proofs.Chains.{marked_there, bare_there, link_any}
 use Rattle.stack_marks.proofs.links.Links.is_marked.Goals as goal
 

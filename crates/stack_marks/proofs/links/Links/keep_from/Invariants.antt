@@ -1,4 +1,4 @@
-use Rattle.std.proofs.Common.{◌≡◌, ℕ, ◌^◌, length}
+use Rattle.std.proofs.Common.{◌≡◌, ◌^◌, length}
 use Rattle.stack_marks.specs.Stacks.{InOrder}
 use Rattle.stack_marks.specs.Links.{from_on}
 use Rattle.stack_marks.proofs.links.Links.keep_from.Given as goal

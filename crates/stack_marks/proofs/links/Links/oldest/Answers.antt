@@ -1,10 +1,8 @@
-use Rattle.std.proofs.Common.{◌≡◌, ◌-◌, ◌<◌, ◌≤◌, List, length, arith, subst, ap, sym, ◌∙◌, get_or}
+use Rattle.std.proofs.Common.{◌≡◌, ◌-◌, arith, subst, ap, sym, ◌∙◌, get_or}
 use Rattle.std.specs.Prelude.{Some, slice_get}
-use Rattle.stack_marks.specs.declared.mark.Mark.{Mark}
 use Rattle.stack_marks.specs.declared.links.Link.{Link}
-use Rattle.stack_marks.proofs.Linking.{stands}
 use Rattle.stack_marks.proofs.Following.{opened}
-use Rattle.stack_marks.proofs.Chains.{oldest_stands, link_any, alone, oldest_gone, newest_gone, between_gone}
+use Rattle.stack_marks.proofs.Chains.{oldest_stands, link_any}
 use Rattle.stack_marks.specs.Linked.{mark_of, bare, AreLinked}
 use Rattle.stack_marks.proofs.links.Links.oldest.Goals as goal
 

@@ -1,10 +1,10 @@
-use Rattle.std.proofs.Common.{◌≡◌, ◌-◌, ◌≤◌, ◌<◌, List, get_or, set, length, subst, sym, ap, ◌∙◌, arith, refl, false}
-use Rattle.std.specs.Prelude.{Any, Some}
+use Rattle.std.proofs.Common.{◌≡◌, ◌-◌, ◌<◌, List, get_or, set, length, subst, sym, ap, ◌∙◌, arith, refl, false}
+use Rattle.std.specs.Prelude.{Any}
 use Rattle.std.specs.Vec.{vec_capacity}
 use Rattle.std.proofs.lemmas.List.{length-set}
 use Rattle.stack_marks.specs.declared.links.Link.{Link}
 use Rattle.stack_marks.specs.Links.{without}
-use Rattle.stack_marks.specs.Linked.{marks_from, bare, AreLinked}
+use Rattle.stack_marks.specs.Linked.{bare, AreLinked}
 use Rattle.stack_marks.proofs.Following.{opened}
 use Rattle.stack_marks.proofs.Chains.{found, link_any, alone, oldest_gone, newest_gone, between_gone, neighbours, with_newer, with_older}
 use Rattle.stack_marks.proofs.links.Links.take.Goals as goal
