@@ -1,7 +1,7 @@
 -- What a list that is counted from a start holds at a position.
 use Rattle.std.proofs.Common.{◌≡◌, ℕ, ◌+◌, ◌-◌, ◌<◌, ◌≤◌, ◌⊎◌, inl, inr, cond, List, [], ◌++◌, length, take, drop, set, get_or, Option, None, Some, refl, sym, ◌∙◌, ap, subst, arith, length-take, length-drop, min, max, zero-add}
 use Rattle.std.proofs.lemmas.Option.{slice_get-get_or, slice_get_past, gets}
-use Rattle.std.proofs.lemmas.Bool.{cases_lt, false≢true}
+use Rattle.std.proofs.lemmas.Bool.{cases_lt, false≢true, lt-ltb, le-ltb}
 use Rattle.std.proofs.lemmas.List.{get_or-take, get_or-drop}
 use Rattle.std.proofs.lemmas.Bool.Decides.{nat_tests}
 use Rattle.std.proofs.lemmas.Grind.{common_steps}
@@ -67,10 +67,10 @@ past_end start len low high from to i e f h k (inr l) = omega arith
 before_end : (start len low high from to i : ℕ) → from ≡ min (max low start - start) len → to ≡ max (min (high - start) len) from → low ≤ i → start ≤ i → i < high → i < start + len → (i < max low start + (to - from)) × (from + (i - max low start) ≡ i - start)
 before_end start len low high from to i e f h k l m = (omega arith, omega arith)
 
-length-part : (xs : List ℤ) (from to len : ℕ) → length xs ≡ len → to ≤ len → length (take (to - from) (drop from xs)) ≡ to - from
+pub length-part : (xs : List ℤ) (from to len : ℕ) → length xs ≡ len → to ≤ len → length (take (to - from) (drop from xs)) ≡ to - from
 length-part xs from to len e h = simp (length-take, length-drop) (omega arith)
 
-part_at : (xs : List ℤ) (from to j : ℕ) (d : ℤ) → j < to - from → get_or (take (to - from) (drop from xs)) j d ≡ get_or xs (from + j) d
+pub part_at : (xs : List ℤ) (from to j : ℕ) (d : ℤ) → j < to - from → get_or (take (to - from) (drop from xs)) j d ≡ get_or xs (from + j) d
 part_at xs from to j d h = get_or-take (to - from) (drop from xs) j d h ∙ get_or-drop from xs j d
 
 -- the numbers from index `from` up to `to`, counted from where they stood
@@ -156,3 +156,19 @@ slot-zero xs i = grind (arith, nat_tests)
 
 pub slot-empty : (start : ℕ) (xs : List ℤ) (i : ℕ) → length xs ≡ 0 → slot start xs i ≡ None
 slot-empty start xs i e = elim (cases_lt i start) [ inl h ↦ slot_before start xs i h | inr h ↦ slot_past start xs i (omega arith) ]
+
+-- the numbers from a position on, counted from where they stood
+pub slot_upper : (start at k n i : ℕ) (xs : List ℤ) → start ≤ at → k ≡ min (at - start) n → n ≡ length xs → slot at (take (n - k) (drop k xs)) i ≡ cond (nat_lt i at) None (slot start xs i)
+slot_upper start at k n i xs h e f =
+    let p : length (take (n - k) (drop k xs)) ≡ n - k = length-part xs k n (length xs) refl (omega (arith, f)) in
+    elim (cases_lt i at) [
+      | inl l ↦ slot_before at (take (n - k) (drop k xs)) i l ∙ sym (ap (λ b. cond b None (slot start xs i)) (lt-ltb i at l))
+      | inr l ↦ elim (cases_lt i (start + length xs)) [
+        | inr m ↦ slot_past at (take (n - k) (drop k xs)) i (omega (arith, p, e, f, h, l, m)) ∙ sym (ap (λ b. cond b None (slot start xs i)) (le-ltb i at l) ∙ slot_past start xs i m)
+        | inl m ↦
+            let q : k + (i - at) ≡ i - start = omega (arith, e, f, h, l, m) in
+            slot_inside at (take (n - k) (drop k xs)) i d0 l (omega (arith, p, e, f, h, l, m))
+            ∙ ap Some (part_at xs k n (i - at) d0 (omega (arith, e, f, h, l, m)) ∙ ap (λ z. get_or xs z d0) q)
+            ∙ sym (ap (λ b. cond b None (slot start xs i)) (le-ltb i at l) ∙ slot_inside start xs i d0 (omega (arith, h, l)) m)
+      ]
+    ]

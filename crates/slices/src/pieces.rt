@@ -1,6 +1,6 @@
 // The spans that one value holds: mostly one, kept beside the rest.
 
-ghost use Rattle.std.specs.Prelude.{◌≡◌, ℕ, ◌+◌, ◌<◌, ◌≤◌, ◌==◌, ◌&&◌, if◌then◌else◌, nat_le, nat_lt, Some, None, IsSome, IfOk, OnOk, OnErr, MatchOption, is_some, is_ok, slice_get, length};
+ghost use Rattle.std.specs.Prelude.{◌≡◌, ℕ, ◌+◌, ◌*◌, ◌<◌, ◌≤◌, ◌==◌, ◌&&◌, if◌then◌else◌, nat_le, nat_lt, Some, None, IsSome, IfOk, OnOk, OnErr, MatchOption, is_some, is_ok, slice_get, length, []};
 ghost use Rattle.std.specs.Bool.{OnTrue, OnFalse};
 ghost use Rattle.std.specs.Vec.{vec_len, vec_capacity};
 ghost use Rattle.slices.specs.Spans.{span_at, spans_at, holders, count, or_else, between, AreApart};
@@ -23,7 +23,7 @@ impl Pieces {
         ensures reaching { (i : ℕ) → reaching result i ≡ count (slice_get cells.items i) }
     {
         Pieces {
-            first: Span { start: 0, cells },
+            first: Span::whole(cells),
             more: Vec::new(alloc),
         }
     }
@@ -49,7 +49,7 @@ impl Pieces {
 
     /// The allocator that its buffers were made with.
     pub(crate) fn alloc(&self) -> Global {
-        *self.first.cells.allocator()
+        self.first.alloc()
     }
 
     /// Whether the position is here; it is set then.
@@ -91,27 +91,38 @@ impl Pieces {
         Ok(part)
     }
 
-    /// Drops what is here from position `high` on.
-    pub(crate) fn keep_below(&mut self, high: usize)
-        ensures cells { (i : ℕ) → piece_at self.new i ≡ (if nat_lt i high then piece_at self.old i else None) }
-        ensures reaching { (i : ℕ) → reaching self.new i ≤ reaching self.old i }
-        ensures room { (vec_len self.new.more ≡ vec_len self.old.more) × (vec_capacity self.new.more ≡ vec_capacity self.old.more) }
+    /// Keeps what is below position `at`, and gives what is from there on.
+    pub(crate) fn split_off(&mut self, at: usize) -> Result<Pieces, AllocError>
+        requires { (i : ℕ) → reaching self.old i ≤ 1 }
+        ensures kept { OnOk result ((i : ℕ) → piece_at self.new i ≡ (if nat_lt i at then piece_at self.old i else None)) }
+        ensures given { IfOk result (λ upper. (i : ℕ) → piece_at upper i ≡ (if nat_lt i at then None else piece_at self.old i)) }
+        ensures reaching { IfOk result (λ upper. (i : ℕ) → reaching self.new i + reaching upper i ≡ reaching self.old i) }
+        ensures err { OnErr result ((i : ℕ) → (piece_at self.new i ≡ piece_at self.old i) × (reaching self.new i ≡ reaching self.old i)) }
+        ensures len { IfOk result (λ upper. (vec_len self.new.more ≡ vec_len self.old.more) × (vec_len upper.more ≤ vec_len self.old.more)) }
+        ensures err_len { OnErr result (vec_len self.new.more ≤ vec_len self.old.more + vec_len self.old.more) }
+        ensures capacity { vec_capacity self.old.more ≤ vec_capacity self.new.more }
     {
-        self.first.keep_below(high);
-        keep_each_below(&mut self.more, high);
+        let mut more = Vec::with_capacity(self.alloc(), self.more.len())?;
+        self.more.reserve(self.more.len())?;
+        let first = self.first.split_off(at)?;
+        match split_each(&mut self.more, at, &mut more) {
+            Ok(()) => Ok(Pieces { first, more }),
+            Err(fault) => {
+                self.take_in(Pieces { first, more });
+                Err(fault)
+            }
+        }
     }
 
     /// Takes out what is here from position `low` up to `high`, as what is below `mid` and the rest.
-    /// Nothing is here from position `end` on.
     pub(crate) fn cut_out(
         &mut self,
         low: usize,
         mid: usize,
         high: usize,
-        end: usize,
     ) -> Result<(Pieces, Pieces), AllocError>
-        requires order { (low ≤ high) × (high ≤ end) }
-        requires apart { AreApart end (spans_of self.old) }
+        requires order { (low ≤ mid) × (mid ≤ high) }
+        requires apart { (i : ℕ) → reaching self.old i ≤ 1 }
         ensures cells { OnOk result ((i : ℕ) → piece_at self.new i ≡ (if nat_le low i && nat_lt i high then None else piece_at self.old i)) }
         ensures lower { IfOk result (λ parts. (i : ℕ) → piece_at parts.0 i ≡ between low mid i (piece_at self.old i)) }
         ensures upper { IfOk result (λ parts. (i : ℕ) → piece_at parts.1 i ≡ between mid high i (piece_at self.old i)) }
@@ -120,13 +131,41 @@ impl Pieces {
         ensures reaching_upper { IfOk result (λ parts. (i : ℕ) → reaching parts.1 i ≤ reaching self.old i) }
         ensures err { OnErr result ((i : ℕ) → (piece_at self.new i ≡ piece_at self.old i) × (reaching self.new i ≡ reaching self.old i)) }
     {
-        let lower = self.copy_between(self.alloc(), low, mid)?;
-        let upper = self.copy_between(self.alloc(), mid, high)?;
-        let tail = self.copy_between(self.alloc(), high, end)?;
-        self.make_room(&tail)?;
-        self.keep_below(low);
-        self.take_in(tail);
-        Ok((lower, upper))
+        self.make_room_for_cuts()?;
+        let tail = self.split_off(high)?;
+        let upper = match self.split_off(mid) {
+            Ok(upper) => upper,
+            Err(fault) => {
+                self.take_in(tail);
+                return Err(fault);
+            }
+        };
+        match self.split_off(low) {
+            Ok(lower) => {
+                self.take_in(tail);
+                Ok((lower, upper))
+            }
+            Err(fault) => {
+                self.take_in(upper);
+                self.take_in(tail);
+                Err(fault)
+            }
+        }
+    }
+
+    /// Makes room for the spans that three cuts hand out, so that they are taken in again where
+    /// memory is wanting for a later one.
+    fn make_room_for_cuts(&mut self) -> Result<(), AllocError>
+        ensures items { self.new.more.items ≡ self.old.more.items }
+        ensures first { self.new.first ≡ self.old.first }
+        ensures len { vec_len self.new.more ≡ vec_len self.old.more }
+        ensures room { OnOk result (vec_len self.old.more * 4 + 2 ≤ vec_capacity self.new.more) }
+    {
+        let len = self.more.len();
+        if len > usize::MAX / 4 {
+            return Err(AllocError);
+        }
+        self.more.reserve(3 * len + 2)
     }
 
     /// How many cells from a position on are here, one after another.
@@ -200,6 +239,8 @@ impl Pieces {
         requires { vec_len self.old.more + (vec_len other.more + 1) ≤ vec_capacity self.old.more }
         ensures cells { (i : ℕ) → reaching self.old i + reaching other i ≤ 1 → piece_at self.new i ≡ or_else (piece_at self.old i) (piece_at other i) }
         ensures reaching { (i : ℕ) → reaching self.new i ≡ reaching self.old i + reaching other i }
+        ensures len { vec_len self.new.more ≤ vec_len self.old.more + (vec_len other.more + 1) }
+        ensures capacity { vec_capacity self.new.more ≡ vec_capacity self.old.more }
     {
         let Pieces { first, mut more } = other;
         self.add(first);
@@ -291,12 +332,33 @@ fn put_in(spans: &mut [Span], at: usize, value: i64) -> bool
     false
 }
 
-fn keep_each_below(spans: &mut [Span], high: usize)
-    ensures cells { (i : ℕ) → spans_at spans.new i ≡ (if nat_lt i high then spans_at spans.old i else None) }
-    ensures reaching { (i : ℕ) → holders spans.new i ≤ holders spans.old i }
+/// Keeps what is below position `at`, and puts what is from there on into `parts`.
+fn split_each(spans: &mut [Span], at: usize, parts: &mut Vec<Span>) -> Result<(), AllocError>
+    requires none { parts.old.items ≡ [] }
+    requires room { length spans.old ≤ vec_capacity parts.old }
+    ensures kept { OnOk result ((i : ℕ) → spans_at spans.new i ≡ (if nat_lt i at then spans_at spans.old i else None)) }
+    ensures given { OnOk result ((i : ℕ) → spans_at parts.new.items i ≡ (if nat_lt i at then None else spans_at spans.old i)) }
+    ensures reaching { (i : ℕ) → holders spans.new i + holders parts.new.items i ≡ holders spans.old i }
+    ensures err { OnErr result ((i : ℕ) → holders spans.old i ≤ 1 → or_else (spans_at spans.new i) (spans_at parts.new.items i) ≡ spans_at spans.old i) }
+    ensures len { vec_len parts.new ≤ length spans.old }
+    ensures err_len { OnErr result (vec_len parts.new + 1 ≤ length spans.old) }
 {
     for span in spans.iter_mut() {
-        span.keep_below(high);
+        let part = span.split_off(at)?;
+        push_reserved(parts, part);
+    }
+    Ok(())
+}
+
+fn push_reserved(spans: &mut Vec<Span>, span: Span)
+    requires { vec_len spans.old < vec_capacity spans.old }
+    ensures cells { (i : ℕ) → spans_at spans.new.items i ≡ or_else (spans_at spans.old.items i) (span_at span i) }
+    ensures reaching { (i : ℕ) → holders spans.new.items i ≡ holders spans.old.items i + count (span_at span i) }
+    ensures len { vec_len spans.new ≤ vec_len spans.old + 1 }
+    ensures capacity { vec_capacity spans.new ≡ vec_capacity spans.old }
+{
+    if !span.is_empty() {
+        spans.push_reserved(span);
     }
 }
 
@@ -323,7 +385,7 @@ fn push_held(spans: &mut Vec<Span>, span: Span) -> Result<(), AllocError>
     ensures reaching { OnOk result ((i : ℕ) → holders spans.new.items i ≡ holders spans.old.items i + count (span_at span i)) }
     ensures len { vec_len spans.new ≤ vec_len spans.old + 1 }
 {
-    if span.cells.is_empty() {
+    if span.is_empty() {
         return Ok(());
     }
     spans.push(span)?;

@@ -1,40 +1,51 @@
-// One flat buffer of cells that follow one another row by row.
+// Cells that follow one another row by row: flat until they are cut, then in boxes.
 
-ghost use Rattle.std.specs.Prelude.{◌≡◌, ℕ, ◌+◌, ◌-◌, ◌<◌, ◌≤◌, ◌==◌, ◌&&◌, if◌then◌else◌, nat_lt, Some, None, IsTrue, IsSome, IfOk, is_some, length, []};
+ghost use Rattle.std.specs.Prelude.{◌≡◌, ℕ, ◌+◌, ◌-◌, ◌<◌, ◌≤◌, ◌==◌, ◌&&◌, if◌then◌else◌, nat_lt, Some, None, true, IsTrue, IsSome, IfOk, OnOk, OnErr, is_some, length, []};
 ghost use Rattle.std.specs.Bool.{OnTrue, OnFalse};
-ghost use Rattle.slices.specs.Spans.{slot, span_at, or_else, count, between};
+ghost use Rattle.slices.specs.Spans.{slot, stretch_at, span_at, span_start, or_else, count, between};
 
+use crate::boxes::CHUNK;
+use crate::chunks::Chunks;
+use crate::stretches::Stretch;
 use std::alloc::{AllocError, Global};
-use std::mem::swap;
+use std::mem::{replace, swap};
 
-/// The cells from position `start` on, where positions count a table's cells row by row.
+/// Cells at positions that follow one another. Those of a table that was never cut are flat, and so
+/// are a few.
 #[derive(Drop)]
-pub(crate) struct Span {
-    pub(crate) start: usize,
-    pub(crate) cells: Vec<i64>,
+pub(crate) enum Span {
+    Flat(Stretch),
+    Cut(Chunks),
 }
 
 impl Span {
+    /// All cells of a table, row by row.
+    pub(crate) fn whole(cells: Vec<i64>) -> Span
+        ensures { (i : ℕ) → span_at result i ≡ slot 0 cells.items i }
+    {
+        Span::Flat(Stretch { start: 0, cells })
+    }
+
     pub(crate) fn none(alloc: Global) -> Span
         ensures { (i : ℕ) → span_at result i ≡ None }
     {
-        Span {
-            start: 0,
-            cells: Vec::new(alloc),
+        Span::whole(Vec::new(alloc))
+    }
+
+    /// The allocator that its buffers were made with.
+    pub(crate) fn alloc(&self) -> Global {
+        match self {
+            Span::Flat(flat) => *flat.cells.allocator(),
+            Span::Cut(cut) => *cut.list.allocator(),
         }
     }
 
     pub(crate) fn get(&self, at: usize) -> Option<i64>
         ensures { result ≡ span_at self.now at }
     {
-        if at < self.start {
-            return None;
-        }
-        let index = at - self.start;
-        if index < self.cells.len() {
-            Some(self.cells[index])
-        } else {
-            None
+        match self {
+            Span::Flat(flat) => flat.get(at),
+            Span::Cut(cut) => cut.get(at),
         }
     }
 
@@ -43,15 +54,10 @@ impl Span {
         ensures found { result ≡ is_some (span_at self.old at) }
         ensures cells { (i : ℕ) → span_at self.new i ≡ (if result && i == at then Some value else span_at self.old i) }
     {
-        if at < self.start {
-            return false;
+        match self {
+            Span::Flat(flat) => flat.put(at, value),
+            Span::Cut(cut) => cut.put(at, value),
         }
-        let index = at - self.start;
-        if index >= self.cells.len() {
-            return false;
-        }
-        self.cells[index] = value;
-        true
     }
 
     pub(crate) fn copy_between(
@@ -62,37 +68,36 @@ impl Span {
     ) -> Result<Span, AllocError>
         ensures { IfOk result (λ span. (i : ℕ) → span_at span i ≡ between low high i (span_at self.now i)) }
     {
-        let start = low.max(self.start);
-        let from = (start - self.start).min(self.cells.len());
-        let to = high
-            .saturating_sub(self.start)
-            .min(self.cells.len())
-            .max(from);
-        Ok(Span {
-            start,
-            cells: Vec::from_slice(alloc, &self.cells[from..to])?,
-        })
+        match self {
+            Span::Flat(flat) => Ok(Span::Flat(flat.copy_between(alloc, low, high)?)),
+            Span::Cut(cut) => Ok(Span::Cut(cut.copy_between(alloc, low, high)?)),
+        }
     }
 
-    pub(crate) fn keep_below(&mut self, high: usize)
-        ensures { (i : ℕ) → span_at self.new i ≡ (if nat_lt i high then span_at self.old i else None) }
+    /// Keeps what is below position `at`, and gives what is from there on.
+    pub(crate) fn split_off(&mut self, at: usize) -> Result<Span, AllocError>
+        ensures kept { OnOk result ((i : ℕ) → span_at self.new i ≡ (if nat_lt i at then span_at self.old i else None)) }
+        ensures given { IfOk result (λ upper. (i : ℕ) → span_at upper i ≡ (if nat_lt i at then None else span_at self.old i)) }
+        ensures err { OnErr result ((i : ℕ) → span_at self.new i ≡ span_at self.old i) }
     {
-        self.cells.truncate(high.saturating_sub(self.start));
+        if at <= self.start() {
+            let none = Span::none(self.alloc());
+            return Ok(replace(self, none));
+        }
+        match self {
+            Span::Flat(flat) => split_flat(flat, at),
+            Span::Cut(cut) => Ok(Span::Cut(cut.split_off(at)?)),
+        }
     }
 
-    /// Whether a position lies in both.
-    pub(crate) fn meets(&self, other: &Span) -> bool
-        ensures yes { OnTrue result ((i : ℕ) × IsSome (span_at self.now i) × IsSome (span_at other.now i)) }
-        ensures no { OnFalse result ((i : ℕ) → IsSome (span_at self.now i) → IsSome (span_at other.now i) → ⊥) }
+    /// Where its cells begin, if it has any.
+    fn start(&self) -> usize
+        ensures { result ≡ span_start self.now }
     {
-        let low = self.start.max(other.start);
-        if low - self.start >= self.cells.len() {
-            return false;
+        match self {
+            Span::Flat(flat) => flat.start,
+            Span::Cut(cut) => cut.start,
         }
-        if low - other.start >= other.cells.len() {
-            return false;
-        }
-        true
     }
 
     /// How many cells from a position on are here, one after another.
@@ -100,25 +105,88 @@ impl Span {
         ensures here { (i : ℕ) → at ≤ i → i < at + result → IsSome (span_at self.now i) }
         ensures none { result ≡ 0 → span_at self.now at ≡ None }
     {
-        if at < self.start {
-            return 0;
+        match self {
+            Span::Flat(flat) => flat.reach(at),
+            Span::Cut(cut) => cut.reach(at),
         }
-        self.cells.len().saturating_sub(at - self.start)
+    }
+
+    /// Whether a position lies in both.
+    pub(crate) fn meets(&self, other: &Span) -> bool
+        ensures yes { OnTrue result ((i : ℕ) × IsSome (span_at self.now i) × IsSome (span_at other.now i)) }
+        ensures no { OnFalse result ((i : ℕ) → IsSome (span_at self.now i) → IsSome (span_at other.now i) → ⊥) }
+    {
+        let low = self.start().max(other.start());
+        self.reach(low) > 0 && other.reach(low) > 0
+    }
+
+    /// Whether it has no cell.
+    pub(crate) fn is_empty(&self) -> bool
+        ensures { OnTrue result ((i : ℕ) → span_at self.now i ≡ None) }
+    {
+        match self {
+            Span::Flat(flat) => flat.cells.is_empty(),
+            Span::Cut(cut) => cut.start >= cut.end,
+        }
+    }
+
+    /// Whether its cells end where a span from a position on begins.
+    fn ends_at(&self, at: usize) -> bool {
+        match self {
+            Span::Flat(flat) => at >= flat.start && at - flat.start == flat.cells.len(),
+            Span::Cut(cut) => at == cut.end,
+        }
+    }
+
+    /// Puts its cells into boxes, where memory allows it.
+    fn cut_up(&mut self)
+        ensures { (i : ℕ) → span_at self.new i ≡ span_at self.old i }
+    {
+        if let Span::Flat(flat) = self
+            && let Some(end) = flat.start.checked_add(flat.cells.len())
+            && let Ok(cut) = Chunks::of(*flat.cells.allocator(), flat.start, end, &flat.cells)
+        {
+            *self = Span::Cut(cut);
+        }
     }
 
     /// Takes the other's cells in behind its own, where they follow and memory allows it.
-    pub(crate) fn take_in(&mut self, other: &mut Span) -> bool
+    fn take_in(&mut self, other: &mut Span) -> bool
         ensures joined { OnTrue result ((i : ℕ) → span_at self.new i ≡ or_else (span_at self.old i) (span_at other.old i)) }
         ensures emptied { OnTrue result ((i : ℕ) → span_at other.new i ≡ None) }
         ensures counted { OnTrue result ((i : ℕ) → count (span_at self.new i) ≡ count (span_at self.old i) + count (span_at other.old i)) }
         ensures apart { OnFalse result ((i : ℕ) → (span_at self.new i ≡ span_at self.old i) × (span_at other.new i ≡ span_at other.old i)) }
     {
-        if other.start < self.start || other.start - self.start != self.cells.len() {
+        if !self.ends_at(other.start()) {
             return false;
         }
-        match self.cells.append(&mut other.cells) {
-            Ok(()) => true,
-            Err(_) => false,
+        if !self.is_few_with(other) {
+            self.cut_up();
+            other.cut_up();
+        }
+        self.take_in_alike(other)
+    }
+
+    /// Whether both are flat and have so few cells that a box would have them all.
+    fn is_few_with(&self, other: &Span) -> bool {
+        match (self, other) {
+            (Span::Flat(flat), Span::Flat(next)) => {
+                flat.cells.len() <= CHUNK && next.cells.len() <= CHUNK - flat.cells.len()
+            }
+            _ => false,
+        }
+    }
+
+    fn take_in_alike(&mut self, other: &mut Span) -> bool
+        ensures joined { OnTrue result ((i : ℕ) → span_at self.new i ≡ or_else (span_at self.old i) (span_at other.old i)) }
+        ensures emptied { OnTrue result ((i : ℕ) → span_at other.new i ≡ None) }
+        ensures counted { OnTrue result ((i : ℕ) → count (span_at self.new i) ≡ count (span_at self.old i) + count (span_at other.old i)) }
+        ensures apart { OnFalse result ((i : ℕ) → (span_at self.new i ≡ span_at self.old i) × (span_at other.new i ≡ span_at other.old i)) }
+    {
+        match (self, other) {
+            (Span::Flat(flat), Span::Flat(next)) => flat.take_in(next),
+            (Span::Cut(cut), Span::Cut(next)) => cut.take_in(next),
+            _ => false,
         }
     }
 
@@ -130,11 +198,11 @@ impl Span {
         ensures joined { OnTrue result ((i : ℕ) → count (span_at self.old i) + count (span_at other.old i) ≤ 1 → span_at self.new i ≡ or_else (span_at self.old i) (span_at other.old i)) }
         ensures apart { OnFalse result ((i : ℕ) → (span_at self.new i ≡ span_at self.old i) × (span_at other.new i ≡ span_at other.old i)) }
     {
-        if self.cells.is_empty() {
+        if self.is_empty() {
             swap(self, other);
             return true;
         }
-        if other.cells.is_empty() {
+        if other.is_empty() {
             return true;
         }
         if self.take_in(other) {
@@ -146,4 +214,36 @@ impl Span {
         }
         false
     }
+}
+
+/// Keeps the cells below position `at`, and gives those from there on: flat if they all are few,
+/// otherwise in boxes.
+fn split_flat(flat: &mut Stretch, at: usize) -> Result<Span, AllocError>
+    requires { flat.old.start ≤ at }
+    ensures kept { OnOk result ((i : ℕ) → stretch_at flat.new i ≡ (if nat_lt i at then stretch_at flat.old i else None)) }
+    ensures given { IfOk result (λ upper. (i : ℕ) → span_at upper i ≡ (if nat_lt i at then None else stretch_at flat.old i)) }
+    ensures err { OnErr result ((i : ℕ) → stretch_at flat.new i ≡ stretch_at flat.old i) }
+{
+    let upper = upper_of(flat, at)?;
+    flat.keep_below(at);
+    Ok(upper)
+}
+
+/// A copy of the cells from position `at` on, flat if all are few, otherwise in boxes.
+fn upper_of(flat: &Stretch, at: usize) -> Result<Span, AllocError>
+    requires { flat.now.start ≤ at }
+    ensures { IfOk result (λ upper. (i : ℕ) → span_at upper i ≡ (if nat_lt i at then None else stretch_at flat.now i)) }
+{
+    let alloc = *flat.cells.allocator();
+    let len = flat.cells.len();
+    let cells = &flat.cells[(at - flat.start).min(len)..len];
+    if len > CHUNK
+        && let Some(end) = at.checked_add(cells.len())
+    {
+        return Ok(Span::Cut(Chunks::of(alloc, at, end, cells)?));
+    }
+    Ok(Span::Flat(Stretch {
+        start: at,
+        cells: Vec::from_slice(alloc, cells)?,
+    }))
 }

@@ -29,19 +29,20 @@ impl Store {
         }
     }
 
-    /// Keeps what is below position `at`, and gives what is from there up to `end`.
+    /// Keeps what is below position `at`, and gives what is from there on. Nothing is here from
+    /// position `end` on.
     pub(crate) fn split(&mut self, at: usize, end: usize) -> Result<Pieces, AllocError>
+        requires { AreApart end (stored self.old) }
         ensures kept { OnOk result ((i : ℕ) → store_at self.new i ≡ (if nat_lt i at then store_at self.old i else None)) }
         ensures given { IfOk result (λ upper. (i : ℕ) → piece_at upper i ≡ between at end i (store_at self.old i)) }
         ensures reaching { OnOk result ((i : ℕ) → reaching_in self.new i ≤ reaching_in self.old i) }
         ensures reaching_given { IfOk result (λ upper. (i : ℕ) → reaching upper i ≤ reaching_in self.old i) }
         ensures owned { OnOk result (is_owned self.new ≡ true) }
-        ensures err { OnErr result (self.new ≡ self.old) }
+        ensures err { OnErr result (SameStored self.old self.new) }
     {
         match self {
             Store::Owned(pieces) => {
-                let upper = pieces.copy_between(pieces.alloc(), at, end)?;
-                pieces.keep_below(at);
+                let upper = pieces.split_off(at)?;
                 Ok(upper)
             }
             Store::Shared(shared) => {
@@ -62,7 +63,7 @@ impl Store {
         high: usize,
         end: usize,
     ) -> Result<(Pieces, Pieces), AllocError>
-        requires order { (low ≤ high) × (high ≤ end) }
+        requires order { (low ≤ mid) × (mid ≤ high) }
         requires apart { AreApart end (stored self.old) }
         ensures kept { OnOk result ((i : ℕ) → store_at self.new i ≡ (if nat_le low i && nat_lt i high then None else store_at self.old i)) }
         ensures lower { IfOk result (λ parts. (i : ℕ) → piece_at parts.0 i ≡ between low mid i (store_at self.old i)) }
@@ -74,10 +75,10 @@ impl Store {
         ensures err { OnErr result (SameStored self.old self.new) }
     {
         match self {
-            Store::Owned(pieces) => pieces.cut_out(low, mid, high, end),
+            Store::Owned(pieces) => pieces.cut_out(low, mid, high),
             Store::Shared(shared) => {
                 let mut pieces = shared.copy(shared.alloc(), end)?;
-                let parts = pieces.cut_out(low, mid, high, end)?;
+                let parts = pieces.cut_out(low, mid, high)?;
                 *self = Store::Owned(pieces);
                 Ok(parts)
             }

@@ -259,7 +259,7 @@ struct RowCut {
 }
 
 fn row_cut(rows: u32, cols: u32, row: i64, at: i64) -> RowCut
-    ensures order { (result.low ≤ result.high) × (result.high ≤ rows * cols) }
+    ensures order { (result.low ≤ result.mid) × (result.mid ≤ result.high) }
     ensures row { (r c : ℕ) → r < rows → c < cols → nat_le result.low (r * cols + c) && nat_lt (r * cols + c) result.high ≡ int_eq (pos r) row }
     ensures lower { (r c : ℕ) → r < rows → c < cols → nat_le result.low (r * cols + c) && nat_lt (r * cols + c) result.mid ≡ int_eq (pos r) row && int_lt (pos c) at }
     ensures upper { (r c : ℕ) → r < rows → c < cols → nat_le result.mid (r * cols + c) && nat_lt (r * cols + c) result.high ≡ int_eq (pos r) row && not (int_lt (pos c) at) }

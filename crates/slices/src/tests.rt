@@ -94,3 +94,61 @@ fn appends_are_refused(rt: HostRuntime) -> Result<(), Fail> {
     }
     Ok(())
 }
+
+/// The cells at both ends of three rows of a thousand, and on both sides of the first box's end.
+fn marks(rt: &impl Abort, held: &Held, wanted: &[Option<i64>; 5]) {
+    assert_eq!(rt; held.fetch(0, 999), wanted[0]);
+    assert_eq!(rt; held.fetch(1, 0), wanted[1]);
+    assert_eq!(rt; held.fetch(1, 23), wanted[2]);
+    assert_eq!(rt; held.fetch(1, 24), wanted[3]);
+    assert_eq!(rt; held.fetch(2, 999), wanted[4]);
+}
+
+const MARKS: [Option<i64>; 5] = [Some(1), Some(2), Some(3), Some(4), Some(5)];
+
+fn marked(rt: &impl Abort, cells: Vec<i64>) -> Result<Held, Fail> {
+    assert_eq!(rt; cells.len(), 3000);
+    let mut held = Held::whole(3, 1000, cells);
+    held.put(0, 999, 1)?;
+    held.put(1, 0, 2)?;
+    held.put(1, 23, 3)?;
+    held.put(1, 24, 4)?;
+    held.put(2, 999, 5)?;
+    Ok(held)
+}
+
+#[test]
+fn rows_in_boxes_are_cut_and_appended(rt: HostRuntime) -> Result<(), Fail> {
+    let mut held = marked(&rt, Vec::from_elem(rt.alloc(), 7, 3000)?)?;
+    let mut upper = held.give_rows(1)?;
+    marks(&rt, &held, &[Some(1), None, None, None, None]);
+    marks(&rt, &upper, &[None, Some(2), Some(3), Some(4), Some(5)]);
+    let last = upper.give_rows(2)?;
+    marks(&rt, &upper, &[None, Some(2), Some(3), Some(4), None]);
+    assert!(rt; upper.put(1, 24, 6)?);
+    assert!(rt; held.append(last).is_ok());
+    assert!(rt; !held.is_whole());
+    assert!(rt; held.append(upper).is_ok());
+    marks(&rt, &held, &[Some(1), Some(2), Some(3), Some(6), Some(5)]);
+    assert!(rt; held.is_whole());
+    Ok(())
+}
+
+#[test]
+fn cells_in_boxes_are_cut_and_appended(rt: HostRuntime) -> Result<(), Fail> {
+    let mut held = marked(&rt, Vec::from_elem(rt.alloc(), 7, 3000)?)?;
+    let (lower, upper) = held.give_cells(1, 24)?;
+    marks(&rt, &held, &[Some(1), None, None, None, Some(5)]);
+    marks(&rt, &lower, &[None, Some(2), Some(3), None, None]);
+    marks(&rt, &upper, &[None, None, None, Some(4), None]);
+    assert!(rt; held.append(lower).is_ok());
+    assert!(rt; held.append(upper).is_ok());
+    marks(&rt, &held, &MARKS);
+    let mut other = held.share()?;
+    assert!(rt; other.put(1, 23, 6)?);
+    let given = other.give_rows(2)?;
+    marks(&rt, &other, &[Some(1), Some(2), Some(6), Some(4), None]);
+    marks(&rt, &given, &[None, None, None, None, Some(5)]);
+    marks(&rt, &held, &MARKS);
+    Ok(())
+}

@@ -1,18 +1,13 @@
-use Rattle.std.proofs.Common.{sym, add-zero, arith, length, ◌≡◌}
-use Rattle.std.proofs.lemmas.Bool.{eqb-true}
-use Rattle.slices.proofs.Slots.{slot-empty}
+use Rattle.std.proofs.Common.{sym, ap, ◌∙◌, arith}
+use Rattle.slices.specs.Spans.{or_else, count, spans_at}
 use Rattle.slices.proofs.SpanLists.{or_else-none, spans_at-push, holders-push}
 use Rattle.slices.proofs.pieces.push_held.Goals as goal
 
 pub returns-then-is_empty-clause-cells : goal.returns-then-is_empty-clause-cells
-returns-then-is_empty-clause-cells c = λ i.
-    let e : length c.args.span.cells.items ≡ 0 = omega (arith, eqb-true _ _ (sym c.if-is_empty.ensures)) in
-    rw (slot-empty c.args.span.start c.args.span.cells.items i e) (sym (or_else-none _))
+returns-then-is_empty-clause-cells c = λ i. sym (ap (or_else (spans_at c.args.spans.now.items i)) (c.if-is_empty.ensures i) ∙ or_else-none _)
 
 pub returns-then-is_empty-clause-reaching : goal.returns-then-is_empty-clause-reaching
-returns-then-is_empty-clause-reaching c = λ i.
-    let e : length c.args.span.cells.items ≡ 0 = omega (arith, eqb-true _ _ (sym c.if-is_empty.ensures)) in
-    rw (slot-empty c.args.span.start c.args.span.cells.items i e) (sym (add-zero _))
+returns-then-is_empty-clause-reaching c = λ i. omega (arith, ap count (c.if-is_empty.ensures i))
 
 pub returns-clause-cells : goal.returns-clause-cells
 returns-clause-cells c = λ i. rw (c.in_ok-push.ensures.items) (spans_at-push _ _ i)

@@ -11,10 +11,7 @@ module _ (c : goal.After-clamped) where
   the_row = c.magnitude.ensures ∙ to_z-of_z c.ranges.row
 
 pub returns-clause-order : goal.returns-clause-order
-returns-clause-order c =
-    let e = the_row c in
-    let h : suc c.magnitude.result ≤ c.args.rows = omega (arith, ints, e) in
-    (omega arith, omega (arith, mul-le-mul_left c.args.cols h))
+returns-clause-order c = (omega arith, omega (arith, c.clamped.ensures.within))
 
 pub returns-clause-row : goal.returns-clause-row
 returns-clause-row c = λ r d h k. row_stretch c.args.cols r d c.magnitude.result k ∙ sym (int_eq-pos r c.magnitude.result) ∙ ap (λ z. int_eq (pos r) z) (the_row c)

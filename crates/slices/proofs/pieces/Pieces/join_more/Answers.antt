@@ -14,6 +14,17 @@ loop-k-preserved-then-join c =
       capacity = c.remove.ensures.capacity ∙ c.loop-k.invariant.capacity;
     }
 
+pub loop-k-preserved-then-join-2 : goal.loop-k-preserved-then-join-2
+loop-k-preserved-then-join-2 c =
+    let lt : c.loop-k.k < length c.loop-k.self.more.items = omega arith in
+    let joined = λ (i : ℕ). joined_item c.loop-k.self.first c.join.new.self c.loop-k.self.more.items c.loop-k.k c.index_mut.result.now c.join.new.other i lt c.index_mut.ensures.value (c.if-join.ensures.counted i) (c.if-join.ensures.joined i) in
+    record {
+      cells = λ i le. rw c.remove.ensures.items ((joined i).1 (omega (arith, c.loop-k.invariant.reaching i, le)) ∙ c.loop-k.invariant.cells i le);
+      reaching = λ i. rw c.remove.ensures.items ((joined i).0 ∙ c.loop-k.invariant.reaching i);
+      len = omega arith;
+      capacity = c.remove.ensures.capacity ∙ c.loop-k.invariant.capacity;
+    }
+
 pub loop-k-preserved : goal.loop-k-preserved
 loop-k-preserved c =
     let lt : c.loop-k.k < length c.loop-k.self.more.items = omega arith in

@@ -18,4 +18,12 @@ loop-span-preserved c =
           let n : holders c.loop-span.more.items i ≡ holders c.pop.new.self.items i + count (span_at c.in-Some.span i) = ap (λ ys. holders ys i) last ∙ holders-push _ _ i in
           omega (arith, n, c.add-in-Some.ensures.reaching i, c.loop-span.invariant.reaching i);
       room = omega (arith, c.add-in-Some.ensures.len, c.add-in-Some.ensures.capacity, c.in-Some.ensures.len, c.loop-span.invariant.room);
+      len = omega (arith, c.add-in-Some.ensures.len, c.in-Some.ensures.len, c.loop-span.invariant.len);
+      capacity = c.add-in-Some.ensures.capacity ∙ c.loop-span.invariant.capacity;
     }
+
+pub returns-clause-len : goal.returns-clause-len
+returns-clause-len c = omega (arith, c.add.ensures.len, c.loop-span.invariant.len)
+
+pub returns-clause-capacity : goal.returns-clause-capacity
+returns-clause-capacity c = c.loop-span.invariant.capacity ∙ c.add.ensures.capacity

@@ -9,6 +9,8 @@ invariant-loop-span l = record {
   cells : (i : ℕ) → reaching l.initial.self i + holders l.initial.more.items i ≤ 1 → or_else (piece_at l.self i) (spans_at l.more.items i) ≡ or_else (piece_at l.initial.self i) (spans_at l.initial.more.items i);
   reaching : (i : ℕ) → reaching l.self i + holders l.more.items i ≡ reaching l.initial.self i + holders l.initial.more.items i;
   room : vec_len l.self.more + vec_len l.more ≤ vec_capacity l.self.more;
+  len : vec_len l.self.more + vec_len l.more ≤ vec_len l.initial.self.more + vec_len l.initial.more;
+  capacity : vec_capacity l.self.more ≡ vec_capacity l.initial.self.more;
 }
 
 abbrev pub decreases-loop-span : goal.decreases-loop-span
