@@ -1,5 +1,6 @@
 -- The cells of a table: a finite map from (row, column) to a number. Equal maps are equal values.
-use Rattle.std.specs.Prelude.{◌≡◌, ◌<◌, ℕ, suc, zero, ℤ, pos, negsuc, ◌+◌, ◌*◌, ◌/◌, ◌%◌, ◌&&◌, if◌then◌else◌, nat_lt, Option, None, Some, List, [], ◌∷◌, slice_get}
+use Rattle.std.specs.Prelude.{◌≡◌, ◌<◌, ℕ, suc, zero, ℤ, pos, negsuc, ◌+◌, ◌*◌, ◌/◌, ◌%◌, ◌&&◌}
+use Rattle.std.specs.Prelude.{if◌then◌else◌, nat_lt, Option, None, Some, List, [], ◌∷◌, slice_get}
 use Rattle.std.specs.declared.cmp.Ordering.{Ordering}
 use Rattle.std.specs.Ordering.{ordering_then, int_cmp}
 use Rattle.std.specs.FinMap.{FinMap, empty, insert, entries}
@@ -17,14 +18,16 @@ place_of cols i = (pos (i / cols), pos (i % cols))
 
 -- what the row by row counting gives at a place of a table of this size
 abbrev pub at_place : ℕ → ℕ → (ℕ → Option ℤ) → ℤ → ℤ → Option ℤ
-at_place rows cols value (pos row) (pos col) = if nat_lt row rows && nat_lt col cols then value (row * cols + col) else None
+at_place rows cols value (pos row) (pos col) =
+    if nat_lt row rows && nat_lt col cols then value (row * cols + col) else None
 at_place rows cols value (pos row) (negsuc col) = None
 at_place rows cols value (negsuc row) (pos col) = None
 at_place rows cols value (negsuc row) (negsuc col) = None
 
 -- the cell at a place is the i-th of a table of this size, counted row by row
 abbrev pub StandsAt : ℕ → ℕ → ℤ → ℤ → ℕ → Type 0
-StandsAt rows cols row col i = (r : ℕ) × (c : ℕ) × (row ≡ pos r) × (col ≡ pos c) × (r < rows) × (c < cols) × (i ≡ r * cols + c)
+StandsAt rows cols row col i =
+    (r : ℕ) × (c : ℕ) × (row ≡ pos r) × (col ≡ pos c) × (r < rows) × (c < cols) × (i ≡ r * cols + c)
 
 -- the number at a place of a table whose numbers are listed row by row
 abbrev pub listed : ℕ → ℕ → List ℤ → ℤ → ℤ → Option ℤ

@@ -1,5 +1,6 @@
 -- What a held table is seen as, and what each call makes of it.
-use Rattle.std.specs.Prelude.{◌≡◌, ℕ, ℤ, pos, ◌<◌, Bool, true, false, not, ◌&&◌, int_lt, Option, IsSome, refl}
+use Rattle.std.specs.Prelude.{◌≡◌, ℕ, ℤ, pos, ◌<◌, Bool, true, false, not, ◌&&◌, int_lt, Option}
+use Rattle.std.specs.Prelude.{IsSome, refl}
 use Rattle.std.specs.Ordering.{int_eq}
 use Rattle.std.specs.FinMap.{get, insert, retain_keys, code}
 use Rattle.std.specs.Coded.{Coded, code_by, coded×, coded_ℕ, coded_ℤ, coded_bool}
@@ -16,7 +17,11 @@ pub record Holding : Type 0 where
 
 abbrev pub holding_code : Coded Holding
 holding_code =
-    code_by (ℕ × (ℕ × (Cells × Bool))) (coded× coded_ℕ (coded× coded_ℕ (coded× (code (coded× coded_ℤ coded_ℤ) coded_ℤ) coded_bool))) (λ h. (h.rows, (h.cols, (h.cells, h.owned)))) (λ p. record { rows = p.0; cols = p.1.0; cells = p.1.1.0; owned = p.1.1.1 }) (λ _. refl)
+    code_by (ℕ × (ℕ × (Cells × Bool)))
+    (coded× coded_ℕ
+    (coded× coded_ℕ (coded× (code (coded× coded_ℤ coded_ℤ) coded_ℤ) coded_bool)))
+    (λ h. (h.rows, (h.cols, (h.cells, h.owned))))
+    (λ p. record { rows = p.0; cols = p.1.0; cells = p.1.1.0; owned = p.1.1.1 }) (λ _. refl)
 
 -- the number that is held for a place
 abbrev pub cell_at : Holding → ℤ → ℤ → Option ℤ
@@ -28,7 +33,8 @@ IsWhole h = (row col : ℕ) → row < h.rows → col < h.cols → IsSome (cell_a
 
 -- the held cells whose place passes the test, owned
 abbrev pub held_where : (ℤ × ℤ → Bool) → Holding → Holding
-held_where test h = record { rows = h.rows; cols = h.cols; cells = retain_keys h.cells test; owned = true }
+held_where test h =
+    record { rows = h.rows; cols = h.cols; cells = retain_keys h.cells test; owned = true }
 
 abbrev pub rows_below : Holding → ℤ → Holding
 rows_below h at = held_where (λ place. int_lt place.0 at) h
@@ -47,11 +53,13 @@ row_from h row at = held_where (λ place. int_eq place.0 row && not (int_lt plac
 
 -- one cell set, owned
 abbrev pub with_cell : Holding → ℤ → ℤ → ℤ → Holding
-with_cell h row col value = record { rows = h.rows; cols = h.cols; cells = insert h.cells (row, col) value; owned = true }
+with_cell h row col value =
+    record { rows = h.rows; cols = h.cols; cells = insert h.cells (row, col) value; owned = true }
 
 -- the cells of both, owned
 abbrev pub together : Holding → Holding → Holding
-together h upper = record { rows = h.rows; cols = h.cols; cells = union h.cells upper.cells; owned = true }
+together h upper =
+    record { rows = h.rows; cols = h.cols; cells = union h.cells upper.cells; owned = true }
 
 abbrev pub shared : Holding → Holding
 shared h = record { rows = h.rows; cols = h.cols; cells = h.cells; owned = false }
@@ -68,7 +76,8 @@ SameSize h upper = (h.rows ≡ upper.rows) × (h.cols ≡ upper.cols)
 
 -- a cell that both hold
 abbrev pub CommonCell : Holding → Holding → Type 0
-CommonCell h upper = (row : ℤ) × (col : ℤ) × IsSome (cell_at h row col) × IsSome (cell_at upper row col)
+CommonCell h upper =
+    (row : ℤ) × (col : ℤ) × IsSome (cell_at h row col) × IsSome (cell_at upper row col)
 
 -- when two held tables are refused to be put together
 abbrev pub CauseOf : HeldFault → Holding → Holding → Type 0

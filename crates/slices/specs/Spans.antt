@@ -1,5 +1,7 @@
 -- Cells kept in stretches that follow one another row by row, each counted from its first position.
-use Rattle.std.specs.Prelude.{◌≡◌, ℕ, ◌+◌, ◌-◌, ◌/◌, ◌%◌, ◌≤◌, nat_le, nat_lt, ◌&&◌, if◌then◌else◌, ℤ, pos, Option, None, Some, List, [], ◌∷◌, slice_get, slice_index_or, Box}
+use Rattle.std.specs.Prelude.{◌≡◌, ℕ, ◌+◌, ◌-◌, ◌/◌, ◌%◌, ◌≤◌, nat_le, nat_lt, ◌&&◌, if◌then◌else◌}
+use Rattle.std.specs.Prelude.{ℤ, pos, Option, None, Some, List, [], ◌∷◌, slice_get, slice_index_or}
+use Rattle.std.specs.Prelude.{Box}
 use Rattle.std.specs.Global.{Global}
 use Rattle.slices.specs.declared.stretches.Stretch.{Stretch}
 use Rattle.slices.specs.declared.chunks.Chunks.{Chunks}

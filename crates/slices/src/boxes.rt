@@ -1,6 +1,8 @@
 // Boxes of 1,024 cells, and lists of them.
 
-ghost use Rattle.std.specs.Prelude.{◌≡◌, ℕ, ◌+◌, ◌-◌, ◌/◌, ◌%◌, ◌<◌, ◌≤◌, ◌==◌, ◌⊎◌, if◌then◌else◌, Some, IsSome, IfOk, OnSome, MatchOption, length, ◌++◌, option_to_list};
+ghost use Rattle.std.specs.Prelude.{◌≡◌, ℕ, ◌+◌, ◌-◌, ◌/◌, ◌%◌, ◌<◌, ◌≤◌, ◌==◌, ◌⊎◌, if◌then◌else◌};
+ghost use Rattle.std.specs.Prelude.{Some, IsSome, IfOk, OnSome, MatchOption, length, ◌++◌};
+ghost use Rattle.std.specs.Prelude.{option_to_list};
 ghost use Rattle.std.specs.Bool.{OnTrue, OnFalse};
 ghost use Rattle.std.specs.Vec.{vec_len, vec_capacity};
 ghost use Rattle.slices.specs.Spans.{number, held_in, in_list};
@@ -24,7 +26,8 @@ pub(crate) fn read(chunk: &[i64; CHUNK], at: usize) -> i64
 /// Sets the cell at a position that the box has.
 #[inline(always)]
 pub(crate) fn write(chunk: &mut [i64; CHUNK], at: usize, value: i64)
-    ensures { (j : ℕ) → number chunk.new j ≡ (if j == at % 1024 then value else number chunk.old j) }
+    ensures { (j : ℕ)
+        → number chunk.new j ≡ (if j == at % 1024 then value else number chunk.old j) }
 {
     chunk[at % CHUNK] = value;
 }
@@ -32,7 +35,8 @@ pub(crate) fn write(chunk: &mut [i64; CHUNK], at: usize, value: i64)
 /// A box with these cells from index `skip` on.
 pub(crate) fn chunk_of(alloc: Global, skip: usize, part: &[i64]) -> Result<Chunk, AllocError>
     requires { skip + length part.now ≤ 1024 }
-    ensures { IfOk result (λ chunk. (j : ℕ) → j < length part.now → number chunk.value (skip + j) ≡ number part.now j) }
+    ensures { IfOk result
+        (λ chunk. (j : ℕ) → j < length part.now → number chunk.value (skip + j) ≡ number part.now j) }
 {
     if let Ok(cells) = <[i64; CHUNK]>::try_from(part) {
         let chunk = boxed(alloc, cells)?;
@@ -71,7 +75,10 @@ pub(crate) fn lower_copy(
     index: usize,
     at: usize,
 ) -> Result<Option<Chunk>, AllocError>
-    ensures { IfOk result (λ lower. MatchOption lower ((at % 1024 ≡ 0) ⊎ (length list.now ≤ index)) (λ chunk. (index < length list.now) × ((j : ℕ) → held_in list.now index j ≡ Some (number chunk.value j)))) }
+    ensures { IfOk result
+        (λ lower. MatchOption lower ((at % 1024 ≡ 0) ⊎ (length list.now ≤ index))
+        (λ chunk. (index < length list.now)
+        × ((j : ℕ) → held_in list.now index j ≡ Some (number chunk.value j)))) }
 {
     if at % CHUNK == 0 || index >= list.len() {
         return Ok(None);
@@ -99,10 +106,16 @@ pub(crate) fn joined(
 ) -> bool
     requires order { start < end }
     requires len { vec_len lower.old ≡ (end - 1) / 1024 - start / 1024 + 1 }
-    ensures below { OnTrue result ((i : ℕ) → start ≤ i → i < end → in_list start lower.new.items i ≡ in_list start lower.old.items i) }
-    ensures above { OnTrue result ((i : ℕ) → end ≤ i → in_list start lower.new.items i ≡ in_list end upper.old.items i) }
+    ensures below { OnTrue result
+        ((i : ℕ)
+        → start ≤ i
+        → i < end
+        → in_list start lower.new.items i ≡ in_list start lower.old.items i) }
+    ensures above { OnTrue result
+        ((i : ℕ) → end ≤ i → in_list start lower.new.items i ≡ in_list end upper.old.items i) }
     ensures apart { OnFalse result (lower.new.items ≡ lower.old.items) }
-    ensures upper_apart { OnFalse result ((i : ℕ) → end ≤ i → in_list end upper.new.items i ≡ in_list end upper.old.items i) }
+    ensures upper_apart { OnFalse result
+        ((i : ℕ) → end ≤ i → in_list end upper.new.items i ≡ in_list end upper.old.items i) }
 {
     if end % CHUNK == 0 {
         match lower.append(upper) {
@@ -119,10 +132,16 @@ fn joined_within(lower: &mut Vec<Chunk>, upper: &mut Vec<Chunk>, start: usize, e
     requires order { start < end }
     requires inside { 0 < end % 1024 }
     requires len { vec_len lower.old ≡ (end - 1) / 1024 - start / 1024 + 1 }
-    ensures below { OnTrue result ((i : ℕ) → start ≤ i → i < end → in_list start lower.new.items i ≡ in_list start lower.old.items i) }
-    ensures above { OnTrue result ((i : ℕ) → end ≤ i → in_list start lower.new.items i ≡ in_list end upper.old.items i) }
+    ensures below { OnTrue result
+        ((i : ℕ)
+        → start ≤ i
+        → i < end
+        → in_list start lower.new.items i ≡ in_list start lower.old.items i) }
+    ensures above { OnTrue result
+        ((i : ℕ) → end ≤ i → in_list start lower.new.items i ≡ in_list end upper.old.items i) }
     ensures apart { OnFalse result (lower.new.items ≡ lower.old.items) }
-    ensures upper_apart { OnFalse result ((i : ℕ) → end ≤ i → in_list end upper.new.items i ≡ in_list end upper.old.items i) }
+    ensures upper_apart { OnFalse result
+        ((i : ℕ) → end ≤ i → in_list end upper.new.items i ≡ in_list end upper.old.items i) }
 {
     let last = end / CHUNK - start / CHUNK;
     if upper.len() == 0 || lower.reserve(upper.len()).is_err() {

@@ -1,7 +1,10 @@
 // Cells in boxes of 1,024. The box of a position is told by the position alone, so that a run of
 // cells is cut and put together again by moving boxes; only one that a cut goes through is copied.
 
-ghost use Rattle.std.specs.Prelude.{◌≡◌, ℕ, ◌+◌, ◌-◌, ◌*◌, ◌/◌, ◌%◌, ◌<◌, ◌≤◌, ◌==◌, ◌&&◌, if◌then◌else◌, nat_lt, Some, None, IsTrue, IsSome, IfOk, IfSome, OnOk, OnErr, MatchOption, is_some, length, [], slice_get, ◌++◌, ◌∷◌, take, drop, slice_index_or};
+ghost use Rattle.std.specs.Prelude.{◌≡◌, ℕ, ◌+◌, ◌-◌, ◌*◌, ◌/◌, ◌%◌, ◌<◌, ◌≤◌, ◌==◌, ◌&&◌};
+ghost use Rattle.std.specs.Prelude.{if◌then◌else◌, nat_lt, Some, None, IsTrue, IsSome, IfOk};
+ghost use Rattle.std.specs.Prelude.{IfSome, OnOk, OnErr, MatchOption, is_some, length, []};
+ghost use Rattle.std.specs.Prelude.{slice_get, ◌++◌, ◌∷◌, take, drop, slice_index_or};
 ghost use Rattle.std.specs.Bool.{OnTrue, OnFalse};
 ghost use Rattle.std.specs.Vec.{vec_len, vec_capacity};
 ghost use Rattle.slices.specs.Spans.{slot, chunks_at, or_else, count, between, number, in_list};
@@ -62,7 +65,9 @@ impl Chunks {
     /// Whether the position is here; it is set then.
     pub(crate) fn put(&mut self, at: usize, value: i64) -> bool
         ensures found { result ≡ is_some (chunks_at self.old at) }
-        ensures cells { (i : ℕ) → chunks_at self.new i ≡ (if result && i == at then Some value else chunks_at self.old i) }
+        ensures cells { (i : ℕ)
+            → chunks_at self.new i
+            ≡ (if result && i == at then Some value else chunks_at self.old i) }
     {
         if at < self.start || at >= self.end {
             return false;
@@ -100,7 +105,8 @@ impl Chunks {
         low: usize,
         high: usize,
     ) -> Result<Chunks, AllocError>
-        ensures { IfOk result (λ part. (i : ℕ) → chunks_at part i ≡ between low high i (chunks_at self.now i)) }
+        ensures { IfOk result
+            (λ part. (i : ℕ) → chunks_at part i ≡ between low high i (chunks_at self.now i)) }
     {
         let start = low.max(self.start);
         let end = high.min(self.end);
@@ -121,8 +127,12 @@ impl Chunks {
     /// Keeps what is below position `at`, and gives what is from there on.
     pub(crate) fn split_off(&mut self, at: usize) -> Result<Chunks, AllocError>
         requires { self.old.start ≤ at }
-        ensures kept { OnOk result ((i : ℕ) → chunks_at self.new i ≡ (if nat_lt i at then chunks_at self.old i else None)) }
-        ensures given { IfOk result (λ upper. (i : ℕ) → chunks_at upper i ≡ (if nat_lt i at then None else chunks_at self.old i)) }
+        ensures kept { OnOk result
+            ((i : ℕ)
+            → chunks_at self.new i ≡ (if nat_lt i at then chunks_at self.old i else None)) }
+        ensures given { IfOk result
+            (λ upper. (i : ℕ)
+            → chunks_at upper i ≡ (if nat_lt i at then None else chunks_at self.old i)) }
         ensures err { OnErr result (self.new ≡ self.old) }
     {
         let alloc = *self.list.allocator();
@@ -147,10 +157,18 @@ impl Chunks {
 
     /// Takes the other's cells in behind its own, where they follow and memory allows it.
     pub(crate) fn take_in(&mut self, other: &mut Chunks) -> bool
-        ensures joined { OnTrue result ((i : ℕ) → chunks_at self.new i ≡ or_else (chunks_at self.old i) (chunks_at other.old i)) }
+        ensures joined { OnTrue result
+            ((i : ℕ)
+            → chunks_at self.new i ≡ or_else (chunks_at self.old i) (chunks_at other.old i)) }
         ensures emptied { OnTrue result ((i : ℕ) → chunks_at other.new i ≡ None) }
-        ensures counted { OnTrue result ((i : ℕ) → count (chunks_at self.new i) ≡ count (chunks_at self.old i) + count (chunks_at other.old i)) }
-        ensures apart { OnFalse result ((i : ℕ) → (chunks_at self.new i ≡ chunks_at self.old i) × (chunks_at other.new i ≡ chunks_at other.old i)) }
+        ensures counted { OnTrue result
+            ((i : ℕ)
+            → count (chunks_at self.new i)
+            ≡ count (chunks_at self.old i) + count (chunks_at other.old i)) }
+        ensures apart { OnFalse result
+            ((i : ℕ)
+            → (chunks_at self.new i ≡ chunks_at self.old i)
+            × (chunks_at other.new i ≡ chunks_at other.old i)) }
     {
         let start = self.start;
         let end = self.end;

@@ -2,7 +2,8 @@
 // are laws over what the calls make of a value, for those who reason about several calls.
 
 ghost use Rattle.std.specs.Prelude.{◌≡◌};
-ghost use Rattle.slices.specs.Holding.{rows_below, rows_from, without_row, row_below, row_from, together, own, CommonCell};
+ghost use Rattle.slices.specs.Holding.{rows_below, rows_from, without_row, row_below, row_from};
+ghost use Rattle.slices.specs.Holding.{together, own, CommonCell};
 
 use crate::table::Held;
 
@@ -17,6 +18,10 @@ pub fn rows_join_again(held: &Held, at: i64)
 /// and together they are the cells that were cut, owned.
 pub fn cells_join_again(held: &Held, row: i64, at: i64)
     ensures lower_apart { CommonCell (without_row held.now row) (row_below held.now row at) → ⊥ }
-    ensures upper_apart { CommonCell (together (without_row held.now row) (row_below held.now row at)) (row_from held.now row at) → ⊥ }
-    ensures joined { together (together (without_row held.now row) (row_below held.now row at)) (row_from held.now row at) ≡ own held.now }
+    ensures upper_apart { CommonCell (together (without_row held.now row) (row_below held.now row at))
+        (row_from held.now row at)
+        → ⊥ }
+    ensures joined { together (together (without_row held.now row) (row_below held.now row at))
+        (row_from held.now row at)
+        ≡ own held.now }
 {}

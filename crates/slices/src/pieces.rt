@@ -1,6 +1,8 @@
 // The spans that one value holds: mostly one, kept beside the rest.
 
-ghost use Rattle.std.specs.Prelude.{◌≡◌, ℕ, ◌+◌, ◌*◌, ◌<◌, ◌≤◌, ◌==◌, ◌&&◌, if◌then◌else◌, nat_le, nat_lt, Some, None, IsSome, IfOk, OnOk, OnErr, MatchOption, is_some, is_ok, slice_get, length, []};
+ghost use Rattle.std.specs.Prelude.{◌≡◌, ℕ, ◌+◌, ◌*◌, ◌<◌, ◌≤◌, ◌==◌, ◌&&◌, if◌then◌else◌, nat_le};
+ghost use Rattle.std.specs.Prelude.{nat_lt, Some, None, IsSome, IfOk, OnOk, OnErr, MatchOption};
+ghost use Rattle.std.specs.Prelude.{is_some, is_ok, slice_get, length, []};
 ghost use Rattle.std.specs.Bool.{OnTrue, OnFalse};
 ghost use Rattle.std.specs.Vec.{vec_len, vec_capacity};
 ghost use Rattle.slices.specs.Spans.{span_at, spans_at, holders, count, or_else, between, AreApart};
@@ -55,7 +57,9 @@ impl Pieces {
     /// Whether the position is here; it is set then.
     pub(crate) fn put(&mut self, at: usize, value: i64) -> bool
         ensures found { result ≡ is_some (piece_at self.old at) }
-        ensures cells { (i : ℕ) → piece_at self.new i ≡ (if result && i == at then Some value else piece_at self.old i) }
+        ensures cells { (i : ℕ)
+            → piece_at self.new i
+            ≡ (if result && i == at then Some value else piece_at self.old i) }
         ensures reaching { (i : ℕ) → reaching self.new i ≡ reaching self.old i }
     {
         if self.first.put(at, value) {
@@ -71,7 +75,8 @@ impl Pieces {
         low: usize,
         high: usize,
     ) -> Result<Pieces, AllocError>
-        ensures cells { IfOk result (λ part. (i : ℕ) → piece_at part i ≡ between low high i (piece_at self.now i)) }
+        ensures cells { IfOk result
+            (λ part. (i : ℕ) → piece_at part i ≡ between low high i (piece_at self.now i)) }
         ensures reaching { IfOk result (λ part. (i : ℕ) → reaching part i ≤ reaching self.now i) }
         ensures len { IfOk result (λ part. vec_len part.more ≤ vec_len self.now.more) }
     {
@@ -94,11 +99,20 @@ impl Pieces {
     /// Keeps what is below position `at`, and gives what is from there on.
     pub(crate) fn split_off(&mut self, at: usize) -> Result<Pieces, AllocError>
         requires { (i : ℕ) → reaching self.old i ≤ 1 }
-        ensures kept { OnOk result ((i : ℕ) → piece_at self.new i ≡ (if nat_lt i at then piece_at self.old i else None)) }
-        ensures given { IfOk result (λ upper. (i : ℕ) → piece_at upper i ≡ (if nat_lt i at then None else piece_at self.old i)) }
-        ensures reaching { IfOk result (λ upper. (i : ℕ) → reaching self.new i + reaching upper i ≡ reaching self.old i) }
-        ensures err { OnErr result ((i : ℕ) → (piece_at self.new i ≡ piece_at self.old i) × (reaching self.new i ≡ reaching self.old i)) }
-        ensures len { IfOk result (λ upper. (vec_len self.new.more ≡ vec_len self.old.more) × (vec_len upper.more ≤ vec_len self.old.more)) }
+        ensures kept { OnOk result
+            ((i : ℕ) → piece_at self.new i ≡ (if nat_lt i at then piece_at self.old i else None)) }
+        ensures given { IfOk result
+            (λ upper. (i : ℕ)
+            → piece_at upper i ≡ (if nat_lt i at then None else piece_at self.old i)) }
+        ensures reaching { IfOk result
+            (λ upper. (i : ℕ) → reaching self.new i + reaching upper i ≡ reaching self.old i) }
+        ensures err { OnErr result
+            ((i : ℕ)
+            → (piece_at self.new i ≡ piece_at self.old i)
+            × (reaching self.new i ≡ reaching self.old i)) }
+        ensures len { IfOk result
+            (λ upper. (vec_len self.new.more ≡ vec_len self.old.more)
+            × (vec_len upper.more ≤ vec_len self.old.more)) }
         ensures err_len { OnErr result (vec_len self.new.more ≤ vec_len self.old.more + vec_len self.old.more) }
         ensures capacity { vec_capacity self.old.more ≤ vec_capacity self.new.more }
     {
@@ -114,7 +128,8 @@ impl Pieces {
         }
     }
 
-    /// Takes out what is here from position `low` up to `high`, as what is below `mid` and the rest.
+    /// Takes out what is here from position `low` up to `high`, as what is below `mid` and the
+    /// rest.
     pub(crate) fn cut_out(
         &mut self,
         low: usize,
@@ -123,13 +138,21 @@ impl Pieces {
     ) -> Result<(Pieces, Pieces), AllocError>
         requires order { (low ≤ mid) × (mid ≤ high) }
         requires apart { (i : ℕ) → reaching self.old i ≤ 1 }
-        ensures cells { OnOk result ((i : ℕ) → piece_at self.new i ≡ (if nat_le low i && nat_lt i high then None else piece_at self.old i)) }
-        ensures lower { IfOk result (λ parts. (i : ℕ) → piece_at parts.0 i ≡ between low mid i (piece_at self.old i)) }
-        ensures upper { IfOk result (λ parts. (i : ℕ) → piece_at parts.1 i ≡ between mid high i (piece_at self.old i)) }
+        ensures cells { OnOk result
+            ((i : ℕ)
+            → piece_at self.new i
+            ≡ (if nat_le low i && nat_lt i high then None else piece_at self.old i)) }
+        ensures lower { IfOk result
+            (λ parts. (i : ℕ) → piece_at parts.0 i ≡ between low mid i (piece_at self.old i)) }
+        ensures upper { IfOk result
+            (λ parts. (i : ℕ) → piece_at parts.1 i ≡ between mid high i (piece_at self.old i)) }
         ensures reaching { OnOk result ((i : ℕ) → reaching self.new i ≤ reaching self.old i) }
         ensures reaching_lower { IfOk result (λ parts. (i : ℕ) → reaching parts.0 i ≤ reaching self.old i) }
         ensures reaching_upper { IfOk result (λ parts. (i : ℕ) → reaching parts.1 i ≤ reaching self.old i) }
-        ensures err { OnErr result ((i : ℕ) → (piece_at self.new i ≡ piece_at self.old i) × (reaching self.new i ≡ reaching self.old i)) }
+        ensures err { OnErr result
+            ((i : ℕ)
+            → (piece_at self.new i ≡ piece_at self.old i)
+            × (reaching self.new i ≡ reaching self.old i)) }
     {
         self.make_room_for_cuts()?;
         let tail = self.split_off(high)?;
@@ -229,7 +252,8 @@ impl Pieces {
     pub(crate) fn make_room(&mut self, other: &Pieces) -> Result<(), AllocError>
         ensures cells { (i : ℕ) → piece_at self.new i ≡ piece_at self.old i }
         ensures reaching { (i : ℕ) → reaching self.new i ≡ reaching self.old i }
-        ensures room { OnOk result (vec_len self.new.more + (vec_len other.now.more + 1) ≤ vec_capacity self.new.more) }
+        ensures room { OnOk result
+            (vec_len self.new.more + (vec_len other.now.more + 1) ≤ vec_capacity self.new.more) }
     {
         self.more.reserve(other.more.len() + 1)
     }
@@ -237,7 +261,9 @@ impl Pieces {
     /// Takes the other's cells in. There is room for its spans.
     pub(crate) fn take_in(&mut self, other: Pieces)
         requires { vec_len self.old.more + (vec_len other.more + 1) ≤ vec_capacity self.old.more }
-        ensures cells { (i : ℕ) → reaching self.old i + reaching other i ≤ 1 → piece_at self.new i ≡ or_else (piece_at self.old i) (piece_at other i) }
+        ensures cells { (i : ℕ)
+            → reaching self.old i + reaching other i ≤ 1
+            → piece_at self.new i ≡ or_else (piece_at self.old i) (piece_at other i) }
         ensures reaching { (i : ℕ) → reaching self.new i ≡ reaching self.old i + reaching other i }
         ensures len { vec_len self.new.more ≤ vec_len self.old.more + (vec_len other.more + 1) }
         ensures capacity { vec_capacity self.new.more ≡ vec_capacity self.old.more }
@@ -252,7 +278,9 @@ impl Pieces {
     /// Takes one span in. There is room for it.
     fn add(&mut self, span: Span)
         requires { vec_len self.old.more + 1 ≤ vec_capacity self.old.more }
-        ensures cells { (i : ℕ) → reaching self.old i + count (span_at span i) ≤ 1 → piece_at self.new i ≡ or_else (piece_at self.old i) (span_at span i) }
+        ensures cells { (i : ℕ)
+            → reaching self.old i + count (span_at span i) ≤ 1
+            → piece_at self.new i ≡ or_else (piece_at self.old i) (span_at span i) }
         ensures reaching { (i : ℕ) → reaching self.new i ≡ reaching self.old i + count (span_at span i) }
         ensures len { vec_len self.new.more ≤ vec_len self.old.more + 1 }
         ensures capacity { vec_capacity self.new.more ≡ vec_capacity self.old.more }
@@ -321,7 +349,9 @@ fn get_of(spans: &[Span], at: usize) -> Option<i64>
 
 fn put_in(spans: &mut [Span], at: usize, value: i64) -> bool
     ensures found { result ≡ is_some (spans_at spans.old at) }
-    ensures cells { (i : ℕ) → spans_at spans.new i ≡ (if result && i == at then Some value else spans_at spans.old i) }
+    ensures cells { (i : ℕ)
+        → spans_at spans.new i
+        ≡ (if result && i == at then Some value else spans_at spans.old i) }
     ensures reaching { (i : ℕ) → holders spans.new i ≡ holders spans.old i }
 {
     for span in spans.iter_mut() {
@@ -336,10 +366,16 @@ fn put_in(spans: &mut [Span], at: usize, value: i64) -> bool
 fn split_each(spans: &mut [Span], at: usize, parts: &mut Vec<Span>) -> Result<(), AllocError>
     requires none { parts.old.items ≡ [] }
     requires room { length spans.old ≤ vec_capacity parts.old }
-    ensures kept { OnOk result ((i : ℕ) → spans_at spans.new i ≡ (if nat_lt i at then spans_at spans.old i else None)) }
-    ensures given { OnOk result ((i : ℕ) → spans_at parts.new.items i ≡ (if nat_lt i at then None else spans_at spans.old i)) }
+    ensures kept { OnOk result
+        ((i : ℕ) → spans_at spans.new i ≡ (if nat_lt i at then spans_at spans.old i else None)) }
+    ensures given { OnOk result
+        ((i : ℕ)
+        → spans_at parts.new.items i ≡ (if nat_lt i at then None else spans_at spans.old i)) }
     ensures reaching { (i : ℕ) → holders spans.new i + holders parts.new.items i ≡ holders spans.old i }
-    ensures err { OnErr result ((i : ℕ) → holders spans.old i ≤ 1 → or_else (spans_at spans.new i) (spans_at parts.new.items i) ≡ spans_at spans.old i) }
+    ensures err { OnErr result
+        ((i : ℕ)
+        → holders spans.old i ≤ 1
+        → or_else (spans_at spans.new i) (spans_at parts.new.items i) ≡ spans_at spans.old i) }
     ensures len { vec_len parts.new ≤ length spans.old }
     ensures err_len { OnErr result (vec_len parts.new + 1 ≤ length spans.old) }
 {
@@ -352,7 +388,8 @@ fn split_each(spans: &mut [Span], at: usize, parts: &mut Vec<Span>) -> Result<()
 
 fn push_reserved(spans: &mut Vec<Span>, span: Span)
     requires { vec_len spans.old < vec_capacity spans.old }
-    ensures cells { (i : ℕ) → spans_at spans.new.items i ≡ or_else (spans_at spans.old.items i) (span_at span i) }
+    ensures cells { (i : ℕ)
+        → spans_at spans.new.items i ≡ or_else (spans_at spans.old.items i) (span_at span i) }
     ensures reaching { (i : ℕ) → holders spans.new.items i ≡ holders spans.old.items i + count (span_at span i) }
     ensures len { vec_len spans.new ≤ vec_len spans.old + 1 }
     ensures capacity { vec_capacity spans.new ≡ vec_capacity spans.old }
@@ -368,7 +405,8 @@ fn copies_between(
     low: usize,
     high: usize,
 ) -> Result<Vec<Span>, AllocError>
-    ensures cells { IfOk result (λ parts. (i : ℕ) → spans_at parts.items i ≡ between low high i (spans_at spans.now i)) }
+    ensures cells { IfOk result
+        (λ parts. (i : ℕ) → spans_at parts.items i ≡ between low high i (spans_at spans.now i)) }
     ensures reaching { IfOk result (λ parts. (i : ℕ) → holders parts.items i ≤ holders spans.now i) }
     ensures len { IfOk result (λ parts. vec_len parts ≤ length spans.now) }
 {
@@ -381,8 +419,11 @@ fn copies_between(
 }
 
 fn push_held(spans: &mut Vec<Span>, span: Span) -> Result<(), AllocError>
-    ensures cells { OnOk result ((i : ℕ) → spans_at spans.new.items i ≡ or_else (spans_at spans.old.items i) (span_at span i)) }
-    ensures reaching { OnOk result ((i : ℕ) → holders spans.new.items i ≡ holders spans.old.items i + count (span_at span i)) }
+    ensures cells { OnOk result
+        ((i : ℕ)
+        → spans_at spans.new.items i ≡ or_else (spans_at spans.old.items i) (span_at span i)) }
+    ensures reaching { OnOk result
+        ((i : ℕ) → holders spans.new.items i ≡ holders spans.old.items i + count (span_at span i)) }
     ensures len { vec_len spans.new ≤ vec_len spans.old + 1 }
 {
     if span.is_empty() {

@@ -1,8 +1,11 @@
 // Cells that follow one another row by row: flat until they are cut, then in boxes.
 
-ghost use Rattle.std.specs.Prelude.{◌≡◌, ℕ, ◌+◌, ◌-◌, ◌<◌, ◌≤◌, ◌==◌, ◌&&◌, if◌then◌else◌, nat_lt, Some, None, true, IsTrue, IsSome, IfOk, OnOk, OnErr, is_some, length, []};
+ghost use Rattle.std.specs.Prelude.{◌≡◌, ℕ, ◌+◌, ◌-◌, ◌<◌, ◌≤◌, ◌==◌, ◌&&◌, if◌then◌else◌, nat_lt};
+ghost use Rattle.std.specs.Prelude.{Some, None, true, IsTrue, IsSome, IfOk, OnOk, OnErr, is_some};
+ghost use Rattle.std.specs.Prelude.{length, []};
 ghost use Rattle.std.specs.Bool.{OnTrue, OnFalse};
-ghost use Rattle.slices.specs.Spans.{slot, stretch_at, span_at, span_start, or_else, count, between};
+ghost use Rattle.slices.specs.Spans.{slot, stretch_at, span_at, span_start, or_else, count};
+ghost use Rattle.slices.specs.Spans.{between};
 
 use crate::boxes::CHUNK;
 use crate::chunks::Chunks;
@@ -52,7 +55,9 @@ impl Span {
     /// Whether the position is here; it is set then.
     pub(crate) fn put(&mut self, at: usize, value: i64) -> bool
         ensures found { result ≡ is_some (span_at self.old at) }
-        ensures cells { (i : ℕ) → span_at self.new i ≡ (if result && i == at then Some value else span_at self.old i) }
+        ensures cells { (i : ℕ)
+            → span_at self.new i
+            ≡ (if result && i == at then Some value else span_at self.old i) }
     {
         match self {
             Span::Flat(flat) => flat.put(at, value),
@@ -66,7 +71,8 @@ impl Span {
         low: usize,
         high: usize,
     ) -> Result<Span, AllocError>
-        ensures { IfOk result (λ span. (i : ℕ) → span_at span i ≡ between low high i (span_at self.now i)) }
+        ensures { IfOk result
+            (λ span. (i : ℕ) → span_at span i ≡ between low high i (span_at self.now i)) }
     {
         match self {
             Span::Flat(flat) => Ok(Span::Flat(flat.copy_between(alloc, low, high)?)),
@@ -76,8 +82,11 @@ impl Span {
 
     /// Keeps what is below position `at`, and gives what is from there on.
     pub(crate) fn split_off(&mut self, at: usize) -> Result<Span, AllocError>
-        ensures kept { OnOk result ((i : ℕ) → span_at self.new i ≡ (if nat_lt i at then span_at self.old i else None)) }
-        ensures given { IfOk result (λ upper. (i : ℕ) → span_at upper i ≡ (if nat_lt i at then None else span_at self.old i)) }
+        ensures kept { OnOk result
+            ((i : ℕ) → span_at self.new i ≡ (if nat_lt i at then span_at self.old i else None)) }
+        ensures given { IfOk result
+            (λ upper. (i : ℕ)
+            → span_at upper i ≡ (if nat_lt i at then None else span_at self.old i)) }
         ensures err { OnErr result ((i : ℕ) → span_at self.new i ≡ span_at self.old i) }
     {
         if at <= self.start() {
@@ -114,7 +123,8 @@ impl Span {
     /// Whether a position lies in both.
     pub(crate) fn meets(&self, other: &Span) -> bool
         ensures yes { OnTrue result ((i : ℕ) × IsSome (span_at self.now i) × IsSome (span_at other.now i)) }
-        ensures no { OnFalse result ((i : ℕ) → IsSome (span_at self.now i) → IsSome (span_at other.now i) → ⊥) }
+        ensures no { OnFalse result
+            ((i : ℕ) → IsSome (span_at self.now i) → IsSome (span_at other.now i) → ⊥) }
     {
         let low = self.start().max(other.start());
         self.reach(low) > 0 && other.reach(low) > 0
@@ -152,10 +162,17 @@ impl Span {
 
     /// Takes the other's cells in behind its own, where they follow and memory allows it.
     fn take_in(&mut self, other: &mut Span) -> bool
-        ensures joined { OnTrue result ((i : ℕ) → span_at self.new i ≡ or_else (span_at self.old i) (span_at other.old i)) }
+        ensures joined { OnTrue result
+            ((i : ℕ) → span_at self.new i ≡ or_else (span_at self.old i) (span_at other.old i)) }
         ensures emptied { OnTrue result ((i : ℕ) → span_at other.new i ≡ None) }
-        ensures counted { OnTrue result ((i : ℕ) → count (span_at self.new i) ≡ count (span_at self.old i) + count (span_at other.old i)) }
-        ensures apart { OnFalse result ((i : ℕ) → (span_at self.new i ≡ span_at self.old i) × (span_at other.new i ≡ span_at other.old i)) }
+        ensures counted { OnTrue result
+            ((i : ℕ)
+            → count (span_at self.new i)
+            ≡ count (span_at self.old i) + count (span_at other.old i)) }
+        ensures apart { OnFalse result
+            ((i : ℕ)
+            → (span_at self.new i ≡ span_at self.old i)
+            × (span_at other.new i ≡ span_at other.old i)) }
     {
         if !self.ends_at(other.start()) {
             return false;
@@ -178,10 +195,17 @@ impl Span {
     }
 
     fn take_in_alike(&mut self, other: &mut Span) -> bool
-        ensures joined { OnTrue result ((i : ℕ) → span_at self.new i ≡ or_else (span_at self.old i) (span_at other.old i)) }
+        ensures joined { OnTrue result
+            ((i : ℕ) → span_at self.new i ≡ or_else (span_at self.old i) (span_at other.old i)) }
         ensures emptied { OnTrue result ((i : ℕ) → span_at other.new i ≡ None) }
-        ensures counted { OnTrue result ((i : ℕ) → count (span_at self.new i) ≡ count (span_at self.old i) + count (span_at other.old i)) }
-        ensures apart { OnFalse result ((i : ℕ) → (span_at self.new i ≡ span_at self.old i) × (span_at other.new i ≡ span_at other.old i)) }
+        ensures counted { OnTrue result
+            ((i : ℕ)
+            → count (span_at self.new i)
+            ≡ count (span_at self.old i) + count (span_at other.old i)) }
+        ensures apart { OnFalse result
+            ((i : ℕ)
+            → (span_at self.new i ≡ span_at self.old i)
+            × (span_at other.new i ≡ span_at other.old i)) }
     {
         match (self, other) {
             (Span::Flat(flat), Span::Flat(next)) => flat.take_in(next),
@@ -194,9 +218,18 @@ impl Span {
     /// allows it.
     pub(crate) fn join(&mut self, other: &mut Span) -> bool
         ensures emptied { OnTrue result ((i : ℕ) → span_at other.new i ≡ None) }
-        ensures counted { OnTrue result ((i : ℕ) → count (span_at self.new i) ≡ count (span_at self.old i) + count (span_at other.old i)) }
-        ensures joined { OnTrue result ((i : ℕ) → count (span_at self.old i) + count (span_at other.old i) ≤ 1 → span_at self.new i ≡ or_else (span_at self.old i) (span_at other.old i)) }
-        ensures apart { OnFalse result ((i : ℕ) → (span_at self.new i ≡ span_at self.old i) × (span_at other.new i ≡ span_at other.old i)) }
+        ensures counted { OnTrue result
+            ((i : ℕ)
+            → count (span_at self.new i)
+            ≡ count (span_at self.old i) + count (span_at other.old i)) }
+        ensures joined { OnTrue result
+            ((i : ℕ)
+            → count (span_at self.old i) + count (span_at other.old i) ≤ 1
+            → span_at self.new i ≡ or_else (span_at self.old i) (span_at other.old i)) }
+        ensures apart { OnFalse result
+            ((i : ℕ)
+            → (span_at self.new i ≡ span_at self.old i)
+            × (span_at other.new i ≡ span_at other.old i)) }
     {
         if self.is_empty() {
             swap(self, other);
@@ -220,8 +253,11 @@ impl Span {
 /// otherwise in boxes.
 fn split_flat(flat: &mut Stretch, at: usize) -> Result<Span, AllocError>
     requires { flat.old.start ≤ at }
-    ensures kept { OnOk result ((i : ℕ) → stretch_at flat.new i ≡ (if nat_lt i at then stretch_at flat.old i else None)) }
-    ensures given { IfOk result (λ upper. (i : ℕ) → span_at upper i ≡ (if nat_lt i at then None else stretch_at flat.old i)) }
+    ensures kept { OnOk result
+        ((i : ℕ) → stretch_at flat.new i ≡ (if nat_lt i at then stretch_at flat.old i else None)) }
+    ensures given { IfOk result
+        (λ upper. (i : ℕ)
+        → span_at upper i ≡ (if nat_lt i at then None else stretch_at flat.old i)) }
     ensures err { OnErr result ((i : ℕ) → stretch_at flat.new i ≡ stretch_at flat.old i) }
 {
     let upper = upper_of(flat, at)?;
@@ -232,7 +268,8 @@ fn split_flat(flat: &mut Stretch, at: usize) -> Result<Span, AllocError>
 /// A copy of the cells from position `at` on, flat if all are few, otherwise in boxes.
 fn upper_of(flat: &Stretch, at: usize) -> Result<Span, AllocError>
     requires { flat.now.start ≤ at }
-    ensures { IfOk result (λ upper. (i : ℕ) → span_at upper i ≡ (if nat_lt i at then None else stretch_at flat.now i)) }
+    ensures { IfOk result
+        (λ upper. (i : ℕ) → span_at upper i ≡ (if nat_lt i at then None else stretch_at flat.now i)) }
 {
     let alloc = *flat.cells.allocator();
     let len = flat.cells.len();

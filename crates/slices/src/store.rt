@@ -1,10 +1,13 @@
 // The pieces of one value, owned by it or shared with others.
 
-ghost use Rattle.std.specs.Prelude.{◌≡◌, ℕ, ◌+◌, ◌<◌, ◌≤◌, ◌==◌, ◌&&◌, if◌then◌else◌, nat_le, nat_lt, None, Some, true, false, is_some, IsSome, IfOk, IfErr, OnOk, OnErr};
+ghost use Rattle.std.specs.Prelude.{◌≡◌, ℕ, ◌+◌, ◌<◌, ◌≤◌, ◌==◌, ◌&&◌, if◌then◌else◌, nat_le};
+ghost use Rattle.std.specs.Prelude.{nat_lt, None, Some, true, false, is_some, IsSome, IfOk, IfErr};
+ghost use Rattle.std.specs.Prelude.{OnOk, OnErr};
 ghost use Rattle.std.specs.Vec.{vec_len, vec_capacity};
 ghost use Rattle.slices.specs.Spans.{or_else, between, AreApart};
 ghost use Rattle.slices.specs.Pieces.{piece_at, reaching};
-ghost use Rattle.slices.specs.Stored.{stored, store_at, reaching_in, is_owned, further_spans, SameStored};
+ghost use Rattle.slices.specs.Stored.{stored, store_at, reaching_in, is_owned, further_spans};
+ghost use Rattle.slices.specs.Stored.{SameStored};
 
 use crate::pieces::Pieces;
 use std::alloc::{AllocError, Global};
@@ -20,7 +23,9 @@ pub(crate) enum Store {
 
 impl Store {
     pub(crate) fn pieces(&self) -> &Pieces
-        ensures cells { (i : ℕ) → (piece_at result.now i ≡ store_at self.now i) × (reaching result.now i ≡ reaching_in self.now i) }
+        ensures cells { (i : ℕ)
+            → (piece_at result.now i ≡ store_at self.now i)
+            × (reaching result.now i ≡ reaching_in self.now i) }
         ensures len { vec_len result.now.more ≡ further_spans self.now }
     {
         match self {
@@ -33,8 +38,10 @@ impl Store {
     /// position `end` on.
     pub(crate) fn split(&mut self, at: usize, end: usize) -> Result<Pieces, AllocError>
         requires { AreApart end (stored self.old) }
-        ensures kept { OnOk result ((i : ℕ) → store_at self.new i ≡ (if nat_lt i at then store_at self.old i else None)) }
-        ensures given { IfOk result (λ upper. (i : ℕ) → piece_at upper i ≡ between at end i (store_at self.old i)) }
+        ensures kept { OnOk result
+            ((i : ℕ) → store_at self.new i ≡ (if nat_lt i at then store_at self.old i else None)) }
+        ensures given { IfOk result
+            (λ upper. (i : ℕ) → piece_at upper i ≡ between at end i (store_at self.old i)) }
         ensures reaching { OnOk result ((i : ℕ) → reaching_in self.new i ≤ reaching_in self.old i) }
         ensures reaching_given { IfOk result (λ upper. (i : ℕ) → reaching upper i ≤ reaching_in self.old i) }
         ensures owned { OnOk result (is_owned self.new ≡ true) }
@@ -54,8 +61,8 @@ impl Store {
         }
     }
 
-    /// Takes out what is here from position `low` up to `high`, as what is below `mid` and the rest.
-    /// Nothing is here from position `end` on.
+    /// Takes out what is here from position `low` up to `high`, as what is below `mid` and the
+    /// rest. Nothing is here from position `end` on.
     pub(crate) fn cut_out(
         &mut self,
         low: usize,
@@ -65,9 +72,14 @@ impl Store {
     ) -> Result<(Pieces, Pieces), AllocError>
         requires order { (low ≤ mid) × (mid ≤ high) }
         requires apart { AreApart end (stored self.old) }
-        ensures kept { OnOk result ((i : ℕ) → store_at self.new i ≡ (if nat_le low i && nat_lt i high then None else store_at self.old i)) }
-        ensures lower { IfOk result (λ parts. (i : ℕ) → piece_at parts.0 i ≡ between low mid i (store_at self.old i)) }
-        ensures upper { IfOk result (λ parts. (i : ℕ) → piece_at parts.1 i ≡ between mid high i (store_at self.old i)) }
+        ensures kept { OnOk result
+            ((i : ℕ)
+            → store_at self.new i
+            ≡ (if nat_le low i && nat_lt i high then None else store_at self.old i)) }
+        ensures lower { IfOk result
+            (λ parts. (i : ℕ) → piece_at parts.0 i ≡ between low mid i (store_at self.old i)) }
+        ensures upper { IfOk result
+            (λ parts. (i : ℕ) → piece_at parts.1 i ≡ between mid high i (store_at self.old i)) }
         ensures reaching { OnOk result ((i : ℕ) → reaching_in self.new i ≤ reaching_in self.old i) }
         ensures reaching_lower { IfOk result (λ parts. (i : ℕ) → reaching parts.0 i ≤ reaching_in self.old i) }
         ensures reaching_upper { IfOk result (λ parts. (i : ℕ) → reaching parts.1 i ≤ reaching_in self.old i) }
@@ -89,7 +101,10 @@ impl Store {
     pub(crate) fn put(&mut self, at: usize, value: i64, end: usize) -> Result<bool, AllocError>
         requires { AreApart end (stored self.old) }
         ensures found { IfOk result (λ done. done ≡ is_some (store_at self.old at)) }
-        ensures cells { IfOk result (λ done. (i : ℕ) → store_at self.new i ≡ (if done && i == at then Some value else store_at self.old i)) }
+        ensures cells { IfOk result
+            (λ done. (i : ℕ)
+            → store_at self.new i
+            ≡ (if done && i == at then Some value else store_at self.old i)) }
         ensures reaching { (i : ℕ) → reaching_in self.new i ≤ reaching_in self.old i }
         ensures owned { IfOk result (λ done. is_owned self.new ≡ (if done then true else is_owned self.old)) }
         ensures err { OnErr result (SameStored self.old self.new) }
@@ -115,8 +130,10 @@ impl Store {
         requires apart { AreApart end (stored self.old) }
         requires others_apart { AreApart end (stored other) }
         requires none_common { (i : ℕ) → reaching_in self.old i + reaching_in other i ≤ 1 }
-        ensures cells { OnOk result ((i : ℕ) → store_at self.new i ≡ or_else (store_at self.old i) (store_at other i)) }
-        ensures reaching { OnOk result ((i : ℕ) → reaching_in self.new i ≤ reaching_in self.old i + reaching_in other i) }
+        ensures cells { OnOk result
+            ((i : ℕ) → store_at self.new i ≡ or_else (store_at self.old i) (store_at other i)) }
+        ensures reaching { OnOk result
+            ((i : ℕ) → reaching_in self.new i ≤ reaching_in self.old i + reaching_in other i) }
         ensures owned { OnOk result (is_owned self.new ≡ true) }
         ensures err { OnErr result (SameStored self.old self.new) }
         ensures handed_back { IfErr result (λ store. store ≡ other) }
@@ -158,7 +175,10 @@ impl Store {
     pub(crate) fn share(&mut self) -> Result<Store, AllocError>
         ensures cells { (i : ℕ) → store_at self.new i ≡ store_at self.old i }
         ensures reaching { (i : ℕ) → reaching_in self.new i ≡ reaching_in self.old i }
-        ensures second { IfOk result (λ store. (i : ℕ) → (store_at store i ≡ store_at self.old i) × (reaching_in store i ≡ reaching_in self.old i)) }
+        ensures second { IfOk result
+            (λ store. (i : ℕ)
+            → (store_at store i ≡ store_at self.old i)
+            × (reaching_in store i ≡ reaching_in self.old i)) }
         ensures shared { OnOk result (is_owned self.new ≡ false) }
         ensures second_shared { IfOk result (λ store. is_owned store ≡ false) }
     {
@@ -207,9 +227,14 @@ impl Store {
 fn join(pieces: &mut Pieces, other: Store, end: usize) -> Result<(), Store>
     requires others_apart { AreApart end (stored other) }
     requires none_common { (i : ℕ) → reaching pieces.old i + reaching_in other i ≤ 1 }
-    ensures cells { OnOk result ((i : ℕ) → piece_at pieces.new i ≡ or_else (piece_at pieces.old i) (store_at other i)) }
-    ensures reaching { OnOk result ((i : ℕ) → reaching pieces.new i ≤ reaching pieces.old i + reaching_in other i) }
-    ensures err { OnErr result ((i : ℕ) → (piece_at pieces.new i ≡ piece_at pieces.old i) × (reaching pieces.new i ≡ reaching pieces.old i)) }
+    ensures cells { OnOk result
+        ((i : ℕ) → piece_at pieces.new i ≡ or_else (piece_at pieces.old i) (store_at other i)) }
+    ensures reaching { OnOk result
+        ((i : ℕ) → reaching pieces.new i ≤ reaching pieces.old i + reaching_in other i) }
+    ensures err { OnErr result
+        ((i : ℕ)
+        → (piece_at pieces.new i ≡ piece_at pieces.old i)
+        × (reaching pieces.new i ≡ reaching pieces.old i)) }
     ensures handed_back { IfErr result (λ store. store ≡ other) }
 {
     if pieces.make_room(other.pieces()).is_err() {

@@ -1,6 +1,7 @@
 // One flat buffer of cells that follow one another row by row.
 
-ghost use Rattle.std.specs.Prelude.{◌≡◌, ℕ, ◌+◌, ◌-◌, ◌<◌, ◌≤◌, ◌==◌, ◌&&◌, if◌then◌else◌, nat_lt, Some, None, IsTrue, IsSome, IfOk, is_some, length, []};
+ghost use Rattle.std.specs.Prelude.{◌≡◌, ℕ, ◌+◌, ◌-◌, ◌<◌, ◌≤◌, ◌==◌, ◌&&◌, if◌then◌else◌, nat_lt};
+ghost use Rattle.std.specs.Prelude.{Some, None, IsTrue, IsSome, IfOk, is_some, length, []};
 ghost use Rattle.std.specs.Bool.{OnTrue, OnFalse};
 ghost use Rattle.slices.specs.Spans.{slot, stretch_at, or_else, count, between};
 
@@ -31,7 +32,9 @@ impl Stretch {
     /// Whether the position is here; it is set then.
     pub(crate) fn put(&mut self, at: usize, value: i64) -> bool
         ensures found { result ≡ is_some (stretch_at self.old at) }
-        ensures cells { (i : ℕ) → stretch_at self.new i ≡ (if result && i == at then Some value else stretch_at self.old i) }
+        ensures cells { (i : ℕ)
+            → stretch_at self.new i
+            ≡ (if result && i == at then Some value else stretch_at self.old i) }
     {
         if at < self.start {
             return false;
@@ -50,7 +53,8 @@ impl Stretch {
         low: usize,
         high: usize,
     ) -> Result<Stretch, AllocError>
-        ensures { IfOk result (λ part. (i : ℕ) → stretch_at part i ≡ between low high i (stretch_at self.now i)) }
+        ensures { IfOk result
+            (λ part. (i : ℕ) → stretch_at part i ≡ between low high i (stretch_at self.now i)) }
     {
         let start = low.max(self.start);
         let from = (start - self.start).min(self.cells.len());
@@ -66,7 +70,8 @@ impl Stretch {
 
     /// Drops what is here from position `high` on.
     pub(crate) fn keep_below(&mut self, high: usize)
-        ensures { (i : ℕ) → stretch_at self.new i ≡ (if nat_lt i high then stretch_at self.old i else None) }
+        ensures { (i : ℕ)
+            → stretch_at self.new i ≡ (if nat_lt i high then stretch_at self.old i else None) }
     {
         self.cells.truncate(high.saturating_sub(self.start));
     }
@@ -84,10 +89,18 @@ impl Stretch {
 
     /// Takes the other's cells in behind its own, where they follow and memory allows it.
     pub(crate) fn take_in(&mut self, other: &mut Stretch) -> bool
-        ensures joined { OnTrue result ((i : ℕ) → stretch_at self.new i ≡ or_else (stretch_at self.old i) (stretch_at other.old i)) }
+        ensures joined { OnTrue result
+            ((i : ℕ)
+            → stretch_at self.new i ≡ or_else (stretch_at self.old i) (stretch_at other.old i)) }
         ensures emptied { OnTrue result ((i : ℕ) → stretch_at other.new i ≡ None) }
-        ensures counted { OnTrue result ((i : ℕ) → count (stretch_at self.new i) ≡ count (stretch_at self.old i) + count (stretch_at other.old i)) }
-        ensures apart { OnFalse result ((i : ℕ) → (stretch_at self.new i ≡ stretch_at self.old i) × (stretch_at other.new i ≡ stretch_at other.old i)) }
+        ensures counted { OnTrue result
+            ((i : ℕ)
+            → count (stretch_at self.new i)
+            ≡ count (stretch_at self.old i) + count (stretch_at other.old i)) }
+        ensures apart { OnFalse result
+            ((i : ℕ)
+            → (stretch_at self.new i ≡ stretch_at self.old i)
+            × (stretch_at other.new i ≡ stretch_at other.old i)) }
     {
         if other.start < self.start || other.start - self.start != self.cells.len() {
             return false;

@@ -1,10 +1,15 @@
 // Held tables: every public call.
 
-ghost use Rattle.std.specs.Prelude.{◌≡◌, ℕ, ℤ, pos, ◌+◌, ◌*◌, ◌<◌, ◌≤◌, ◌↔◌, ◌&&◌, not, nat_le, nat_lt, int_lt, ◌≤ℤ◌, Option, true, false, is_some, IsTrue, IsSome, IfOk, IfErr, OnOk, OnErr, Ok, MatchOption, None, length};
+ghost use Rattle.std.specs.Prelude.{◌≡◌, ℕ, ℤ, pos, ◌+◌, ◌*◌, ◌<◌, ◌≤◌, ◌↔◌, ◌&&◌, not, nat_le};
+ghost use Rattle.std.specs.Prelude.{nat_lt, int_lt, ◌≤ℤ◌, Option, true, false, is_some, IsTrue};
+ghost use Rattle.std.specs.Prelude.{IsSome, IfOk, IfErr, OnOk, OnErr, Ok, MatchOption, None};
+ghost use Rattle.std.specs.Prelude.{length};
 ghost use Rattle.std.specs.Vec.{vec_len};
 ghost use Rattle.std.specs.FinMap.{empty};
 ghost use Rattle.slices.specs.Cells.{at_place, listed, StandsAt};
-ghost use Rattle.slices.specs.Holding.{cell_at, IsWhole, rows_below, rows_from, without_row, row_below, row_from, with_cell, together, shared, own, SameSize, CommonCell, CauseOf, SameCells};
+ghost use Rattle.slices.specs.Holding.{cell_at, IsWhole, rows_below, rows_from, without_row};
+ghost use Rattle.slices.specs.Holding.{row_below, row_from, with_cell, together, shared, own};
+ghost use Rattle.slices.specs.Holding.{SameSize, CommonCell, CauseOf, SameCells};
 ghost use Rattle.std.specs.Ordering.{int_eq};
 
 use crate::pieces::Pieces;
@@ -227,7 +232,8 @@ impl Held {
 
 /// The position of a cell, counted row by row.
 fn position(rows: u32, cols: u32, row: i64, col: i64) -> Option<usize>
-    ensures { MatchOption result ((value : ℕ → Option ℤ) → at_place rows cols value row col ≡ None) (StandsAt rows cols row col) }
+    ensures { MatchOption result ((value : ℕ → Option ℤ) → at_place rows cols value row col ≡ None)
+        (StandsAt rows cols row col) }
 {
     // A number below 0 wraps to one above each size.
     if row.cast_unsigned() >= u64::from(rows) || col.cast_unsigned() >= u64::from(cols) {
@@ -260,9 +266,21 @@ struct RowCut {
 
 fn row_cut(rows: u32, cols: u32, row: i64, at: i64) -> RowCut
     ensures order { (result.low ≤ result.mid) × (result.mid ≤ result.high) }
-    ensures row { (r c : ℕ) → r < rows → c < cols → nat_le result.low (r * cols + c) && nat_lt (r * cols + c) result.high ≡ int_eq (pos r) row }
-    ensures lower { (r c : ℕ) → r < rows → c < cols → nat_le result.low (r * cols + c) && nat_lt (r * cols + c) result.mid ≡ int_eq (pos r) row && int_lt (pos c) at }
-    ensures upper { (r c : ℕ) → r < rows → c < cols → nat_le result.mid (r * cols + c) && nat_lt (r * cols + c) result.high ≡ int_eq (pos r) row && not (int_lt (pos c) at) }
+    ensures row { (r c : ℕ)
+        → r < rows
+        → c < cols
+        → nat_le result.low (r * cols + c) && nat_lt (r * cols + c) result.high
+        ≡ int_eq (pos r) row }
+    ensures lower { (r c : ℕ)
+        → r < rows
+        → c < cols
+        → nat_le result.low (r * cols + c) && nat_lt (r * cols + c) result.mid
+        ≡ int_eq (pos r) row && int_lt (pos c) at }
+    ensures upper { (r c : ℕ)
+        → r < rows
+        → c < cols
+        → nat_le result.mid (r * cols + c) && nat_lt (r * cols + c) result.high
+        ≡ int_eq (pos r) row && not (int_lt (pos c) at) }
 {
     if row < 0 || row >= i64::from(rows) {
         return RowCut {
