@@ -16,11 +16,10 @@ use Rattle.loop_rules.specs.Reading.{ReadsTable}
 use Rattle.loop_rules.specs.Reductions.{any_loop}
 use Rattle.loop_rules.specs.Sites.{Loop, Act, DeclaresTable, DeclaresFunc, DeclaresAll, Declares, Uses, Assigns, Folds, AssignsBoth, NamesTable, ReadsCell, WritesCell, Calls, Evaluates, Shows, Parallel, Spot, in_list, in_par, the_loop}
 use Rattle.loop_meaning.specs.Calls.{setting}
-use Rattle.loop_meaning.specs.Cells.{read_cells, write_cells, bodies_of, run_of}
-use Rattle.loop_meaning.specs.State.{State, Emits}
+use Rattle.loop_meaning.specs.Cells.{Body, read_cells, write_cells, bodies_of, run_of}
+use Rattle.loop_meaning.specs.State.{State, Emits, Ran}
 use Rattle.loop_meaning.specs.Statements.{run_list}
-use Rattle.loop_check.specs.Parts.{notes_of}
-use Rattle.loop_check.specs.Spared.{Spares, CallsSpare, call_of, Spared}
+use Rattle.loop_check.specs.Spared.{Spares, CallSpares, call_of, Spared}
 use Rattle.loop_check.specs.Unbroken.{NoneBroken}
 use Rattle.loop_check.proofs.Lists.{each_at, contains_append}
 use Rattle.loop_check.proofs.Bools.{no_both}
@@ -93,6 +92,9 @@ module _ (prog : Program) (r : Loop) (outer : List Loop) (start : State) where
 
 -- ---- one `par`
 
+abbrev AllSpare : Program → Body → Type 0
+AllSpare p b = (fuel depth : ℕ) (s : State) (i : ℤ) → Spares b s (run_of p fuel depth b i s)
+
 module _ (p : Program) (quiet : QuietFuncs p) (w : Spot) (x : Name) (cs : List Carry) (rs : List Reduce) where
   iteration_good : (body : List Stmt) → HasStatements w.part → AllFine p (in_list (in_par w x cs rs) body) → (fuel depth : ℕ) (s : State) (i : ℤ)
       → Good (spared_mode (the_loop w x cs rs) w.rounds s) (run_of p fuel depth (body_at w x cs rs body) i s)
@@ -113,20 +115,19 @@ module _ (p : Program) (quiet : QuietFuncs p) (w : Spot) (x : Name) (cs : List C
       go None e = absurd (no_both _ h (f e))
       go (Some c) e = refl
 
-  par_spares : (body : List Stmt) → HasStatements w.part → AllFine p (in_list (in_par w x cs rs) body) → Spares p (body_at w x cs rs body)
-  par_spares body part inner = record {
-    tables = λ fuel depth s i c h.
-        let good = iteration_good body part inner fuel depth s i in
-        let mode : Mode = spared_mode (the_loop w x cs rs) w.rounds s in
-        let ns = notes_of p fuel depth (body_at w x cs rs body) i s in
-        touched c.table (elim (contains_append (read_cells ns) (write_cells ns) c h) [
-          | inl k ↦ notes_reads mode ns c good.notes k
-          | inr k ↦ (λ e. absurd (notes_writes mode ns c good.notes k e))
+  par_spares : (body : List Stmt) → HasStatements w.part → AllFine p (in_list (in_par w x cs rs) body) → AllSpare p (body_at w x cs rs body)
+  par_spares body part inner fuel depth s i =
+      let r : Ran = run_of p fuel depth (body_at w x cs rs body) i s in
+      let mode : Mode = spared_mode (the_loop w x cs rs) w.rounds s in
+      let good : Good (spared_mode (the_loop w x cs rs) w.rounds s) r = iteration_good body part inner fuel depth s i in
+      record {
+        tables = λ c h. touched c.table (elim (contains_append (read_cells r.notes) (write_cells r.notes) c h) [
+          | inl k ↦ notes_reads mode r.notes c good.notes k
+          | inr k ↦ (λ e. absurd (notes_writes mode r.notes c good.notes k e))
         ]);
-    output = λ fuel depth s i. (iteration_good body part inner fuel depth s i).fixed.shown (λ q. q);
-    emits = λ fuel depth s i t h.
-        each_at (NoteOk (spared_mode (the_loop w x cs rs) w.rounds s)) (notes_of p fuel depth (body_at w x cs rs body) i s) (Emits t) (iteration_good body part inner fuel depth s i).notes h;
-  }
+        output = good.fixed.shown (λ q. q);
+        emits = λ t h. each_at (NoteOk mode) r.notes (Emits t) good.notes h;
+      }
 
 -- ---- calls
 
@@ -143,24 +144,24 @@ call_mode p f start = record {
   output = start.output;
 }
 
-module _ (p : Program) (quiet : QuietFuncs p) (f : List ℕ) where
-  call_good : (fuel depth : ℕ) (place : Place) (ns : List ℤ) (s : State) → Good (call_mode p f s) (call_of p fuel depth f place ns s)
-  call_good fuel depth place ns s =
-      call_ok p quiet fuel (MAX_CALL_DEPTH - depth) (call_mode p f s) f place ns [] s (λ t r i j. r) tt (record { found = λ y h. absurd h; written = λ h. refl; shown = λ h. refl })
-
-  calls_spare : CallsSpare p f
-  calls_spare = record {
-    tables = λ fuel depth place ns s. (call_good fuel depth place ns s).fixed.written (λ t i j q. q);
-    output = λ fuel depth place ns s. (call_good fuel depth place ns s).fixed.shown (λ q. q);
-    writes = λ fuel depth place ns s c h. notes_writes (call_mode p f s) (call_of p fuel depth f place ns s).notes c (call_good fuel depth place ns s).notes h;
-    emits = λ fuel depth place ns s t h. each_at (NoteOk (call_mode p f s)) (call_of p fuel depth f place ns s).notes (Emits t) (call_good fuel depth place ns s).notes h;
-    reads = λ fuel depth place ns s c h. notes_reads (call_mode p f s) (call_of p fuel depth f place ns s).notes c (call_good fuel depth place ns s).notes h;
-  }
+call_spares : (p : Program) → QuietFuncs p → (f : List ℕ) (fuel depth : ℕ) (place : Place) (ns : List ℤ) (s : State) → CallSpares p f s (call_of p fuel depth f place ns s)
+call_spares p quiet f fuel depth place ns s =
+    let r : Ran = call_of p fuel depth f place ns s in
+    let mode : Mode = call_mode p f s in
+    let good : Good (call_mode p f s) r = call_ok p quiet fuel (MAX_CALL_DEPTH - depth) (call_mode p f s) f place ns [] s (λ t k i j. k) tt
+    (record { found = λ y h. absurd h; written = λ h. refl; shown = λ h. refl }) in
+    record {
+      tables = good.fixed.written (λ t i j q. q);
+      writes = λ c h. notes_writes mode r.notes c good.notes h;
+      output = good.fixed.shown (λ q. q);
+      emits = λ t h. each_at (NoteOk mode) r.notes (Emits t) good.notes h;
+      reads = λ c h. notes_reads mode r.notes c good.notes h;
+    }
 
 -- ---- a program
 
 pub spared_law : (p : Program) → NoneBroken p → Spared p
 spared_law p none =
     let quiet = quiet_funcs p none in
-    let all = each_par p none (Spares p) (λ w x cs rs body place later part a b c d. par_spares p quiet w x cs rs body part d) in
-    record { each = λ b h. each_at (Spares p) (bodies_of p) b all h; calls = λ f. calls_spare p quiet f }
+    let all = each_par p none (AllSpare p) (λ w x cs rs body place later part a b c d. par_spares p quiet w x cs rs body part d) in
+    record { each = λ b h. each_at (AllSpare p) (bodies_of p) b all h; calls = call_spares p quiet }

@@ -70,7 +70,7 @@ fn fault_of(alloc: Global, program: &Program) -> Result<Option<Fault>, NoMemory>
 /// Looks at the rules C2, C3, C4, C5, C6 and C8. Where one of them is broken the answer is the one
 /// at the least place, and among those there the one with the least number. Where none is, no
 /// iteration of a `par` writes a cell that another one reads or writes, and each keeps to its part
-/// of each carried table and touches no other table that a `par` round it carries. Which functions
+/// of each carried table and touches no other one that a `par` round it carries. Which functions
 /// read which tables is found once.
 pub fn check(alloc: Global, program: Resolved) -> Result<Checked, RuleFault>
     ensures program { IfOk result (λ checked. checked ≡ program) }
