@@ -1,8 +1,10 @@
 #!/usr/bin/env bash
-# Reading and writing cells of an owned whole table against a plain vector in Rust, and cutting a
-# table of 4,000,000 cells at its middle and appending it again against copying its cells once, as
-# ratios of user seconds (user and system for the copies) in one run. Build first: `rt run -- cuts 1`
-# in crates/slices_bench. Each load runs twice, so that starting up falls out.
+# Reading and writing cells of an owned whole table, which was never cut or was cut and put together
+# again, against a plain vector in Rust; and cutting a table of 4,000,000 cells and appending what
+# was cut off against copying its cells once, as ratios of user seconds (user and system for cuts
+# and copies) in one run. Build first: `rt run -- cuts 1` in crates/slices_bench. Each load runs
+# twice, so that starting up falls out, and three times over, of which the least counts. With the
+# path of another build's program as argument its walks are compared too.
 set -eu
 cd "$(dirname "$0")/.."
 program=crates/slices_bench/out/slices_bench
@@ -10,11 +12,20 @@ twin=$(mktemp -d)
 trap 'rm -rf "$twin"' EXIT
 rustc -O -o "$twin/tables" bench/tables.rs
 spent() { { TIMEFORMAT='%U %S'; time "$@" > /dev/null; } 2>&1 | awk '{ print $1 + $2 }'; }
-load() { echo "$(spent "$@" 1) $(spent "$@" "${TIMES:-41}")"; }
-ours=$(load "$program" access)
-plain=$(load "$twin/tables")
-cuts=$(load "$program" cuts)
-copies=$(load "$program" copies)
-awk -v o="$ours" -v p="$plain" -v c="$cuts" -v k="$copies" 'BEGIN {
-  split(o, a); split(p, b); split(c, d); split(k, e)
-  printf "plain / table %.2f of its speed; cut and append %.2f copies\n", (b[2] - b[1]) / (a[2] - a[1]), (d[2] - d[1]) / (e[2] - e[1]) }'
+least() { for _ in 1 2 3; do spent "$@"; done | sort -g | head -1; }
+# load PROGRAM NAME TIMES: the seconds of so many rounds
+load() { awk -v a="$(least "$1" "$2" 1)" -v b="$(least "$1" "$2" $(($3 + 1)))" -v n="$3" 'BEGIN { print (b - a) / n }'; }
+ratio() { awk -v a="$1" -v b="$2" 'BEGIN { printf "%.4f\n", a / b }'; }
+for walk in access rows columns; do
+  plain=$(load "$twin/tables" "$walk" "${TIMES:-40}")
+  ours=$(load "$program" "$walk" "${TIMES:-40}")
+  echo "$walk: plain / never cut $(ratio "$plain" "$ours")"
+  echo "$walk: plain / cut and joined $(ratio "$plain" "$(load "$program" "cut_$walk" "${TIMES:-40}")")"
+  if [ $# -gt 0 ]; then echo "$walk: other build / never cut $(ratio "$(load "$1" "$walk" "${TIMES:-40}")" "$ours")"; fi
+done
+copy=$(load "$program" copies 20)
+echo "cut at the middle and append, in copies: $(ratio "$(load "$program" cuts 20000)" "$copy")"
+echo "a row cut out in two and appended, in copies: $(ratio "$(load "$program" row_cuts 20000)" "$copy")"
+echo "a thousand leaves and back, in copies: $(ratio "$(load "$program" leaves 100)" "$copy")"
+# A copy is made for each first cut.
+echo "first cut and append, in copies: $(ratio "$(awk -v a="$(load "$program" first_cuts 20)" -v b="$copy" 'BEGIN { print a - b }')" "$copy")"
