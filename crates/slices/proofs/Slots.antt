@@ -125,18 +125,6 @@ slot_reaches start xs i h =
 pub slot_some : (start : ℕ) (xs : List ℤ) (i : ℕ) → start ≤ i → i < start + length xs → IsSome (slot start xs i)
 slot_some start xs i h k = subst IsSome (sym (slot_inside start xs i d0 h k)) refl
 
--- two lists that meet do so at the later start
-pub slots_meet : (start : ℕ) (xs : List ℤ) (other : ℕ) (ys : List ℤ) (i : ℕ) → IsSome (slot start xs i) → IsSome (slot other ys i) → (max start other - start < length xs) × (max start other - other < length ys)
-slots_meet start xs other ys i h k =
-    let a = slot_reaches start xs i h in
-    let b = slot_reaches other ys i k in
-    (omega (arith, a.0, a.1, b.0, b.1), omega (arith, a.0, a.1, b.0, b.1))
-
--- what two lists that follow one another hold together
-pub count-or_else : (a b : Option ℤ) → count (or_else a b) ≤ count a + count b
-count-or_else None b = omega arith
-count-or_else (Some x) b = omega arith
-
 pub count_join : (start : ℕ) (xs ys : List ℤ) (i : ℕ) → count (or_else (slot start xs i) (slot (start + length xs) ys i)) ≡ count (slot start xs i) + count (slot (start + length xs) ys i)
 count_join start xs ys i =
     elim (slot_cases start xs i d0) [

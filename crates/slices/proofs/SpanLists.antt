@@ -2,7 +2,6 @@
 use Rattle.std.proofs.Common.{◌≡◌, ℕ, zero, suc, ◌+◌, ◌<◌, ◌≤◌, ◌⊎◌, inl, inr, Bool, true, false, cond, List, [], ◌∷◌, ◌++◌, length, take, drop, set, get_or, Option, None, Some, refl, sym, ◌∙◌, ap, subst, arith, zero-add, is_some}
 use Rattle.std.proofs.lemmas.Bool.{cases_eq, eq-eqb, ne_eqb, false≢true}
 use Rattle.std.proofs.lemmas.List.{take_more, take_more_set}
-use Rattle.std.proofs.lemmas.Bool.Decides.{nat_tests}
 use Rattle.std.specs.List.{remove}
 use Rattle.std.specs.Prelude.{ℤ, IsSome, nat_lt, nat_le, nat_eq, ◌&&◌}
 use Rattle.slices.specs.Spans.{or_else, count, between, span_at, spans_at, holders}
@@ -82,26 +81,6 @@ first_around xs k d i h e s = around xs k d i h ∙ ap (λ v. or_else v (or_else
 
 pub first_around_set : (xs : List Span) (k : ℕ) (y : Span) (i : ℕ) (value : ℤ) → k < length xs → spans_at (take k xs) i ≡ None → span_at y i ≡ Some value → spans_at (set xs k y) i ≡ Some value
 first_around_set xs k y i value h e s = around_set xs k y i h ∙ ap (λ v. or_else v (or_else (span_at y i) (spans_at (drop (suc k) xs) i))) e ∙ ap (λ v. or_else v (spans_at (drop (suc k) xs) i)) s
-
--- spans that each hold less than those in their places
-pub cut_each : (xs ys : List Span) (high : ℕ) → length xs ≡ length ys → ((k : ℕ) (d : Span) (i : ℕ) → k < length xs → span_at (get_or ys k d) i ≡ cond (nat_lt i high) (span_at (get_or xs k d) i) None) → (i : ℕ) → (spans_at ys i ≡ cond (nat_lt i high) (spans_at xs i) None) × (holders ys i ≤ holders xs i)
-cut_each [] [] high e f i = (grind (arith, nat_tests), omega arith)
-cut_each [] (y ∷ ys) high e f i = absurd (omega arith)
-cut_each (x ∷ xs) [] high e f i = absurd (omega arith)
-cut_each (x ∷ xs) (y ∷ ys) high e f i =
-    let rest = cut_each xs ys high (omega arith) (λ k d j h. f (suc k) d j (omega arith)) i in
-    let here : span_at y i ≡ cond (nat_lt i high) (span_at x i) None = f zero x i (omega arith) in (
-      ap (λ v. or_else v (spans_at ys i)) here ∙ ap (or_else (cond (nat_lt i high) (span_at x i) None)) (rest.0) ∙ cut_pair (nat_lt i high) _ _,
-      omega (arith, rest.1, subst (λ v. count v ≤ count (span_at x i)) (sym here) (cut_count (nat_lt i high) (span_at x i))),
-    )
-  where
-    cut_pair : (b : Bool) (u v : Option ℤ) → or_else (cond b u None) (cond b v None) ≡ cond b (or_else u v) None
-    cut_pair true u v = refl
-    cut_pair false u v = refl
-
-    cut_count : (b : Bool) (u : Option ℤ) → count (cond b u None) ≤ count u
-    cut_count true u = omega arith
-    cut_count false u = omega arith
 
 pub between-or_else : (low high i : ℕ) (u v : Option ℤ) → or_else (between low high i u) (between low high i v) ≡ between low high i (or_else u v)
 between-or_else low high i u v = both (nat_le low i && nat_lt i high)

@@ -1,19 +1,13 @@
 -- Spans cut at a position, one after another.
-use Rattle.std.proofs.Common.{◌≡◌, ℕ, zero, suc, ◌+◌, ◌<◌, ◌≤◌, inl, inr, Bool, true, false, cond, List, [], ◌∷◌, ◌++◌, length, take, drop, set, get_or, Option, None, Some, refl, sym, ◌∙◌, ap, arith}
-use Rattle.std.proofs.lemmas.Bool.{cases_lt, lt-ltb, le-ltb, le-leb, lt-leb}
-use Rattle.std.proofs.lemmas.Bool.Decides.{nat_tests}
+use Rattle.std.proofs.Common.{◌≡◌, ℕ, zero, suc, ◌+◌, ◌<◌, ◌≤◌, inl, inr, Bool, true, false, cond, List, [], ◌∷◌, length, take, drop, set, get_or, Option, None, Some, refl, sym, ◌∙◌, ap, arith}
+use Rattle.std.proofs.lemmas.Bool.{cases_lt, lt-ltb, le-ltb}
 use Rattle.std.proofs.lemmas.List.{take_more_set, get_or-drop}
-use Rattle.std.specs.Prelude.{ℤ, nat_lt, nat_le, ◌&&◌, Result, Ok, Err, OnErr}
+use Rattle.std.specs.Prelude.{ℤ, nat_lt, Result, Ok, Err, OnErr}
 use Rattle.slices.specs.Spans.{or_else, count, between, span_at, spans_at, holders, AreApart}
 use Rattle.slices.specs.declared.spans.Span.{Span}
 use Rattle.slices.proofs.Slots.{between_in, between_past, between_before}
 use Rattle.slices.proofs.SpanLists.{or_else-none, or_else_swap, or_else_assoc, spans_at-push, holders-push, at_more, count_more, around, around_set, count_around, count_around_set, count_spans, count_sum}
 use Rattle.slices.proofs.Cuts.{none_there}
-
--- the two sides of a cut
-pub sides_again : (b : Bool) (v : Option ℤ) → or_else (cond b v None) (cond b None v) ≡ v
-sides_again true v = or_else-none v
-sides_again false v = refl
 
 pub sides_count : (b : Bool) (u v w : Option ℤ) → u ≡ cond b w None → v ≡ cond b None w → count u + count v ≡ count w
 sides_count true u v w e f = omega (arith, ap count e, ap count f)
@@ -92,36 +86,6 @@ upper_between at end i xs a =
         | inr l ↦ none_there xs i ((a i).1 l) ∙ sym (between_past at end i _ l)
       ]
     ]
-
--- three cuts, from the highest down
-pub cut_lower : (low mid high i : ℕ) (v : Option ℤ) → low ≤ mid → mid ≤ high → cond (nat_lt i low) None (cond (nat_lt i mid) (cond (nat_lt i high) v None) None) ≡ between low mid i v
-cut_lower low mid high i v h k = grind (arith, nat_tests)
-
-pub cut_upper : (mid high i : ℕ) (v : Option ℤ) → cond (nat_lt i mid) None (cond (nat_lt i high) v None) ≡ between mid high i v
-cut_upper mid high i v = grind (arith, nat_tests)
-
-pub cut_rest : (low mid high i : ℕ) (v : Option ℤ) → low ≤ mid → mid ≤ high → or_else (cond (nat_lt i low) (cond (nat_lt i mid) (cond (nat_lt i high) v None) None) None) (cond (nat_lt i high) None v) ≡ cond (nat_le low i && nat_lt i high) None v
-cut_rest low mid high i v h k =
-    elim (cases_lt i low) [
-      | inl l ↦
-          ap (λ b. or_else (cond b (cond (nat_lt i mid) (cond (nat_lt i high) v None) None) None) (cond (nat_lt i high) None v)) (lt-ltb i low l)
-          ∙ ap (λ b. or_else (cond b (cond (nat_lt i high) v None) None) (cond (nat_lt i high) None v)) (lt-ltb i mid (omega (arith, l, h)))
-          ∙ sides_again (nat_lt i high) v
-          ∙ sym (ap (λ b. cond (b && nat_lt i high) None v) (lt-leb low i l))
-      | inr l ↦
-          ap (λ b. or_else (cond b (cond (nat_lt i mid) (cond (nat_lt i high) v None) None) None) (cond (nat_lt i high) None v)) (le-ltb i low l)
-          ∙ sym (ap (λ b. cond (b && nat_lt i high) None v) (le-leb low i l))
-    ]
-
-pub both_kept : (b : Bool) (u v x y : Option ℤ) → u ≡ cond b x None → v ≡ cond b y None → or_else u v ≡ cond b (or_else x y) None
-both_kept b u v x y e f = ap (λ w. or_else w v) e ∙ ap (or_else (cond b x None)) f ∙ lower_pair b x y
-
-pub both_given : (b : Bool) (u v x y : Option ℤ) → u ≡ cond b None x → v ≡ cond b None y → or_else u v ≡ cond b None (or_else x y)
-both_given b u v x y e f = ap (λ w. or_else w v) e ∙ ap (or_else (cond b None x)) f ∙ upper_pair b x y
-
--- the two sides of spans that were cut, put together again
-pub again : (b : Bool) (u v w : Option ℤ) → u ≡ cond b w None → v ≡ cond b None w → or_else u v ≡ w
-again b u v w e f = ap (λ x. or_else x v) e ∙ ap (or_else (cond b w None)) f ∙ sides_again b w
 
 -- the same where only the first span was cut whole
 pub first_again : (b : Bool) (f g s t o : Option ℤ) → f ≡ cond b o None → g ≡ cond b None o → count o + count (or_else s t) ≤ 1 → or_else (or_else f s) (or_else g t) ≡ or_else o (or_else s t)

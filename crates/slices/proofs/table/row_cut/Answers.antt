@@ -1,6 +1,4 @@
-use Rattle.std.proofs.Common.{◌≡◌, ◌≤◌, ◌∙◌, ap, sym, arith, to_z-of_z, not, suc}
-use Rattle.std.proofs.Math.Nat.{mul-le-mul_left}
-use Rattle.std.proofs.lemmas.Int.{ints}
+use Rattle.std.proofs.Common.{◌≡◌, ◌∙◌, ap, sym, arith, to_z-of_z, not}
 use Rattle.std.specs.Prelude.{pos, nat_lt, int_lt, ◌&&◌}
 use Rattle.std.specs.Ordering.{int_eq}
 use Rattle.slices.proofs.Seen.{row_stretch, lower_stretch, upper_stretch, int_eq-pos}

@@ -1,5 +1,5 @@
 use Rattle.std.proofs.Common.{arith, sym, ◌∙◌, ap, rules}
-use Rattle.slices.specs.Spans.{number, between}
+use Rattle.slices.specs.Spans.{between}
 use Rattle.slices.proofs.Slots.{between_in, between_none}
 use Rattle.slices.proofs.Places.{in_list_some, in_list_none}
 use Rattle.slices.proofs.chunks.Chunks.get.Goals as goal

@@ -1,4 +1,4 @@
-use Rattle.std.proofs.Common.{arith, ◌≡◌, ◌+◌, ◌∙◌, ap, refl, length, ◌-◌, ◌/◌}
+use Rattle.std.proofs.Common.{arith, ◌≡◌, ◌+◌, ◌∙◌, refl, length, ◌-◌, ◌/◌}
 use Rattle.std.specs.Prelude.{pos}
 use Rattle.slices.proofs.Slots.{part_at, length-part}
 use Rattle.slices.proofs.Places.{filled_more, filled}

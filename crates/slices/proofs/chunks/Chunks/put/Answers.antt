@@ -1,4 +1,4 @@
-use Rattle.std.proofs.Common.{arith, sym, ◌∙◌, ap, rules, ◌+◌, ◌-◌, ◌/◌, ◌%◌, length, is_some, refl, cond, to_z-of_z}
+use Rattle.std.proofs.Common.{arith, sym, ◌∙◌, ap, ◌%◌, is_some, refl, cond, to_z-of_z}
 use Rattle.std.specs.Prelude.{nat_eq}
 use Rattle.slices.specs.Spans.{number, between}
 use Rattle.slices.proofs.Slots.{between_in, between_none}
