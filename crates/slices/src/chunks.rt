@@ -48,6 +48,7 @@ impl Chunks {
         Ok(Chunks { start, end, list })
     }
 
+    #[inline(always)]
     pub(crate) fn get(&self, at: usize) -> Option<i64>
         ensures { result ≡ chunks_at self.now at }
     {
@@ -63,6 +64,7 @@ impl Chunks {
     }
 
     /// Whether the position is here; it is set then.
+    #[inline(always)]
     pub(crate) fn put(&mut self, at: usize, value: i64) -> bool
         ensures found { result ≡ is_some (chunks_at self.old at) }
         ensures cells { (i : ℕ)

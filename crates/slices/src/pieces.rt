@@ -40,6 +40,7 @@ impl Pieces {
         }
     }
 
+    #[inline(always)]
     pub(crate) fn get(&self, at: usize) -> Option<i64>
         ensures { result ≡ piece_at self.now at }
     {
@@ -55,6 +56,7 @@ impl Pieces {
     }
 
     /// Whether the position is here; it is set then.
+    #[inline(always)]
     pub(crate) fn put(&mut self, at: usize, value: i64) -> bool
         ensures found { result ≡ is_some (piece_at self.old at) }
         ensures cells { (i : ℕ)
@@ -336,6 +338,7 @@ fn meets_one_of(spans: &[Span], other: &Span) -> bool
     false
 }
 
+#[inline(never)]
 fn get_of(spans: &[Span], at: usize) -> Option<i64>
     ensures { result ≡ spans_at spans.now at }
 {
@@ -347,6 +350,7 @@ fn get_of(spans: &[Span], at: usize) -> Option<i64>
     None
 }
 
+#[inline(never)]
 fn put_in(spans: &mut [Span], at: usize, value: i64) -> bool
     ensures found { result ≡ is_some (spans_at spans.old at) }
     ensures cells { (i : ℕ)

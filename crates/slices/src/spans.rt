@@ -43,6 +43,7 @@ impl Span {
         }
     }
 
+    #[inline(always)]
     pub(crate) fn get(&self, at: usize) -> Option<i64>
         ensures { result ≡ span_at self.now at }
     {
@@ -53,6 +54,7 @@ impl Span {
     }
 
     /// Whether the position is here; it is set then.
+    #[inline(always)]
     pub(crate) fn put(&mut self, at: usize, value: i64) -> bool
         ensures found { result ≡ is_some (span_at self.old at) }
         ensures cells { (i : ℕ)

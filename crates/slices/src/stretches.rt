@@ -15,6 +15,7 @@ pub(crate) struct Stretch {
 }
 
 impl Stretch {
+    #[inline(always)]
     pub(crate) fn get(&self, at: usize) -> Option<i64>
         ensures { result ≡ stretch_at self.now at }
     {
@@ -30,6 +31,7 @@ impl Stretch {
     }
 
     /// Whether the position is here; it is set then.
+    #[inline(always)]
     pub(crate) fn put(&mut self, at: usize, value: i64) -> bool
         ensures found { result ≡ is_some (stretch_at self.old at) }
         ensures cells { (i : ℕ)
