@@ -1,0 +1,11 @@
+mod Bends
+mod Tables
+mod Following
+mod Owning
+mod Values
+mod Moving
+mod Moves
+mod MovingCalls
+mod Guarding
+mod Guards
+mod Ranges

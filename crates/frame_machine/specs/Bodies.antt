@@ -1,5 +1,5 @@
 -- What the body of a `par` keeps to, by its text and its names, so that the loop may be cut in two.
-use Rattle.std.specs.Prelude.{◌≡◌, ℕ, ℤ, true, false, cond, List, [], ◌∷◌, Option, Some, None, ⊤}
+use Rattle.std.specs.Prelude.{◌≡◌, ◌⊎◌, ℕ, ℤ, true, false, cond, List, [], ◌∷◌, Option, Some, None, ⊤}
 use Rattle.tp_value.specs.declared.Op.{Op}
 use Rattle.loop_syntax.specs.declared.Expr.{Expr}
 use Rattle.loop_syntax.specs.declared.Expr.TheVariants.{Int, Var, Cell', Rows, Cols, Neg', Bin'}

@@ -4,3 +4,7 @@ pub mod Modes
 pub mod Bodies
 -- Lawful: when a `par` may be cut in two
 pub mod Lawful
+-- Parts: the cells of the two parts of a loop that is cut
+pub mod Parts
+-- Joins: when a run is its lower part and its upper part, merged
+pub mod Joins
