@@ -9,3 +9,4 @@ mod MovingCalls
 mod Guarding
 mod Guards
 mod Ranges
+mod Begins

@@ -129,6 +129,15 @@ module _ (fuel : ℕ) (x : List ℕ) (body : State → Ran) where
 
 -- ---- the law
 
+-- what the law asks of a loop over x, where vs are the variables round it and m the modes in its body
+pub record Cut (fs : List Func) (x : List ℕ) (rs : List Reduce) (body : List Stmt) (F Safe : List ℕ → Type 0) (m : Modes) (vs : List Variable) : Type 0 where
+  pub fresh : is_in (names_of vs) x ≡ false
+  pub plain : Unreduced rs x
+  pub over : (y : List ℕ) → Over F x (m y)
+  pub held : AllOfModes F m
+  pub fine : ListKeeps rs Safe F rs m body
+  pub safe : FuncsKeep Safe m fs
+
 module _ (fs : List Func) (fuel room : ℕ) (x : List ℕ) (rs : List Reduce) (body : List Stmt) where
   abbrev pub act : State → Ran
   act s = run_list (record { reduces = rs; fuel = fuel; call = call_at fs fuel room }) body s
@@ -137,16 +146,7 @@ module _ (fs : List Func) (fuel room : ℕ) (x : List ℕ) (rs : List Reduce) (b
   abbrev pub loop : ℕ → ℤ → State → Ran
   loop n i = iterate fuel x act [] [] n i
 
-  -- what the law asks of the loop, where vs are the variables round it and m the modes in its body
-  pub record Cut (F Safe : List ℕ → Type 0) (m : Modes) (vs : List Variable) : Type 0 where
-    pub fresh : is_in (names_of vs) x ≡ false
-    pub plain : Unreduced rs x
-    pub over : (y : List ℕ) → Over F x (m y)
-    pub held : AllOfModes F m
-    pub fine : ListKeeps rs Safe F rs m body
-    pub safe : FuncsKeep Safe m fs
-
-  module _ (h : Bend) (goes : Goes rs h) (F Safe : List ℕ → Type 0) (m : Modes) (vs : List Variable) (rules : Cut F Safe m vs) where
+  module _ (h : Bend) (goes : Goes rs h) (F Safe : List ℕ → Type 0) (m : Modes) (vs : List Variable) (rules : Cut fs x rs body F Safe m vs) where
     -- iterations before c touch only cells of numbers before c
     pub lower_guards : (c : ℤ) (n : ℕ) (again ns : List Note) (i : ℤ) → NotesKeep (Seen (Below c) vs m) (Written (Below c) vs m) again → NotesKeep (Seen (Below c) vs m) (Written (Below c) vs m) ns → (i +ℤ pos n) ≤ℤ c → Guards (Seen (Below c) vs m) (Written (Below c) vs m) F (Around F vs) (iterate fuel x act again ns n i)
     lower_guards c n again ns i p q r =
