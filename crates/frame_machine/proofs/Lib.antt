@@ -10,3 +10,5 @@ mod Guarding
 mod Guards
 mod Ranges
 mod Begins
+mod Numbers
+pub mod Joining

@@ -8,3 +8,5 @@ pub mod Lawful
 pub mod Parts
 -- Joins: when a run is its lower part and its upper part, merged
 pub mod Joins
+-- Iterating: the iterations of a `par`, in the middle of a run
+pub mod Iterating
