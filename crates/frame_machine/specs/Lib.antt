@@ -1,3 +1,7 @@
+-- Fitting: when a frame fits the source that it is a part of
+pub mod Fitting
+-- Splitting: cutting a range or a frame in two, and merging accumulators
+pub mod Splitting
 -- Modes: what the body of a `par` may do with each table
 pub mod Modes
 -- Bodies: what the statements of such a body keep to

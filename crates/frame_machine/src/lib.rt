@@ -3,3 +3,9 @@
 //! whole would have been. It stands on loop_meaning, whose `Frame` it cuts. Start with `range`;
 //! `laws` has what follows from the definitions alone.
 #![tactic(auto)]
+
+mod frame;
+mod range;
+
+pub use frame::{merge_frames, split_frame};
+pub use range::split_range;
