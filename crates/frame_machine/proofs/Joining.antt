@@ -1,35 +1,41 @@
 -- The law of a loop that is cut: its lower part, then its upper part from units, merged, is the loop.
 use Rattle.beat_count.specs.Joining.{joined_stop}
-use Rattle.frame_machine.proofs.Begins.{At, Units, UnitsRight, accs_around, at_lookup, begins_bent, bend_of, bent_combined, goes_bend, lawful_cut, lawful_reduced, lawful_round, names_kept, units_accs}
+use Rattle.frame_machine.proofs.Begins.{At, Units, UnitsRight, at_lookup, begins_bent, bend_of, bent_combined, goes_bend, lawful_cut, lawful_round, names_kept}
 use Rattle.frame_machine.proofs.Bends.{Bend, Goes, bent, keeps_refl}
-use Rattle.frame_machine.proofs.Following.{Joined}
+use Rattle.frame_machine.proofs.Following.{Joined, no_done, trap_done}
 use Rattle.frame_machine.proofs.Guarding.{Kept}
 use Rattle.frame_machine.proofs.Moving.{Near}
-use Rattle.frame_machine.proofs.Numbers.{iterations_in_range, units_right}
 use Rattle.frame_machine.proofs.Ranges.{Around, Begins, Cut, low, lower_guards, range_joined, range_lower, up, upper_guards, whole}
-use Rattle.frame_machine.specs.Iterating.{LoopInRange, iterations_in}
-use Rattle.frame_machine.specs.Joins.{Joins, combined, names_of, units_for, upper_start}
+use Rattle.frame_machine.specs.Iterating.{iterations_in}
+use Rattle.frame_machine.specs.Joins.{Joins, combined, names_of}
 use Rattle.frame_machine.specs.Lawful.{Callable, Distinct, FixedIn, Lawful, modes_in}
 use Rattle.frame_machine.specs.Modes.{Modes}
 use Rattle.frame_machine.specs.Parts.{AgreeOn, Below, Cells, From, NotesKeep, Seen, Written}
-use Rattle.loop_meaning.proofs.Runs.{iterate_notes}
+use Rattle.frame_machine.specs.Splitting.{merged}
 use Rattle.loop_meaning.specs.Ends.{EndAlike}
 use Rattle.loop_meaning.specs.State.{Note, Ran, State, lookup}
 use Rattle.loop_meaning.specs.declared.value.Variable.{Variable}
 use Rattle.loop_syntax.specs.declared.ParLoop.{ParLoop}
 use Rattle.loop_syntax.specs.declared.Program.{Program}
 use Rattle.loop_syntax.specs.declared.Reduce.{Reduce}
-use Rattle.std.proofs.Common.{List, [], arith, pos, refl, subst, sym, ℕ, ℤ, ◌+ℤ◌, ◌+◌, ◌∙◌, ◌≡◌, ◌≤ℤ◌, ◌≤◌}
+use Rattle.std.proofs.Common.{Bool, List, [], arith, false, nat_le, pos, refl, subst, sym, true, ℕ, ℤ, ◌+ℤ◌, ◌+◌, ◌∙◌, ◌≡◌, ◌≤ℤ◌, ◌≤◌}
 use Rattle.std.proofs.lemmas.Int.{ints}
 use Rattle.tp_value.specs.declared.Stop.{Stop}
 use Rattle.tp_value.specs.declared.Stop.TheVariants.{Done, NoFuel, Trap}
-use Rattle.tp_value.specs.declared.Table.{Table}
-use Rattle.tp_value.specs.declared.limits.TheConstants.{MAX_CALL_DEPTH}
 
-low_done : (x : Stop) (t : ℕ) (y : Stop) (r fuel : ℕ) → joined_stop x t y r fuel ≡ Done → x ≡ Done
+pub low_done : (x : Stop) (t : ℕ) (y : Stop) (r fuel : ℕ) → joined_stop x t y r fuel ≡ Done → x ≡ Done
 low_done Done t y r fuel e = refl
 low_done (Trap k q) t y r fuel e = e
 low_done NoFuel t y r fuel e = e
+
+pub up_done : (x : Stop) (t : ℕ) (y : Stop) (r fuel : ℕ) → joined_stop x t y r fuel ≡ Done → y ≡ Done
+up_done Done t y r fuel e = go (nat_le (t + r) fuel) refl
+  where
+    go : (b : Bool) → nat_le (t + r) fuel ≡ b → y ≡ Done
+    go true f = rw f at e
+    go false f = absurd (no_done (rw f at e))
+up_done (Trap k q) t y r fuel e = absurd (trap_done k q e)
+up_done NoFuel t y r fuel e = absurd (no_done e)
 
 pub joins_alike : (fuel : ℕ) (rs : List Reduce) (seen written : Cells) (low up whole low' up' whole' : Ran) → EndAlike low low' → EndAlike up up' → EndAlike whole whole' → Joins fuel rs seen written low' up' whole' → Joins fuel rs seen written low up whole
 joins_alike fuel rs seen written low up whole low' up' whole' e f g j = record {
@@ -126,48 +132,33 @@ module _ (p : Program) (outer : Modes) (l : ParLoop) (fuel room : ℕ) (vs : Lis
         output = λ d. (joined.merged d).base.output;
       }
 
--- from the first state of the iterations, whatever they note
-pub iterations_join : (p : Program) (outer : Modes) (l : ParLoop) (fuel room : ℕ) (again begin again' begin' : List Note) (a b : ℕ) (i : ℤ) (s : State) (ts : List Table)
-    → Lawful p outer (names_of s.vars) l → room ≤ MAX_CALL_DEPTH → LoopInRange p l s i (i +ℤ pos a) → s.ticks ≤ fuel → AgreeOn (Seen (From (i +ℤ pos a)) s.vars (modes_in outer l)) ts s.tables
-    → Joins fuel l.reduces.items (Seen (From (i +ℤ pos a)) s.vars (modes_in outer l)) (Written (From (i +ℤ pos a)) s.vars (modes_in outer l))
-        (iterations_in p fuel room l again begin a i s)
-        (iterations_in p fuel room l again' begin' b (i +ℤ pos a) (upper_start l.reduces.items s.vars ts))
-        (iterations_in p fuel room l again begin (a + b) i s)
-iterations_join p outer l fuel room again begin again' begin' a b i s ts rules low range within given =
-    joins_alike fuel l.reduces.items _ _ _ _ _ _ _ _
-    (iterate_notes a fuel l.var.text.items _ again begin i s) (iterate_notes b fuel l.var.text.items _ again' begin' (i +ℤ pos a) (upper_start l.reduces.items s.vars ts)) (iterate_notes (a + b) fuel l.var.text.items _ again begin i s)
-    (joins_from p outer l fuel room s.vars rules a b i s (upper_start l.reduces.items s.vars ts)
-    (record {
-      within = within;
-      around = record { keeps = keeps_refl _ s.vars; size = refl };
-      upper = accs_around _ l.reduces.items (units_for l.reduces.items) s.vars (lawful_reduced p outer l s.vars rules);
-      units = units_accs l.reduces.items s.vars rules.targets rules.distinct;
-      given = given;
-      output = refl;
-      ticks = refl;
-    })
-    (λ d. units_right l.reduces.items _ (iterations_in_range p fuel l a i s range room low).vars))
-
 -- each part touches only cells of its own numbers
-module _ (p : Program) (outer : Modes) (l : ParLoop) (fuel room : ℕ) (again begin : List Note) (n : ℕ) (i c : ℤ) (s : State) (rules : Lawful p outer (names_of s.vars) l) where
+module _ (p : Program) (outer : Modes) (l : ParLoop) (fuel room : ℕ) (again begin : List Note) (n : ℕ) (i c : ℤ) (vs : List Variable) (s : State) (rules : Lawful p outer (names_of vs) l) (around : Around (FixedIn (names_of vs) l.reduces.items l.var.text.items) vs s.vars) where
   abbrev G : List ℕ → Type 0
-  G = FixedIn (names_of s.vars) l.reduces.items l.var.text.items
-
-  still : Around G s.vars s.vars
-  still = record { keeps = keeps_refl G s.vars; size = refl }
+  G = FixedIn (names_of vs) l.reduces.items l.var.text.items
 
   abbrev LowerKept : Type 0
-  LowerKept = Kept (Seen (Below c) s.vars (modes_in outer l)) (Written (Below c) s.vars (modes_in outer l)) G (Around G s.vars) s (iterations_in p fuel room l again begin n i s)
+  LowerKept = Kept (Seen (Below c) vs (modes_in outer l)) (Written (Below c) vs (modes_in outer l)) G (Around G vs) s (iterations_in p fuel room l again begin n i s)
 
   abbrev UpperKept : Type 0
-  UpperKept = Kept (Seen (From c) s.vars (modes_in outer l)) (Written (From c) s.vars (modes_in outer l)) G (Around G s.vars) s (iterations_in p fuel room l again begin n i s)
+  UpperKept = Kept (Seen (From c) vs (modes_in outer l)) (Written (From c) vs (modes_in outer l)) G (Around G vs) s (iterations_in p fuel room l again begin n i s)
 
-  pub lower_kept : NotesKeep (Seen (Below c) s.vars (modes_in outer l)) (Written (Below c) s.vars (modes_in outer l)) again → NotesKeep (Seen (Below c) s.vars (modes_in outer l)) (Written (Below c) s.vars (modes_in outer l)) begin → (i +ℤ pos n) ≤ℤ c → LowerKept
-  lower_kept q r h =
-      lower_guards p.funcs.items fuel room l.var.text.items l.reduces.items l.body.items (bend_of l.reduces.items (λ y. pos 0)) (goes_bend l.reduces.items (λ y. pos 0)) G (Callable p (modes_in outer l)) (modes_in outer l) s.vars
-      (lawful_cut p outer l s.vars rules) c n again begin i q r h s still
+  pub lower_kept_from : NotesKeep (Seen (Below c) vs (modes_in outer l)) (Written (Below c) vs (modes_in outer l)) again → NotesKeep (Seen (Below c) vs (modes_in outer l)) (Written (Below c) vs (modes_in outer l)) begin → (i +ℤ pos n) ≤ℤ c → LowerKept
+  lower_kept_from q r h =
+      lower_guards p.funcs.items fuel room l.var.text.items l.reduces.items l.body.items (bend_of l.reduces.items (λ y. pos 0)) (goes_bend l.reduces.items (λ y. pos 0)) G (Callable p (modes_in outer l)) (modes_in outer l) vs
+      (lawful_cut p outer l vs rules) c n again begin i q r h s around
 
-  pub upper_kept : NotesKeep (Seen (From c) s.vars (modes_in outer l)) (Written (From c) s.vars (modes_in outer l)) again → NotesKeep (Seen (From c) s.vars (modes_in outer l)) (Written (From c) s.vars (modes_in outer l)) begin → c ≤ℤ i → UpperKept
-  upper_kept q r h =
-      upper_guards p.funcs.items fuel room l.var.text.items l.reduces.items l.body.items (bend_of l.reduces.items (λ y. pos 0)) (goes_bend l.reduces.items (λ y. pos 0)) G (Callable p (modes_in outer l)) (modes_in outer l) s.vars
-      (lawful_cut p outer l s.vars rules) c n again begin i q r h s still
+  pub upper_kept_from : NotesKeep (Seen (From c) vs (modes_in outer l)) (Written (From c) vs (modes_in outer l)) again → NotesKeep (Seen (From c) vs (modes_in outer l)) (Written (From c) vs (modes_in outer l)) begin → c ≤ℤ i → UpperKept
+  upper_kept_from q r h =
+      upper_guards p.funcs.items fuel room l.var.text.items l.reduces.items l.body.items (bend_of l.reduces.items (λ y. pos 0)) (goes_bend l.reduces.items (λ y. pos 0)) G (Callable p (modes_in outer l)) (modes_in outer l) vs
+      (lawful_cut p outer l vs rules) c n again begin i q r h s around
+
+pub lower_kept : (p : Program) (outer : Modes) (l : ParLoop) (fuel room : ℕ) (again begin : List Note) (n : ℕ) (i c : ℤ) (s : State) (rules : Lawful p outer (names_of s.vars) l)
+    → NotesKeep (Seen (Below c) s.vars (modes_in outer l)) (Written (Below c) s.vars (modes_in outer l)) again → NotesKeep (Seen (Below c) s.vars (modes_in outer l)) (Written (Below c) s.vars (modes_in outer l)) begin → (i +ℤ pos n) ≤ℤ c
+    → Kept (Seen (Below c) s.vars (modes_in outer l)) (Written (Below c) s.vars (modes_in outer l)) (FixedIn (names_of s.vars) l.reduces.items l.var.text.items) (Around (FixedIn (names_of s.vars) l.reduces.items l.var.text.items) s.vars) s (iterations_in p fuel room l again begin n i s)
+lower_kept p outer l fuel room again begin n i c s rules = lower_kept_from p outer l fuel room again begin n i c s.vars s rules (record { keeps = keeps_refl _ s.vars; size = refl })
+
+pub upper_kept : (p : Program) (outer : Modes) (l : ParLoop) (fuel room : ℕ) (again begin : List Note) (n : ℕ) (i c : ℤ) (s : State) (rules : Lawful p outer (names_of s.vars) l)
+    → NotesKeep (Seen (From c) s.vars (modes_in outer l)) (Written (From c) s.vars (modes_in outer l)) again → NotesKeep (Seen (From c) s.vars (modes_in outer l)) (Written (From c) s.vars (modes_in outer l)) begin → c ≤ℤ i
+    → Kept (Seen (From c) s.vars (modes_in outer l)) (Written (From c) s.vars (modes_in outer l)) (FixedIn (names_of s.vars) l.reduces.items l.var.text.items) (Around (FixedIn (names_of s.vars) l.reduces.items l.var.text.items) s.vars) s (iterations_in p fuel room l again begin n i s)
+upper_kept p outer l fuel room again begin n i c s rules = upper_kept_from p outer l fuel room again begin n i c s.vars s rules (record { keeps = keeps_refl _ s.vars; size = refl })

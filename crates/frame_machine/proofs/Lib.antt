@@ -10,5 +10,8 @@ mod Guarding
 mod Guards
 mod Ranges
 mod Begins
+mod Merging
 mod Numbers
 pub mod Joining
+pub mod Framing
+pub mod Frames

@@ -12,6 +12,7 @@ use Rattle.frame_machine.specs.Bodies.{FuncsKeep, ListKeeps, Unreduced}
 use Rattle.frame_machine.specs.Joins.{names_of}
 use Rattle.frame_machine.specs.Modes.{AllOfLine, AllOfModes, Closed, Fixed, Line, Mode, Modes, Named, OwnCell, OwnRow, Whole}
 use Rattle.frame_machine.specs.Parts.{AgreeOn, Below, From, NotesKeep, Outside, Seen, SeenAt, Written, WrittenAt, line_value}
+use Rattle.frame_machine.specs.Splitting.{merged}
 use Rattle.loop_meaning.proofs.Runs.{after_alike, alike_back, alike_refl, alike_trans}
 use Rattle.loop_meaning.specs.Calls.{call_at}
 use Rattle.loop_meaning.specs.Ends.{EndAlike}

@@ -2,7 +2,7 @@
 use Rattle.beat_count.specs.Joining.{joined_stop, joined_ticks}
 use Rattle.frame_machine.specs.Parts.{AgreeOn, Cells, Outside}
 use Rattle.loop_meaning.specs.Frames.{with_accs}
-use Rattle.loop_meaning.specs.State.{Ran, State}
+use Rattle.loop_meaning.specs.State.{Ran, State, lookup}
 use Rattle.loop_meaning.specs.declared.value.Variable.{Variable}
 use Rattle.loop_rules.specs.Names.{operator_of}
 use Rattle.loop_syntax.specs.declared.Reduce.{Reduce}
@@ -30,6 +30,11 @@ combined rs [] vs = []
 combined rs (u ∷ us) [] = []
 combined rs (u ∷ us) (v ∷ vs) =
     record { name = u.name; value = combined_by (operator_of rs u.name) u.value v.value } ∷ combined rs us vs
+
+-- other variables are those round the loop, with the same values but for those that it reduces
+pub record SameRound (rs : List Reduce) (vs us : List Variable) : Type 0 where
+  pub names : names_of us ≡ names_of vs
+  pub values : (x : List ℕ) → operator_of rs x ≡ None → lookup us x ≡ lookup vs x
 
 -- where a part of the loop begins that has no ticks and no output yet: the variables round the loop with units in
 -- those that it reduces, and these tables

@@ -14,3 +14,5 @@ pub mod Parts
 pub mod Joins
 -- Iterating: the iterations of a `par`, in the middle of a run
 pub mod Iterating
+-- FrameLaws: a frame and the two parts that it is cut into
+pub mod FrameLaws
