@@ -19,6 +19,7 @@ use Rattle.loop_syntax.specs.declared.ParLoop.{ParLoop}
 use Rattle.loop_syntax.specs.declared.Program.{Program}
 use Rattle.loop_syntax.specs.declared.Reduce.{Reduce}
 use Rattle.std.proofs.Common.{Bool, List, [], arith, false, nat_le, pos, refl, subst, sym, true, ℕ, ℤ, ◌+ℤ◌, ◌+◌, ◌∙◌, ◌≡◌, ◌≤ℤ◌, ◌≤◌}
+use Rattle.std.proofs.lemmas.Bool.Decides.{nat_tests}
 use Rattle.std.proofs.lemmas.Int.{ints}
 use Rattle.tp_value.specs.declared.Stop.{Stop}
 use Rattle.tp_value.specs.declared.Stop.TheVariants.{Done, NoFuel, Trap}
@@ -36,6 +37,16 @@ up_done Done t y r fuel e = go (nat_le (t + r) fuel) refl
     go false f = absurd (no_done (rw f at e))
 up_done (Trap k q) t y r fuel e = absurd (trap_done k q e)
 up_done NoFuel t y r fuel e = absurd (no_done e)
+
+pub joined_within : (x : Stop) (t : ℕ) (y : Stop) (r fuel : ℕ) → joined_stop x t y r fuel ≡ Done → x ≡ Done → t + r ≤ fuel
+joined_within x t y r fuel e d = go (nat_le (t + r) fuel) refl
+  where
+    here : joined_stop Done t y r fuel ≡ Done
+    here = rw d at e
+
+    go : (b : Bool) → nat_le (t + r) fuel ≡ b → t + r ≤ fuel
+    go true f = grind (arith, nat_tests)
+    go false f = absurd (no_done (rw f at here))
 
 pub joins_alike : (fuel : ℕ) (rs : List Reduce) (seen written : Cells) (low up whole low' up' whole' : Ran) → EndAlike low low' → EndAlike up up' → EndAlike whole whole' → Joins fuel rs seen written low' up' whole' → Joins fuel rs seen written low up whole
 joins_alike fuel rs seen written low up whole low' up' whole' e f g j = record {

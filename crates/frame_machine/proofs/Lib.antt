@@ -15,3 +15,4 @@ mod Numbers
 pub mod Joining
 pub mod Framing
 pub mod Frames
+pub mod Pairs
