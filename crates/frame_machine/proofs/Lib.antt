@@ -16,3 +16,4 @@ pub mod Joining
 pub mod Framing
 pub mod Frames
 pub mod Pairs
+mod Closing

@@ -3,10 +3,11 @@ use Rattle.frame_machine.proofs.Bends.{Bend, Goes, bent, bent_lookup}
 use Rattle.frame_machine.proofs.Owning.{Clear, Owns, OwnsAt}
 use Rattle.frame_machine.proofs.Tables.{agree_has}
 use Rattle.frame_machine.specs.Bodies.{IsLine, IsNumber, IsVar, MayRead, ReadsAt, WritesAt}
+use Rattle.frame_machine.specs.FrameLaws.{OnlyChances}
 use Rattle.frame_machine.specs.Modes.{Closed, Fixed, Line, Mode, Modes, Named, OwnCell, OwnRow, Whole}
 use Rattle.frame_machine.specs.Parts.{AgreeOn, Cells, NotesKeep, line_value}
 use Rattle.loop_meaning.specs.Expressions.{Value, bind, bind_answer, calculated, eval, number, read_cell}
-use Rattle.loop_meaning.specs.State.{Note, cell_of, has_cell, lookup, table_of}
+use Rattle.loop_meaning.specs.State.{Chance, Emits, Note, Reads, Writes, cell_of, has_cell, lookup, table_of}
 use Rattle.loop_meaning.specs.declared.value.Answer.{Answer}
 use Rattle.loop_meaning.specs.declared.value.Answer.TheVariants.{Number, Traps}
 use Rattle.loop_meaning.specs.declared.value.Variable.{Variable}
@@ -158,3 +159,11 @@ eval_keeps R W cut m us ts c w (Neg' p a place) r = bind_keeps R W (eval us ts a
 eval_keeps R W cut m us ts c w (Bin' o place p a q b) r =
     bind_keeps R W (eval us ts a) (λ i. bind (eval us ts b) (λ j. calculated o place i j)) (eval_keeps R W cut m us ts c w a r.0)
     (λ i e. bind_keeps R W (eval us ts b) (λ j. calculated o place i j) (eval_keeps R W cut m us ts c w b r.1) (λ j f. calculated_notes R W o place i j))
+
+-- chances are noted anywhere
+pub chances_keep : (R W : Cells) (ns : List Note) → OnlyChances ns → NotesKeep R W ns
+chances_keep R W [] h = tt
+chances_keep R W (Reads t i j ∷ ns) h = absurd h.0
+chances_keep R W (Writes t i j ∷ ns) h = absurd h.0
+chances_keep R W (Emits t ∷ ns) h = absurd h.0
+chances_keep R W (Chance ∷ ns) h = (tt, chances_keep R W ns h.1)

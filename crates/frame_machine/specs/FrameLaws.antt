@@ -2,23 +2,46 @@
 use Rattle.beat_count.specs.Joining.{joined_stop, joined_ticks}
 use Rattle.frame_machine.specs.Bodies.{FuncsKeep}
 use Rattle.frame_machine.specs.Joins.{Joins}
-use Rattle.frame_machine.specs.Lawful.{Callable}
+use Rattle.frame_machine.specs.Lawful.{Callable, modes_in}
 use Rattle.frame_machine.specs.Modes.{Modes, Whole}
-use Rattle.frame_machine.specs.Parts.{AgreeOn, Cells, Outside}
+use Rattle.frame_machine.specs.Parts.{AgreeOn, Below, Cells, From, NotesKeep, Outside, Seen, Written}
 use Rattle.frame_machine.specs.Splitting.{merged}
 use Rattle.loop_meaning.specs.Frames.{FrameRan}
 use Rattle.loop_meaning.specs.InRange.{FuncInRange, StateInRange, StmtInRange}
-use Rattle.loop_meaning.specs.State.{State}
+use Rattle.loop_meaning.specs.State.{Note, State}
 use Rattle.loop_meaning.specs.declared.value.Variable.{Variable}
 use Rattle.loop_syntax.specs.declared.ParLoop.{ParLoop}
 use Rattle.loop_syntax.specs.declared.Program.{Program}
 use Rattle.loop_syntax.specs.declared.Reduce.{Reduce}
 use Rattle.loop_syntax.specs.declared.Stmt.TheVariants.{Par}
 use Rattle.std.specs.List.{All}
-use Rattle.std.specs.Prelude.{List, [], map, ℕ, ◌++◌, ◌≡◌}
+use Rattle.std.specs.Prelude.{List, [], map, ℕ, ℤ, ◌++◌, ◌≡◌}
 use Rattle.tp_value.specs.declared.Op.{Op}
 use Rattle.tp_value.specs.declared.Stop.TheVariants.{Done}
 use Rattle.tp_value.specs.declared.Table.{Table}
+
+-- the cells that iterations numbered from c on may read, where the variables round the `par` have these values, and
+-- those that they may write
+abbrev pub UpperSeen : Modes → ParLoop → List Variable → ℤ → Cells
+UpperSeen outer l vs c = Seen (From c) vs (modes_in outer l)
+
+abbrev pub UpperWritten : Modes → ParLoop → List Variable → ℤ → Cells
+UpperWritten outer l vs c = Written (From c) vs (modes_in outer l)
+
+-- the same of iterations with numbers below c
+abbrev pub LowerSeen : Modes → ParLoop → List Variable → ℤ → Cells
+LowerSeen outer l vs c = Seen (Below c) vs (modes_in outer l)
+
+abbrev pub LowerWritten : Modes → ParLoop → List Variable → ℤ → Cells
+LowerWritten outer l vs c = Written (Below c) vs (modes_in outer l)
+
+-- no cell
+abbrev pub NoCell : Cells
+NoCell t i j = ⊥
+
+-- no note but of a chance
+abbrev pub OnlyChances : List Note → Type 0
+OnlyChances ns = NotesKeep NoCell NoCell ns
 
 -- a child begins with no ticks and no output
 abbrev pub child_start : List Variable → List Table → State
@@ -44,10 +67,6 @@ pub record AllInRange (p : Program) (l : ParLoop) (s : State) : Type 0 where
 -- every cell of the tables that are whole in these modes
 abbrev pub WholeCells : Modes → Cells
 WholeCells m t i j = m t ≡ Whole
-
--- no cell
-abbrev pub NoCell : Cells
-NoCell t i j = ⊥
 
 -- two functions may be called side by side where m says what may be done with each table: the functions of the
 -- program that read only whole tables write nothing and call only such functions, and these two are among them

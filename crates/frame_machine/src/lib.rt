@@ -5,6 +5,7 @@
 #![tactic(auto)]
 
 mod frame;
+pub mod laws;
 mod range;
 
 pub use frame::{merge_frames, split_frame};
