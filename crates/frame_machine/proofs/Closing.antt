@@ -9,8 +9,7 @@ use Rattle.loop_syntax.specs.declared.ParLoop.{ParLoop}
 use Rattle.reduce_ops.specs.Laws.{unit_fits}
 use Rattle.reduce_ops.specs.Reduction.{unit}
 use Rattle.std.proofs.Common.{All, Bool, List, None, Option, Some, [], ap, arith, false, negsuc, pos, refl, subst, suc, sym, true, zero, ℤ, ◌-ℤ◌, ◌<ℤ◌, ◌∙◌, ◌∷◌, ◌≡◌, ◌≤ℤ◌}
-use Rattle.std.proofs.lemmas.Bool.Decides.{int_tests}
-use Rattle.std.proofs.lemmas.Int.{ints}
+use Rattle.std.proofs.lemmas.Int.{by_lt_z, ints}
 use Rattle.std.proofs.lemmas.List.Elements.{All-cons, All-nil}
 use Rattle.std.specs.Prelude.{int_le}
 use Rattle.tp_value.specs.declared.Op.{Op}
@@ -53,6 +52,9 @@ half_within (pos zero) h = absurd (omega (arith, ints, h))
 half_within (pos (suc n)) h = (omega (arith, ints), omega (arith, ints))
 half_within (negsuc n) h = absurd (omega (arith, ints, h))
 
+not_at_most : (a b : ℤ) → int_le b a ≡ false → a <ℤ b
+not_at_most a b e = by_lt_z a b (λ (lt : a <ℤ b). lt) (λ (ge : b ≤ℤ a). absurd (let q : int_le b a ≡ true = grind (arith, ints) in let z : true ≡ false = sym q ∙ e in cc))
+
 pub cut_within : (next end middle : ℤ) → cut_of next end ≡ Some middle → (next ≤ℤ middle) × (middle <ℤ end)
 cut_within next end middle e = go (int_le end next) refl
   where
@@ -63,7 +65,7 @@ cut_within next end middle e = go (int_le end next) refl
     go : (b : Bool) → int_le end next ≡ b → (next ≤ℤ middle) × (middle <ℤ end)
     go true f = absurd (let z : None ≡ Some middle = (rw f at e) in cc)
     go false f =
-        let lt : next <ℤ end = grind (arith, ints, int_tests) in
+        let lt : next <ℤ end = not_at_most next end f in
         let d : pos 0 <ℤ (end -ℤ next) = omega (arith, ints, lt) in
         let h = half_within (end -ℤ next) d in
         let low : pos 1 ≤ℤ half_up (end -ℤ next) = h.0 in
@@ -71,11 +73,11 @@ cut_within next end middle e = go (int_le end next) refl
         let m : end -ℤ half_up (end -ℤ next) ≡ middle = ap (the_number (pos 0)) (rw f at e) in
         (subst (λ (z : ℤ). next ≤ℤ z) m (omega (arith, ints, high)), subst (λ (z : ℤ). z <ℤ end) m (omega (arith, ints, low)))
 
-the_low : Frame → Option (Frame × Frame) → Frame
+abbrev the_low : Frame → Option (Frame × Frame) → Frame
 the_low d None = d
 the_low d (Some q) = q.0
 
-the_up : Frame → Option (Frame × Frame) → Frame
+abbrev the_up : Frame → Option (Frame × Frame) → Frame
 the_up d None = d
 the_up d (Some q) = q.1
 
@@ -88,8 +90,7 @@ parts_fit (BegunPar l first last) (Range next end accs) low up f e = go (cut_of 
         let z : ranges_at next end accs (Some middle) ≡ Some (low, up) = ap (ranges_at next end accs) (sym q) ∙ e in
         let w = cut_within next end middle q in
         let w0 : next ≤ℤ middle = w.0 in
-        let w1 : middle <ℤ end = w.1 in
-        (
+        let w1 : middle <ℤ end = w.1 in (
           subst (Fits (BegunPar l first last)) (ap (the_low (Range next end accs)) z) (lower_fits l first last next middle end accs f w0 (omega (arith, ints, w1))),
           subst (Fits (BegunPar l first last)) (ap (the_up (Range next end accs)) z) (upper_fits l first last next middle end accs f w0 (omega (arith, ints, w1))),
         )

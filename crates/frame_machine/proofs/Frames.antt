@@ -94,7 +94,7 @@ module _ (p : Program) (fuel depth : ℕ) (outer : Modes) (l : ParLoop) where
         let b : ℕ = int_gap middle end in
         let e : next +ℤ pos a ≡ middle = gap_back next middle low in
         let j = iterations_join_from p outer l fuel room chance chance chance chance a b next s.vars start vs ts rules (omega arith) (subst (λ (z : ℤ). LoopInRange p l start next z) (sym e) start_range) within start_around same
-            (subst (λ (z : ℤ). AgreeOn (Seen (From z) s.vars (modes_in outer l)) ts s.tables) (sym e) given) in
+        (subst (λ (z : ℤ). AgreeOn (Seen (From z) s.vars (modes_in outer l)) ts s.tables) (sym e) given) in
         let k = subst (λ (z : ℤ). Joins fuel l.reduces.items (Seen (From z) s.vars (modes_in outer l)) (Written (From z) s.vars (modes_in outer l)) (ran next middle start) (iterations_in p fuel room l chance chance b z (upper_start l.reduces.items vs ts)) (iterations_in p fuel room l chance chance (a + b) next start)) e j in
         subst (λ (n : ℕ). Joins fuel l.reduces.items seen written (ran next middle start) (ran middle end (upper_start l.reduces.items vs ts)) (iterations_in p fuel room l chance chance n next start)) (sym (gap_sum next middle end low high)) k
 

@@ -116,9 +116,9 @@ pub iterations_join_from : (p : Program) (outer : Modes) (l : ParLoop) (fuel roo
     → Lawful p outer (names_of vs) l → room ≤ MAX_CALL_DEPTH → LoopInRange p l s i (i +ℤ pos a) → s.ticks ≤ fuel
     → Around (FixedIn (names_of vs) l.reduces.items l.var.text.items) vs s.vars → SameRound l.reduces.items vs ws → AgreeOn (Seen (From (i +ℤ pos a)) vs (modes_in outer l)) ts s.tables
     → Joins fuel l.reduces.items (Seen (From (i +ℤ pos a)) vs (modes_in outer l)) (Written (From (i +ℤ pos a)) vs (modes_in outer l))
-        (iterations_in p fuel room l again begin a i s)
-        (iterations_in p fuel room l again' begin' b (i +ℤ pos a) (upper_start l.reduces.items ws ts))
-        (iterations_in p fuel room l again begin (a + b) i s)
+    (iterations_in p fuel room l again begin a i s)
+    (iterations_in p fuel room l again' begin' b (i +ℤ pos a) (upper_start l.reduces.items ws ts))
+    (iterations_in p fuel room l again begin (a + b) i s)
 iterations_join_from p outer l fuel room again begin again' begin' a b i vs s ws ts rules low range within around same given =
     joins_alike fuel l.reduces.items _ _ _ _ _ _ _ _
     (iterate_notes a fuel l.var.text.items _ again begin i s) (iterate_notes b fuel l.var.text.items _ again' begin' (i +ℤ pos a) (upper_start l.reduces.items ws ts)) (iterate_notes (a + b) fuel l.var.text.items _ again begin i s)
@@ -138,9 +138,9 @@ pub iterations_join : (p : Program) (outer : Modes) (l : ParLoop) (fuel room : �
     → Lawful p outer (names_of s.vars) l → room ≤ MAX_CALL_DEPTH → LoopInRange p l s i (i +ℤ pos a) → s.ticks ≤ fuel
     → SameRound l.reduces.items s.vars ws → AgreeOn (Seen (From (i +ℤ pos a)) s.vars (modes_in outer l)) ts s.tables
     → Joins fuel l.reduces.items (Seen (From (i +ℤ pos a)) s.vars (modes_in outer l)) (Written (From (i +ℤ pos a)) s.vars (modes_in outer l))
-        (iterations_in p fuel room l again begin a i s)
-        (iterations_in p fuel room l again' begin' b (i +ℤ pos a) (upper_start l.reduces.items ws ts))
-        (iterations_in p fuel room l again begin (a + b) i s)
+    (iterations_in p fuel room l again begin a i s)
+    (iterations_in p fuel room l again' begin' b (i +ℤ pos a) (upper_start l.reduces.items ws ts))
+    (iterations_in p fuel room l again begin (a + b) i s)
 iterations_join p outer l fuel room again begin again' begin' a b i s ws ts rules low range within same given =
     iterations_join_from p outer l fuel room again begin again' begin' a b i s.vars s ws ts rules low range within
     (record { keeps = keeps_refl _ s.vars; size = refl }) same given
@@ -150,9 +150,9 @@ pub iterations_from_units : (p : Program) (outer : Modes) (l : ParLoop) (fuel ro
     → Lawful p outer (names_of s.vars) l → room ≤ MAX_CALL_DEPTH → LoopInRange p l s i i → s.ticks ≤ fuel
     → SameRound l.reduces.items s.vars ws → AgreeOn (Seen (From i) s.vars (modes_in outer l)) ts s.tables
     → Joins fuel l.reduces.items (Seen (From i) s.vars (modes_in outer l)) (Written (From i) s.vars (modes_in outer l))
-        (done s)
-        (iterations_in p fuel room l again' begin' n i (upper_start l.reduces.items ws ts))
-        (iterations_in p fuel room l again begin n i s)
+    (done s)
+    (iterations_in p fuel room l again' begin' n i (upper_start l.reduces.items ws ts))
+    (iterations_in p fuel room l again begin n i s)
 unfolding iterate
 iterations_from_units p outer l fuel room again begin again' begin' n i s ws ts rules low range within same given =
     let e : i +ℤ pos 0 ≡ i = omega (arith, ints) in

@@ -45,9 +45,9 @@ number_apart : (c i j k l : ℕ) → j < c → l < c → i * c + j ≡ k * c + l
 number_apart c i j k l p q e = ⊎_elim
     (λ (h : i ≡ k). (h, (let f : i * c ≡ k * c = ap (λ z. z * c) h in omega (arith, e, f))))
     (λ (h : i ≡ k → ⊥). ⊎_elim
-        (λ (lt : i < k). absurd (let f = mul-add-lt i c j k lt p in omega (arith, e, f)))
-        (λ (ge : k ≤ i). absurd (let f = mul-add-lt k c l i (omega (arith, ge, λ (z : i ≡ k). h z)) q in omega (arith, e, f)))
-        (cases_lt i k))
+    (λ (lt : i < k). absurd (let f = mul-add-lt i c j k lt p in omega (arith, e, f)))
+    (λ (ge : k ≤ i). absurd (let f = mul-add-lt k c l i (omega (arith, ge, λ (z : i ≡ k). h z)) q in omega (arith, e, f)))
+    (cases_lt i k))
     (cases_eq i k)
 
 write_outside : (W : ℤ → ℤ → Type 0) (a : Table) (i j n : ℤ) → has_cell a i j ≡ true → W i j → AgreeAt (λ k l. W k l → ⊥) a (with_cell a i j n)

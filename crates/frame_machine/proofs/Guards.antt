@@ -115,8 +115,8 @@ module _ (R W : Cells) (cut : List Reduce) (Safe : List ℕ → Type 0) (fuel : 
         (λ v t. with_call (call g1.callee.text.items g1.callee.place ms [] t) (λ k z. done (set_var y k (set_var x v z)))) w (calls f1.callee.text.items a.2 f1.callee.place ns (Chance ∷ []) chance u)
         (λ v t i. kept_with_call R W F (Owned R W m) t (call g1.callee.text.items g1.callee.place ms [] t) (λ k z. done (set_var y k (set_var x v z))) i (calls g1.callee.text.items a.3 g1.callee.place ms [] tt t)
         (λ k z j. kept_vars R W F (Owned R W m) (λ vs. assign (assign vs x.text.items v) y.text.items k) z
-            (keeps_trans F z.vars (assign z.vars x.text.items v) (assign (assign z.vars x.text.items v) y.text.items k) (keeps_assign F z.vars x.text.items v a.4.1) (keeps_assign F (assign z.vars x.text.items v) y.text.items k a.5.1))
-            (owned_assign R W F m (assign z.vars x.text.items v) y.text.items k a.5.1 f (owned_assign R W F m z.vars x.text.items v a.4.1 f j))))))
+        (keeps_trans F z.vars (assign z.vars x.text.items v) (assign (assign z.vars x.text.items v) y.text.items k) (keeps_assign F z.vars x.text.items v a.4.1) (keeps_assign F (assign z.vars x.text.items v) y.text.items k a.5.1))
+        (owned_assign R W F m (assign z.vars x.text.items v) y.text.items k a.5.1 f (owned_assign R W F m z.vars x.text.items v a.4.1 f j))))))
     kept_run F rs m c f (Print place e) a u w = absurd a
     kept_run F rs m c f (Emit place x) a u w = absurd a
 

@@ -125,9 +125,9 @@ module _ (fuel t : ℕ) (o : List ℕ) (A : Cells) (zs : List Reduce) (h : Bend)
         moves_with_call fuel t o A h F (Owns A m) (call f1.callee.text.items f1.callee.place ns (Chance ∷ [])) _ (calls f1.callee.text.items a.2 f1.callee.place ns (Chance ∷ []))
         (λ i. moves_with_call fuel t o A h F (Owns A m) (call g1.callee.text.items g1.callee.place ms []) _ (calls g1.callee.text.items a.3 g1.callee.place ms [])
         (λ j. moves_vars F (Owns A m) (λ vs. assign (assign vs x.text.items i) y.text.items j)
-            (λ us. keeps_two F us x.text.items y.text.items i j a.4.1 a.5.1)
-            (λ us. ap (λ vs. assign vs y.text.items j) (bent_assign h us x.text.items i (goes.plain x.text.items a.4.0)) ∙ bent_assign h (assign us x.text.items i) y.text.items j (goes.plain y.text.items a.5.0))
-            (λ us w. owns_assign A F m (assign us x.text.items i) y.text.items j a.5.1 f (owns_assign A F m us x.text.items i a.4.1 f w))))))
+        (λ us. keeps_two F us x.text.items y.text.items i j a.4.1 a.5.1)
+        (λ us. ap (λ vs. assign vs y.text.items j) (bent_assign h us x.text.items i (goes.plain x.text.items a.4.0)) ∙ bent_assign h (assign us x.text.items i) y.text.items j (goes.plain y.text.items a.5.0))
+        (λ us w. owns_assign A F m (assign us x.text.items i) y.text.items j a.5.1 f (owns_assign A F m us x.text.items i a.4.1 f w))))))
     moves_run F rs m c f (Print place e) a = absurd a
     moves_run F rs m c f (Emit place x) a = absurd a
 

@@ -55,11 +55,11 @@ module _ (p : Program) (fuel : ℕ) (l : ParLoop) (n : ℕ) (i : ℤ) (s : State
   at_depth depth =
       let k : Setting = setting p fuel depth l.reduces.items in
       let all : StateInRange (run_list k (as_loop ∷ []) s).state =
-          runs_in_range p fuel depth l.reduces.items (as_loop ∷ []) s h.funcs
-          (All-cons StmtInRange as_loop [] (h.begins, h.ends, h.par.2) (All-nil StmtInRange)) h.state in
+      runs_in_range p fuel depth l.reduces.items (as_loop ∷ []) s h.funcs
+      (All-cons StmtInRange as_loop [] (h.begins, h.ends, h.par.2) (All-nil StmtInRange)) h.state in
       let one : StateInRange (run k as_loop s).state = subst StateInRange (after_nothing k (run k as_loop s)) all in
       let two : StateInRange (iterate fuel l.var.text.items (run_list k l.body.items) [] [] (int_gap i (i +ℤ pos n)) i s).state =
-          subst (λ (r : Ran). StateInRange r.state) (run_loop_is k as_loop l.var (Int i l.place) (Int (i +ℤ pos n) l.place) l.body s refl) one in
+      subst (λ (r : Ran). StateInRange r.state) (run_loop_is k as_loop l.var (Int i l.place) (Int (i +ℤ pos n) l.place) l.body s refl) one in
       subst (λ (m : ℕ). StateInRange (iterate fuel l.var.text.items (run_list k l.body.items) [] [] m i s).state) (gap_is i n) two
 
   pub iterations_in_range : (room : ℕ) → room ≤ MAX_CALL_DEPTH → StateInRange (iterations_in p fuel room l [] [] n i s).state

@@ -221,7 +221,7 @@ module _ (fs : List Func) (fuel room : ℕ) (x : List ℕ) (rs : List Reduce) (b
       range_joined g =
           let e = iterate_split fuel x act a b i s in
           let j = joined_from fuel (Near fuel low.state.ticks low.state.output (Seen (From middle) vs m) h (Around F vs)) low (loop b middle) u
-              (λ d. (upper_moves low.state.ticks low.state.output middle b middle (omega (arith, ints))).near u low.state (near g d)) in
+          (λ d. (upper_moves low.state.ticks low.state.output middle b middle (omega (arith, ints))).near u low.state (near g d)) in
           record {
             stop = e.stop ∙ j.stop;
             ticks = ap (λ z. z.ticks) e.state ∙ j.ticks;

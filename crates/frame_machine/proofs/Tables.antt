@@ -80,6 +80,7 @@ agree_write A us vs x i j n s y = ⊎_elim
       where
         true_false : true ≡ false → ⊥
         true_false q = cc
+
         same_name : (a b : List ℕ) → a ≡ b → bytes_eq a b ≡ true
         same_name a b q = (bytes_eq-Decides a b).1 q
 

@@ -33,16 +33,16 @@ pub fn iterations_join(program: &Program, fuel: u64)
         Lawful program.now outer (names_of s.vars) l → room ≤ MAX_CALL_DEPTH → LoopInRange program.now l s i (i +ℤ pos a) → s.ticks ≤ fuel →
         SameRound l.reduces.items s.vars vs → AgreeOn (UpperSeen outer l s.vars (i +ℤ pos a)) ts s.tables →
         Joins fuel l.reduces.items (UpperSeen outer l s.vars (i +ℤ pos a)) (UpperWritten outer l s.vars (i +ℤ pos a))
-            (iterations_in program.now fuel room l again begin a i s)
-            (iterations_in program.now fuel room l again' begin' b (i +ℤ pos a) (upper_start l.reduces.items vs ts))
-            (iterations_in program.now fuel room l again begin (a + b) i s) }
+        (iterations_in program.now fuel room l again begin a i s)
+        (iterations_in program.now fuel room l again' begin' b (i +ℤ pos a) (upper_start l.reduces.items vs ts))
+        (iterations_in program.now fuel room l again begin (a + b) i s) }
     ensures from_units { (outer : Modes) (l : ParLoop) (room : ℕ) (again begin again' begin' : List Note) (n : ℕ) (i : ℤ) (s : State) (vs : List Variable) (ts : List Table) →
         Lawful program.now outer (names_of s.vars) l → room ≤ MAX_CALL_DEPTH → LoopInRange program.now l s i i → s.ticks ≤ fuel →
         SameRound l.reduces.items s.vars vs → AgreeOn (UpperSeen outer l s.vars i) ts s.tables →
         Joins fuel l.reduces.items (UpperSeen outer l s.vars i) (UpperWritten outer l s.vars i)
-            (done s)
-            (iterations_in program.now fuel room l again' begin' n i (upper_start l.reduces.items vs ts))
-            (iterations_in program.now fuel room l again begin n i s) }
+        (done s)
+        (iterations_in program.now fuel room l again' begin' n i (upper_start l.reduces.items vs ts))
+        (iterations_in program.now fuel room l again begin n i s) }
 {}
 
 /// Iterations of a lawful `par` with numbers below `c` read and write only cells that are theirs,
@@ -66,9 +66,9 @@ pub fn ranges_join(program: &Program, fuel: u64)
         Lawful program.now outer (names_of s.vars) l → Fits (BegunPar l first last) (Range next end accs) → next ≤ℤ middle → middle ≤ℤ end →
         AllInRange program.now l s → s.ticks ≤ fuel → SameRound l.reduces.items s.vars vs → AgreeOn (UpperSeen outer l s.vars middle) ts s.tables →
         RangeJoins fuel l (UpperSeen outer l s.vars middle) (UpperWritten outer l s.vars middle)
-            (run_frame program.now fuel depth (OfPar l) (Range next middle accs) s)
-            (run_frame program.now fuel depth (OfPar l) (Range middle end (with_units accs)) (child_start vs ts))
-            (run_frame program.now fuel depth (OfPar l) (Range next end accs) s) }
+        (run_frame program.now fuel depth (OfPar l) (Range next middle accs) s)
+        (run_frame program.now fuel depth (OfPar l) (Range middle end (with_units accs)) (child_start vs ts))
+        (run_frame program.now fuel depth (OfPar l) (Range next end accs) s) }
     ensures lower { (depth : ℕ) (outer : Modes) (l : ParLoop) (next end c : ℤ) (accs : List (Op × ℤ)) (s : State) →
         Lawful program.now outer (names_of s.vars) l → next ≤ℤ end → end ≤ℤ c →
         NotesKeep (LowerSeen outer l s.vars c) (LowerWritten outer l s.vars c) (run_frame program.now fuel depth (OfPar l) (Range next end accs) s).ran.notes }
@@ -84,9 +84,9 @@ pub fn pairs_join(program: &Program, fuel: u64)
     ensures joins { (depth : ℕ) (m : Modes) (child : Bool) (f : List ℕ) (place : Place) (ns : List ℤ) (g : List ℕ) (second_place : Place) (ms : List ℤ) (s : State) (vs : List Variable) (ts : List Table) →
         LawfulCalls program.now m f g → s.ticks ≤ fuel → AgreeOn (WholeCells m) ts s.tables →
         PairJoins fuel s
-            (run_frame program.now fuel depth (OfBoth f place ns second_place false) (Pair g ms true) s)
-            (run_frame program.now fuel depth (OfBoth f place ns second_place true) (Pair g ms true) (child_start vs ts))
-            (run_frame program.now fuel depth (OfBoth f place ns second_place child) (Pair g ms false) s) }
+        (run_frame program.now fuel depth (OfBoth f place ns second_place false) (Pair g ms true) s)
+        (run_frame program.now fuel depth (OfBoth f place ns second_place true) (Pair g ms true) (child_start vs ts))
+        (run_frame program.now fuel depth (OfBoth f place ns second_place child) (Pair g ms false) s) }
     ensures first { (depth : ℕ) (m : Modes) (f : List ℕ) (place : Place) (ns : List ℤ) (g : List ℕ) (second_place : Place) (ms : List ℤ) (s : State) →
         LawfulCalls program.now m f g →
         NotesKeep (WholeCells m) NoCell (run_frame program.now fuel depth (OfBoth f place ns second_place false) (Pair g ms true) s).ran.notes }

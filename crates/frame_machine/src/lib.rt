@@ -7,6 +7,8 @@
 mod frame;
 pub mod laws;
 mod range;
+#[cfg(test)]
+mod tests;
 
 pub use frame::{merge_frames, split_frame};
 pub use range::split_range;
