@@ -5,13 +5,11 @@ use Rattle.frame_machine.specs.Bodies.{SameOp, Unreduced}
 use Rattle.frame_machine.specs.Joins.{combined, combined_by, names_of, units_for}
 use Rattle.frame_machine.specs.Lawful.{Callable, Distinct, DistinctTargets, FixedIn, Lawful, RowsFixed, modes_in}
 use Rattle.frame_machine.specs.Modes.{AllOfMode, Closed, Fixed, Mode, Modes, Named, OwnCell, OwnRow, Whole, demoted, inner_modes}
-use Rattle.frame_machine.specs.Parts.{Cells}
 use Rattle.loop_meaning.specs.Frames.{with_accs}
 use Rattle.loop_meaning.specs.State.{assign, lookup}
 use Rattle.loop_meaning.specs.declared.value.Variable.{Variable}
 use Rattle.loop_rules.specs.Names.{is_in, operator_of}
 use Rattle.loop_syntax.specs.declared.Carry.{Carry}
-use Rattle.loop_syntax.specs.declared.Expr.TheVariants.{Int, Rows, Var}
 use Rattle.loop_syntax.specs.declared.ParLoop.{ParLoop}
 use Rattle.loop_syntax.specs.declared.Program.{Program}
 use Rattle.loop_syntax.specs.declared.Reduce.{Reduce}

@@ -2,9 +2,8 @@
 use Rattle.frame_machine.proofs.Begins.{accs_around, lawful_reduced, names_kept, ops_all}
 use Rattle.frame_machine.proofs.Framing.{accs_in, accs_merged, iterations_join_from, round_around, units_are}
 use Rattle.frame_machine.proofs.Joining.{low_done, lower_kept, lower_kept_from, up_done, upper_kept_from}
-use Rattle.frame_machine.proofs.Moving.{within}
 use Rattle.frame_machine.proofs.Numbers.{gap_back}
-use Rattle.frame_machine.proofs.Ranges.{Around, low, middle}
+use Rattle.frame_machine.proofs.Ranges.{Around, middle}
 use Rattle.frame_machine.specs.Fitting.{RangeFits}
 use Rattle.frame_machine.specs.FrameLaws.{AllInRange, RangeJoins, child_start, ops_of}
 use Rattle.frame_machine.specs.Iterating.{LoopInRange, iterations_in}
@@ -16,7 +15,6 @@ use Rattle.frame_machine.specs.Splitting.{merged, with_units}
 use Rattle.loop_meaning.specs.Frames.{FrameRan, OfPar, accs_of, run_frame, with_accs}
 use Rattle.loop_meaning.specs.InRange.{InRange}
 use Rattle.loop_meaning.specs.State.{Chance, Note, Ran, State}
-use Rattle.loop_meaning.specs.Statements.{given}
 use Rattle.loop_meaning.specs.declared.frame.Frame.TheVariants.{Range}
 use Rattle.loop_meaning.specs.declared.value.Variable.{Variable}
 use Rattle.loop_syntax.specs.declared.ParLoop.{ParLoop}

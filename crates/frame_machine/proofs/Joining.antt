@@ -11,7 +11,6 @@ use Rattle.frame_machine.specs.Joins.{Joins, combined, names_of}
 use Rattle.frame_machine.specs.Lawful.{Callable, Distinct, FixedIn, Lawful, modes_in}
 use Rattle.frame_machine.specs.Modes.{Modes}
 use Rattle.frame_machine.specs.Parts.{AgreeOn, Below, Cells, From, NotesKeep, Seen, Written}
-use Rattle.frame_machine.specs.Splitting.{merged}
 use Rattle.loop_meaning.specs.Ends.{EndAlike}
 use Rattle.loop_meaning.specs.State.{Note, Ran, State, lookup}
 use Rattle.loop_meaning.specs.declared.value.Variable.{Variable}

@@ -13,7 +13,15 @@ mod Begins
 mod Merging
 mod Numbers
 pub mod Joining
+mod Leaving
 pub mod Framing
 pub mod Frames
 pub mod Pairs
 mod Closing
+pub mod Worked
+mod RulesNames
+mod RulesModes
+mod RulesWalk
+mod RulesVariables
+mod RulesTables
+pub mod RulesLawful

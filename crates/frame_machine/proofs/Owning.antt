@@ -6,7 +6,6 @@ use Rattle.frame_machine.specs.Parts.{Cells, line_value}
 use Rattle.loop_meaning.specs.State.{assign, declare, lookup}
 use Rattle.loop_meaning.specs.declared.value.Variable.{Variable}
 use Rattle.loop_syntax.specs.declared.Carry.{Carry}
-use Rattle.loop_syntax.specs.declared.Expr.TheVariants.{Int, Rows, Var}
 use Rattle.std.proofs.Common.{Bool, List, [], bytes_eq, cond, false, inl, length, refl, subst, sym, true, ℕ, ℤ, ◌∷◌, ◌≡◌}
 use Rattle.std.specs.Prelude.{⊤}
 use Rattle.loop_syntax.specs.declared.RowAt.TheVariants as row

@@ -3,11 +3,12 @@ use Rattle.frame_machine.proofs.Following.{Joined, after_goes, done_first, joine
 use Rattle.frame_machine.proofs.Guarding.{KeptCall}
 use Rattle.frame_machine.proofs.Guards.{kept_call}
 use Rattle.frame_machine.proofs.Joining.{joined_within, up_done}
-use Rattle.frame_machine.proofs.Moving.{Base, NearCall, within}
+use Rattle.frame_machine.proofs.Moving.{Base, NearCall}
 use Rattle.frame_machine.proofs.MovingCalls.{near_call}
 use Rattle.frame_machine.proofs.Owning.{Clear}
 use Rattle.frame_machine.proofs.Tables.{agree_trans}
-use Rattle.frame_machine.specs.FrameLaws.{LawfulCalls, NoCell, PairJoins, WholeCells}
+use Rattle.frame_machine.specs.FrameLaws.{LawfulCalls, PairJoins, WholeCells}
+use Rattle.frame_machine.specs.Iterating.{NoCell}
 use Rattle.frame_machine.specs.Lawful.{Callable}
 use Rattle.frame_machine.specs.Modes.{Modes}
 use Rattle.frame_machine.specs.Parts.{AgreeOn, NotesKeep, Outside}
@@ -15,7 +16,7 @@ use Rattle.loop_meaning.specs.Calls.{call_at}
 use Rattle.loop_meaning.specs.Ends.{EndAlike}
 use Rattle.loop_meaning.specs.Frames.{one_call, two_calls_of}
 use Rattle.loop_meaning.specs.State.{Chance, Note, State, after, go_on}
-use Rattle.loop_meaning.specs.Statements.{Called, given}
+use Rattle.loop_meaning.specs.Statements.{Called}
 use Rattle.loop_syntax.specs.declared.Program.{Program}
 use Rattle.std.proofs.Common.{List, [], ap, arith, refl, subst, sym, ℕ, ℤ, ◌+◌, ◌∙◌, ◌∷◌, ◌≡◌, ◌≤◌}
 use Rattle.std.proofs.lemmas.List.{append-nil}

@@ -12,7 +12,6 @@ use Rattle.frame_machine.specs.Bodies.{FuncsKeep, ListKeeps, Unreduced}
 use Rattle.frame_machine.specs.Joins.{names_of}
 use Rattle.frame_machine.specs.Modes.{AllOfLine, AllOfModes, Closed, Fixed, Line, Mode, Modes, Named, OwnCell, OwnRow, Whole}
 use Rattle.frame_machine.specs.Parts.{AgreeOn, Below, From, NotesKeep, Outside, Seen, SeenAt, Written, WrittenAt, line_value}
-use Rattle.frame_machine.specs.Splitting.{merged}
 use Rattle.loop_meaning.proofs.Runs.{after_alike, alike_back, alike_refl, alike_trans}
 use Rattle.loop_meaning.specs.Calls.{call_at}
 use Rattle.loop_meaning.specs.Ends.{EndAlike}
@@ -28,6 +27,7 @@ use Rattle.std.proofs.lemmas.Int.{ints}
 use Rattle.std.proofs.lemmas.List.{append-nil}
 use Rattle.std.proofs.lemmas.Slice.Eq.{bytes_eq-Decides}
 use Rattle.std.specs.Prelude.{⊤}
+use Rattle.tp_value.specs.declared.Table.{Table}
 use Rattle.tp_value.specs.declared.Stop.TheVariants.{Done}
 
 -- the same variables, of which the fixed ones have the same values
@@ -92,6 +92,18 @@ seen_clear P vs m y e i j = subst (λ md. SeenAt P vs md i j) (sym e) tt
 from_next : (c i : ℤ) → From c i → From c (i +ℤ pos 1)
 from_next c i p = omega (arith, ints, p)
 
+from_below : (c i : ℤ) → From c i → Below c i → ⊥
+from_below c i p q = omega (arith, ints, p, q)
+
+-- so what the lower part leaves is what was there, where the upper part may see it
+pub seen_spared : (c : ℤ) (vs : List Variable) (m : Modes) (us ws : List Table) → AgreeOn (Outside (Written (Below c) vs m)) us ws → AgreeOn (Seen (From c) vs m) us ws
+seen_spared c vs m us ws k y = record {
+  rows = (k y).rows;
+  cols = (k y).cols;
+  size = (k y).size;
+  cells = λ j l p. (k y).cells j l (λ q. apart (From c) (Below c) (from_below c) vs (m y) j l p q);
+}
+
 -- n iterations from i on end before c
 abbrev LeftBelow : ℤ → ℕ → ℤ → Type 0
 LeftBelow c n i = (i +ℤ pos n) ≤ℤ c
@@ -101,9 +113,6 @@ left_next c n i p = omega (arith, ints, p)
 
 left_below : (c : ℤ) (n : ℕ) (i : ℤ) → LeftBelow c (suc n) i → Below c i
 left_below c n i p = omega (arith, ints, p)
-
-from_below : (c i : ℤ) → From c i → Below c i → ⊥
-from_below c i p q = omega (arith, ints, p, q)
 
 module _ (fuel : ℕ) (x : List ℕ) (body : State → Ran) where
   none : (i : ℤ) (s : State) → iterate fuel x body [] [] 0 i s ≡ done s
@@ -202,19 +211,11 @@ module _ (fs : List Func) (fuel room : ℕ) (x : List ℕ) (rs : List Reduce) (b
             vars = g.vars e;
             claim = g.upper;
             base = record {
-              tables = agree_trans (Seen (From middle) vs m) u.tables s.tables low.state.tables g.given (seen_kept l.tables);
+              tables = agree_trans (Seen (From middle) vs m) u.tables s.tables low.state.tables g.given (seen_spared middle vs m s.tables low.state.tables l.tables);
               output = sym (rw g.output (append-nil low.state.output));
               ticks = rw g.ticks (omega arith);
               fits = ((upper_moves 0 [] i a i (omega (arith, ints))).later s).keeps g.within e;
             };
-          }
-        where
-          seen_kept : AgreeOn (Outside (Written (Below middle) vs m)) s.tables low.state.tables → AgreeOn (Seen (From middle) vs m) s.tables low.state.tables
-          seen_kept k y = record {
-            rows = (k y).rows;
-            cols = (k y).cols;
-            size = (k y).size;
-            cells = λ j l p. (k y).cells j l (λ q. apart (From middle) (Below middle) (from_below middle) vs (m y) j l p q);
           }
 
       pub range_joined : Begins → Joined fuel (Near fuel low.state.ticks low.state.output (Seen (From middle) vs m) h (Around F vs)) low up whole

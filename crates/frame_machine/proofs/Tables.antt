@@ -15,6 +15,14 @@ agree_refl A us x = record { rows = refl; cols = refl; size = refl; cells = λ i
 pub agree_has : (A : ℤ → ℤ → Type 0) (a b : Table) (i j : ℤ) → AgreeAt A a b → has_cell b i j ≡ has_cell a i j
 agree_has A a b i j s = rw (s.rows, s.cols) refl
 
+pub agree_sym : (A : Cells) (us vs : List Table) → AgreeOn A us vs → AgreeOn A vs us
+agree_sym A us vs h x = record {
+  rows = sym (h x).rows;
+  cols = sym (h x).cols;
+  size = sym (h x).size;
+  cells = λ i j a g. sym ((h x).cells i j a (sym (agree_has (A x) (table_of us x) (table_of vs x) i j (h x)) ∙ g));
+}
+
 pub agree_trans : (A : Cells) (us vs ws : List Table) → AgreeOn A us vs → AgreeOn A vs ws → AgreeOn A us ws
 agree_trans A us vs ws p q x = record {
   rows = (q x).rows ∙ (p x).rows;

@@ -3,7 +3,7 @@ use Rattle.frame_machine.proofs.Bends.{Bend, Goes, bent, bent_lookup}
 use Rattle.frame_machine.proofs.Owning.{Clear, Owns, OwnsAt}
 use Rattle.frame_machine.proofs.Tables.{agree_has}
 use Rattle.frame_machine.specs.Bodies.{IsLine, IsNumber, IsVar, MayRead, ReadsAt, WritesAt}
-use Rattle.frame_machine.specs.FrameLaws.{OnlyChances}
+use Rattle.frame_machine.specs.Iterating.{OnlyChances}
 use Rattle.frame_machine.specs.Modes.{Closed, Fixed, Line, Mode, Modes, Named, OwnCell, OwnRow, Whole}
 use Rattle.frame_machine.specs.Parts.{AgreeOn, Cells, NotesKeep, line_value}
 use Rattle.loop_meaning.specs.Expressions.{Value, bind, bind_answer, calculated, eval, number, read_cell}
@@ -18,7 +18,6 @@ use Rattle.loop_syntax.specs.declared.Name.{Name}
 use Rattle.loop_syntax.specs.declared.Reduce.{Reduce}
 use Rattle.std.proofs.Common.{Bool, List, [], ap, false, negsuc, pos, refl, subst, suc, sym, true, zero, ℕ, ℤ, ◌++◌, ◌-ℤ◌, ◌∙◌, ◌∷◌, ◌≡◌}
 use Rattle.tp_value.specs.Number.{wrapped}
-use Rattle.tp_value.specs.declared.Op.TheVariants.{Add, Mul}
 use Rattle.tp_value.specs.declared.Place.{Place}
 use Rattle.tp_value.specs.declared.Table.{Table}
 use Rattle.tp_value.specs.declared.TrapKind.{TrapKind}

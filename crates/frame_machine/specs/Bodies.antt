@@ -1,5 +1,5 @@
 -- What the body of a `par` keeps to, by its text and its names, so that the loop may be cut in two.
-use Rattle.std.specs.Prelude.{◌≡◌, ◌⊎◌, ℕ, ℤ, true, false, cond, List, [], ◌∷◌, Option, Some, None, ⊤}
+use Rattle.std.specs.Prelude.{◌≡◌, ◌⊎◌, ℕ, ℤ, List, [], ◌∷◌, Option, Some, None, ⊤}
 use Rattle.tp_value.specs.declared.Op.{Op}
 use Rattle.loop_syntax.specs.declared.Expr.{Expr}
 use Rattle.loop_syntax.specs.declared.Expr.TheVariants.{Int, Var, Cell', Rows, Cols, Neg', Bin'}
@@ -42,12 +42,13 @@ WritesAt Closed a b = ⊥
 WritesAt (OwnRow x) a b = IsVar x a
 WritesAt (OwnCell k x) a b = IsLine k a × IsVar x b
 
--- a `par` with these carries may stand inside, where m is what may be done round it: it carries the cells of a row
--- that the nearest one carries
+-- a `par` with these carries may stand inside, where m is what may be done round it: it carries the
+-- cells of a row that the nearest one carries
 abbrev pub MayCarry : Modes → List Carry → Type 0
 MayCarry m [] = ⊤
 MayCarry m (carry.Rows t i ∷ cs) = ⊥
-MayCarry m (carry.Cells t (row.Var k) j ∷ cs) = (m t.text.items ≡ OwnRow k.text.items) × MayCarry m cs
+MayCarry m (carry.Cells t (row.Var k) j ∷ cs) =
+    (m t.text.items ≡ OwnRow k.text.items) × MayCarry m cs
 MayCarry m (carry.Cells t (row.Int n) j ∷ cs) = ⊥
 
 -- ---- variables. Here `cut` is the reduce list of the loop that is cut
@@ -91,8 +92,9 @@ MayAssign cut F x = Unreduced cut x × (F x → ⊥)
 abbrev pub AndVar : (List ℕ → Type 0) → List ℕ → List ℕ → Type 0
 AndVar F x = λ y. F y ⊎ (y ≡ x)
 
--- ---- statements: F are the variables that are never assigned, rs is the reduce list of the nearest `par`, and m says
--- what may be done with each table. Safe are the functions that may be called
+-- ---- statements: F are the variables that are never assigned, rs is the reduce list of the
+-- nearest `par`, and m says what may be done with each table. Safe are the functions that may be
+-- called
 module _ (cut : List Reduce) (Safe : List ℕ → Type 0) where
   abbrev mutual
     pub KeepsTo : (List ℕ → Type 0) → List Reduce → Modes → Stmt → Type 0
@@ -100,18 +102,23 @@ module _ (cut : List Reduce) (Safe : List ℕ → Type 0) where
     KeepsTo F rs m (Set x e) = MayRead cut m e × MayAssign cut F x.text.items
     KeepsTo F rs m (Put t a b e) =
         MayRead cut m a × MayRead cut m b × MayRead cut m e × WritesAt (m t.text.items) a b
-    KeepsTo F rs m (If' e p body q other) = MayRead cut m e × AllKeep F rs m body × AllKeep F rs m other
+    KeepsTo F rs m (If' e p body q other) =
+        MayRead cut m e × AllKeep F rs m body × AllKeep F rs m other
     KeepsTo F rs m (While' e p body) = MayRead cut m e × AllKeep F rs m body
     KeepsTo F rs m (Loop' x a b p body) =
         MayRead cut m a × MayRead cut m b × MayDeclare cut m x.text.items × AllKeep F rs m body
     KeepsTo F rs m (Par' place x a b carry_place carries reduces p body) =
         MayRead cut m a × MayRead cut m b × MayDeclare cut m x.text.items × MayCarry m carries.items
-        × AllKeep (AndVar F x.text.items) reduces.items (inner_modes carries.items x.text.items m) body
+        × AllKeep (AndVar F x.text.items) reduces.items
+        (inner_modes carries.items x.text.items m) body
     KeepsTo F rs m (Fold x e) =
-        MayRead cut m e × FoldsBy cut x.text.items (operator_of rs x.text.items) × (F x.text.items → ⊥)
-    KeepsTo F rs m (Call x f) = AllRead cut m f.args.items × Safe f.callee.text.items × MayAssign cut F x.text.items
+        MayRead cut m e × FoldsBy cut x.text.items (operator_of rs x.text.items)
+        × (F x.text.items → ⊥)
+    KeepsTo F rs m (Call x f) =
+        AllRead cut m f.args.items × Safe f.callee.text.items × MayAssign cut F x.text.items
     KeepsTo F rs m (Both x f y g) =
-        AllRead cut m f.args.items × AllRead cut m g.args.items × Safe f.callee.text.items × Safe g.callee.text.items
+        AllRead cut m f.args.items × AllRead cut m g.args.items
+        × Safe f.callee.text.items × Safe g.callee.text.items
         × MayAssign cut F x.text.items × MayAssign cut F y.text.items
     KeepsTo F rs m (Print place e) = ⊥
     KeepsTo F rs m (Emit place t) = ⊥
@@ -129,11 +136,13 @@ module _ (cut : List Reduce) (Safe : List ℕ → Type 0) where
 abbrev pub NoVariable : List ℕ → Type 0
 NoVariable x = ⊥
 
--- a function that may be called reads only whole tables, writes and shows nothing, and calls only such functions
+-- a function that may be called reads only whole tables, writes and shows nothing, and calls only
+-- such functions
 abbrev pub FuncKeeps : (List ℕ → Type 0) → Modes → Option Func → Type 0
 FuncKeeps Safe m None = ⊤
 FuncKeeps Safe m (Some f) =
-    ListKeeps [] Safe NoVariable [] (λ t. demoted (m t)) f.body.items × MayRead [] (λ t. demoted (m t)) f.result
+    ListKeeps [] Safe NoVariable [] (λ t. demoted (m t)) f.body.items
+    × MayRead [] (λ t. demoted (m t)) f.result
 
 abbrev pub FuncsKeep : (List ℕ → Type 0) → Modes → List Func → Type 0
 FuncsKeep Safe m fs = (f : List ℕ) → Safe f → FuncKeeps Safe m (func_of fs f)

@@ -1,8 +1,7 @@
 -- When a frame fits the source that it is a part of.
-use Rattle.std.specs.Prelude.{◌≡◌, ℕ, Bool, false, ℤ, ◌≤ℤ◌, List, map}
+use Rattle.std.specs.Prelude.{◌≡◌, ℕ, false, ℤ, ◌≤ℤ◌, List, map}
 use Rattle.std.specs.List.{All}
 use Rattle.tp_value.specs.declared.Op.{Op}
-use Rattle.loop_syntax.specs.declared.Name.{Name}
 use Rattle.loop_syntax.specs.declared.Reduce.{Reduce}
 use Rattle.loop_syntax.specs.declared.App.{App}
 use Rattle.loop_syntax.specs.declared.ParLoop.{ParLoop}
@@ -24,8 +23,8 @@ numbers_of accs = map (λ (a : Op × ℤ). a.1) accs
 abbrev pub operators_of : List (Op × ℤ) → List Op
 operators_of accs = map (λ (a : Op × ℤ). a.0) accs
 
--- a range is within the bounds of its `par`, has one accumulator for each variable of the reduce list, with that
--- operator, and numbers in the range of 64 bits
+-- a range is within the bounds of its `par`, has one accumulator for each variable of the reduce
+-- list, with that operator, and numbers in the range of 64 bits
 pub record RangeFits (l : ParLoop) (first last next end : ℤ) (accs : List (Op × ℤ)) : Type 0 where
   pub begins : first ≤ℤ next
   pub ordered : next ≤ℤ end

@@ -24,22 +24,25 @@ abbrev pub combined_by : Option Op → ℤ → ℤ → ℤ
 combined_by None m n = m
 combined_by (Some o) m n = combine o m n
 
--- the variables of both parts as one: a reduced one has both values combined, any other the lower part's
+-- the variables of both parts as one: a reduced one has both values combined, any other the lower
+-- part's
 abbrev pub combined : List Reduce → List Variable → List Variable → List Variable
 combined rs [] vs = []
 combined rs (u ∷ us) [] = []
 combined rs (u ∷ us) (v ∷ vs) =
-    record { name = u.name; value = combined_by (operator_of rs u.name) u.value v.value } ∷ combined rs us vs
+    record { name = u.name; value = combined_by (operator_of rs u.name) u.value v.value }
+    ∷ combined rs us vs
 
 -- other variables are those round the loop, with the same values but for those that it reduces
 pub record SameRound (rs : List Reduce) (vs us : List Variable) : Type 0 where
   pub names : names_of us ≡ names_of vs
   pub values : (x : List ℕ) → operator_of rs x ≡ None → lookup us x ≡ lookup vs x
 
--- where a part of the loop begins that has no ticks and no output yet: the variables round the loop with units in
--- those that it reduces, and these tables
+-- where a part of the loop begins that has no ticks and no output yet: the variables round the loop
+-- with units in those that it reduces, and these tables
 abbrev pub upper_start : List Reduce → List Variable → List Table → State
-upper_start rs vs ts = record { vars = with_accs rs (units_for rs) vs; tables = ts; output = []; ticks = 0 }
+upper_start rs vs ts =
+    record { vars = with_accs rs (units_for rs) vs; tables = ts; output = []; ticks = 0 }
 
 -- `whole` is `low` and then `up`, merged, where `up` may see and write these cells
 pub record Joins (fuel : ℕ) (rs : List Reduce) (seen written : Cells) (low up whole : Ran) : Type 0 where

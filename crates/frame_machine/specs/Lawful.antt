@@ -1,4 +1,5 @@
--- When a `par` may be cut in two: what its carries, its reduce list, its body and the functions of the program keep to.
+-- When a `par` may be cut in two: what its carries, its reduce list and its body keep to, and the
+-- functions.
 use Rattle.std.specs.Prelude.{◌≡◌, ◌⊎◌, ℕ, true, false, List, [], ◌∷◌, ⊤}
 use Rattle.loop_syntax.specs.declared.RowAt.TheVariants as row
 use Rattle.loop_syntax.specs.declared.Carry.{Carry}
@@ -33,11 +34,13 @@ RowsFixed outside rs (carry.Cells t (row.Var k) j ∷ cs) =
     (is_in outside k.text.items ≡ true) × Unreduced rs k.text.items × RowsFixed outside rs cs
 RowsFixed outside rs (carry.Cells t (row.Int n) j ∷ cs) = RowsFixed outside rs cs
 
--- the variables that the body of a `par` over x never assigns: those round it that it doesn't reduce, and x
+-- the variables that the body of a `par` over x never assigns: those round it that it doesn't
+-- reduce, and x
 abbrev pub FixedIn : List (List ℕ) → List Reduce → List ℕ → List ℕ → Type 0
 FixedIn outside rs x y = ((is_in outside y ≡ true) × Unreduced rs y) ⊎ (y ≡ x)
 
--- the functions that may be called where m holds: they read, themselves or through calls, only whole tables
+-- the functions that may be called where m holds: they read, themselves or through calls, only
+-- whole tables
 abbrev pub Callable : Program → Modes → List ℕ → Type 0
 Callable p m f = (t : List ℕ) → ReadsTable p f t → m t ≡ Whole
 
@@ -53,5 +56,7 @@ pub record Lawful (p : Program) (outer : Modes) (outside : List (List ℕ)) (l :
   pub targets : DistinctTargets l.reduces.items
   pub visible : TargetsIn outside l.reduces.items
   pub rows : RowsFixed outside l.reduces.items l.carries.items
-  pub body : ListKeeps l.reduces.items (Callable p (modes_in outer l)) (FixedIn outside l.reduces.items l.var.text.items) l.reduces.items (modes_in outer l) l.body.items
+  pub body :
+      ListKeeps l.reduces.items (Callable p (modes_in outer l))
+      (FixedIn outside l.reduces.items l.var.text.items) l.reduces.items (modes_in outer l) l.body.items
   pub functions : FuncsKeep (Callable p (modes_in outer l)) (modes_in outer l) p.funcs.items

@@ -16,3 +16,5 @@ pub mod Joins
 pub mod Iterating
 -- FrameLaws: a frame and the two parts that it is cut into
 pub mod FrameLaws
+-- AllLawful: programs whose `par` loops may all be cut
+pub mod AllLawful

@@ -11,8 +11,8 @@ pub data Line : Type 0 where
   Named : List ℕ → Line
   Fixed : ℤ → Line
 
--- every cell may be read, and none written; no cell may be touched; those of the row of a loop's variable may be;
--- the one of a row and of a loop's variable may be
+-- every cell may be read, and none written; no cell may be touched; those of the row of a loop's
+-- variable may be; the one of a row and of a loop's variable may be
 pub data Mode : Type 0 where
   Whole : Mode
   Closed : Mode
@@ -37,7 +37,8 @@ demoted (OwnCell k x) = Closed
 -- in the body of a `par` over x with these carries, where m is what those round it allow
 abbrev pub inner_modes : List Carry → List ℕ → Modes → Modes
 inner_modes [] x m t = demoted (m t)
-inner_modes (carry.Rows u i ∷ cs) x m t = cond (bytes_eq u.text.items t) (OwnRow x) (inner_modes cs x m t)
+inner_modes (carry.Rows u i ∷ cs) x m t =
+    cond (bytes_eq u.text.items t) (OwnRow x) (inner_modes cs x m t)
 inner_modes (carry.Cells u k j ∷ cs) x m t =
     cond (bytes_eq u.text.items t) (OwnCell (line_of k) x) (inner_modes cs x m t)
 

@@ -1,4 +1,5 @@
--- The two parts of a loop that is cut: which cells each may read and write, and tables and notes that keep to them.
+-- The two parts of a loop that is cut: the cells that each may read and write, and what keeps to
+-- them.
 use Rattle.frame_machine.specs.Modes.{Closed, Fixed, Line, Mode, Modes, Named, OwnCell, OwnRow, Whole}
 use Rattle.loop_meaning.specs.State.{Chance, Emits, Note, Reads, Writes, cell_of, has_cell, lookup, table_of}
 use Rattle.loop_meaning.specs.declared.value.Variable.{Variable}

@@ -1,5 +1,5 @@
 -- Cutting a range or a frame in two, and merging what two parts come to.
-use Rattle.std.specs.Prelude.{ℕ, Bool, true, false, ℤ, pos, ◌+ℤ◌, ◌-ℤ◌, ◌≤ℤ◌, int_div, int_le, List, [], ◌∷◌, map, Option, Some, None, ⊤, if◌then◌else◌}
+use Rattle.std.specs.Prelude.{true, false, ℤ, pos, ◌+ℤ◌, ◌-ℤ◌, ◌≤ℤ◌, int_div, int_le, List, [], ◌∷◌, map, Option, Some, None, ⊤, if◌then◌else◌}
 use Rattle.tp_value.specs.declared.limits.TheConstants.{MAX_PAR_LENGTH}
 use Rattle.tp_value.specs.declared.Op.{Op}
 use Rattle.reduce_ops.specs.Reduction.{combine, unit}
@@ -10,7 +10,7 @@ use Rattle.loop_meaning.specs.declared.frame.Frame.TheVariants.{Range, Pair}
 abbrev pub half_up : ℤ → ℤ
 half_up n = int_div (n +ℤ pos 1) (pos 2)
 
--- where the iterations next, .., end - 1 are cut: the upper part has the last half of them, rounded up
+-- where the iterations next, .., end - 1 are cut: the upper part has the last half, rounded up
 abbrev pub cut_of : ℤ → ℤ → Option ℤ
 cut_of next end = if int_le end next then None else Some (end -ℤ half_up (end -ℤ next))
 
@@ -18,12 +18,14 @@ cut_of next end = if int_le end next then None else Some (end -ℤ half_up (end 
 abbrev pub with_units : List (Op × ℤ) → List (Op × ℤ)
 with_units accs = map (λ (a : Op × ℤ). (a.0, unit a.0)) accs
 
--- both parts of a range with that cut: the lower one keeps the accumulators, the upper one begins with units
+-- both parts of a range with that cut: the lower one keeps the accumulators, the upper one begins
+-- with units
 abbrev pub ranges_at : ℤ → ℤ → List (Op × ℤ) → Option ℤ → Option (Frame × Frame)
 ranges_at next end accs None = None
-ranges_at next end accs (Some middle) = Some (Range next middle accs, Range middle end (with_units accs))
+ranges_at next end accs (Some middle) =
+    Some (Range next middle accs, Range middle end (with_units accs))
 
--- both parts of a frame: of a range that has an iteration left, or of a pair of which nothing is taken
+-- both parts of a frame: of a range that has an iteration left, or of a pair that isn't taken
 abbrev pub parts_of : Frame → Option (Frame × Frame)
 parts_of (Range next end accs) = ranges_at next end accs (cut_of next end)
 parts_of (Pair second args false) = Some (Pair second args true, Pair second args true)

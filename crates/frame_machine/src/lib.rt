@@ -7,6 +7,7 @@
 mod frame;
 pub mod laws;
 mod range;
+pub mod rules;
 #[cfg(test)]
 mod tests;
 

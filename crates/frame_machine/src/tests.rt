@@ -132,11 +132,11 @@ fn a_pair_is_taken_once(rt: HostRuntime) -> Result<(), Fail> {
 #[test]
 fn accumulators_are_merged_left_first(rt: HostRuntime) -> Result<(), Fail> {
     let g = rt.alloc();
-    assert!(rt; merge_frames(g, &[Op::Add], &[8], &[5])?.as_slice() == [13]);
+    assert!(rt; merge_frames(g, &[Op::Add], &[8], &[5])?.as_slice() == [13].as_slice());
     assert!(rt; merge_frames(g, &[], &[], &[])?.is_empty());
     // x becomes 2 * x, and then x + 3
     let ops = [Op::Affine, Op::Max, Op::Mul];
     let merged = merge_frames(g, &ops, &[8589934592, -3, 3], &[4294967299, 2, 4])?;
-    assert!(rt; merged.as_slice() == [8589934595, 2, 12]);
+    assert!(rt; merged.as_slice() == [8589934595, 2, 12].as_slice());
     Ok(())
 }

@@ -1,7 +1,8 @@
-use Rattle.std.proofs.Common.{pos, ◌+ℤ◌, arith}
+use Rattle.std.proofs.Common.{arith}
 use Rattle.std.proofs.lemmas.Int.{ints}
-use Rattle.frame_machine.specs.FrameLaws.{LowerSeen, LowerWritten, UpperSeen, UpperWritten}
+use Rattle.frame_machine.specs.Iterating.{LowerSeen, LowerWritten, UpperSeen, UpperWritten}
 use Rattle.frame_machine.proofs.Joining.{lower_kept, upper_kept}
+use Rattle.frame_machine.proofs.Leaving.{lower_leaves}
 use Rattle.frame_machine.proofs.Values.{chances_keep}
 use Rattle.frame_machine.proofs.laws.iterations_keep_apart.Goals as goal
 
@@ -19,3 +20,8 @@ pub returns-clause-output : goal.returns-clause-output
 returns-clause-output c = λ outer l room again begin n i s rules q r.
     (upper_kept c.args.program.now outer l c.args.fuel room again begin n i i s rules
     (chances_keep (UpperSeen outer l s.vars i) (UpperWritten outer l s.vars i) again q) (chances_keep (UpperSeen outer l s.vars i) (UpperWritten outer l s.vars i) begin r) (omega (arith, ints))).output
+
+pub returns-clause-leaves : goal.returns-clause-leaves
+returns-clause-leaves c = λ outer l room again begin n i d s rules q r h e.
+    lower_leaves c.args.program.now outer l c.args.fuel room again begin n i d s rules
+    (chances_keep (LowerSeen outer l s.vars d) (LowerWritten outer l s.vars d) again q) (chances_keep (LowerSeen outer l s.vars d) (LowerWritten outer l s.vars d) begin r) h e

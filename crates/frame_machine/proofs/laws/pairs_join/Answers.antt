@@ -6,13 +6,16 @@ use Rattle.frame_machine.proofs.Pairs.{pair_joins, call_keeps}
 use Rattle.frame_machine.proofs.laws.pairs_join.Goals as goal
 
 pub returns-clause-joins : goal.returns-clause-joins
-returns-clause-joins c = λ depth m child f place ns g second_place ms s vs ts rules within given.
-    pair_joins c.args.program.now m c.args.fuel (MAX_CALL_DEPTH - depth) f g rules place ns second_place ms s (child_start vs ts) within given refl refl
+returns-clause-joins c = λ m depth k rules within given child.
+    pair_joins c.args.program.now m c.args.fuel (MAX_CALL_DEPTH - depth) k.first.text.items k.second.text.items rules
+    k.first.place k.args k.second.place k.second_args k.state (child_start k.vars k.tables) within given refl refl
 
 pub returns-clause-first : goal.returns-clause-first
-returns-clause-first c = λ depth m f place ns g second_place ms s rules.
-    (call_keeps c.args.program.now m c.args.fuel (MAX_CALL_DEPTH - depth) f g rules f rules.first place ns (Chance ∷ []) (tt, tt) s).notes
+returns-clause-first c = λ m depth k rules.
+    (call_keeps c.args.program.now m c.args.fuel (MAX_CALL_DEPTH - depth) k.first.text.items k.second.text.items rules
+    k.first.text.items rules.first k.first.place k.args (Chance ∷ []) (tt, tt) k.state).notes
 
 pub returns-clause-second : goal.returns-clause-second
-returns-clause-second c = λ depth m f place ns g second_place ms s rules.
-    (call_keeps c.args.program.now m c.args.fuel (MAX_CALL_DEPTH - depth) f g rules g rules.second second_place ms [] tt s).notes
+returns-clause-second c = λ m depth k rules.
+    (call_keeps c.args.program.now m c.args.fuel (MAX_CALL_DEPTH - depth) k.first.text.items k.second.text.items rules
+    k.second.text.items rules.second k.second.place k.second_args [] tt (child_start k.vars k.tables)).notes
