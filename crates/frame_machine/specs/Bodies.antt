@@ -9,9 +9,11 @@ use Rattle.loop_syntax.specs.declared.Carry.TheVariants as carry
 use Rattle.loop_syntax.specs.declared.Reduce.{Reduce}
 use Rattle.loop_syntax.specs.declared.Func.{Func}
 use Rattle.loop_syntax.specs.declared.Stmt.{Stmt, Row_of-Stmt, end_of-Stmt, more_of-Stmt}
-use Rattle.loop_syntax.specs.declared.Stmt.TheVariants.{Let, Set, Put, If', While', Loop', Par', Fold, Call, Both, Print, Emit}
+use Rattle.loop_syntax.specs.declared.Stmt.TheVariants.{Let, Set, Put, If', While', Loop', Par'}
+use Rattle.loop_syntax.specs.declared.Stmt.TheVariants.{Fold, Call, Both, Print, Emit}
 use Rattle.loop_rules.specs.Names.{func_of, operator_of}
-use Rattle.frame_machine.specs.Modes.{Line, Named, Fixed, Mode, Whole, Closed, OwnRow, OwnCell, Modes, demoted, inner_modes, AllOfModes}
+use Rattle.frame_machine.specs.Modes.{Line, Named, Fixed, Mode, Whole, Closed, OwnRow, OwnCell}
+use Rattle.frame_machine.specs.Modes.{Modes, demoted, inner_modes, AllOfModes}
 
 -- ---- reads and writes
 

@@ -36,7 +36,8 @@ ops_of rs = map (λ (r : Reduce). r.op) rs
 
 -- `whole` is a range of that `par` whose lower part is `low` and whose upper part, which may see
 -- and write these cells, is `up`
-pub record RangeJoins (fuel : ℕ) (l : ParLoop) (seen written : Cells) (low up whole : FrameRan) : Type 0 where
+pub record RangeJoins (fuel : ℕ) (l : ParLoop) (seen written : Cells) (low up whole : FrameRan) :
+    Type 0 where
   pub runs : Joins fuel l.reduces.items seen written low.ran up.ran whole.ran
   pub results : whole.ran.stop ≡ Done →
       whole.results ≡ merged (ops_of l.reduces.items) low.results up.results
@@ -65,14 +66,15 @@ pub record CutRange : Type 0 where
 -- the frame fits the `par`, and the cut is within it; numbers are in range, and the ticks are
 -- within the fuel; and the child has the variables round the loop and the tables as the frame has
 -- them, where it may see them
-pub record RangeCut (p : Program) (outer : Modes) (l : ParLoop) (fuel : ℕ) (c : CutRange) : Type 0 where
-  pub fits : Fits (BegunPar l c.first c.last) (Range c.next c.end c.accs)
-  pub low : c.next ≤ℤ c.middle
-  pub high : c.middle ≤ℤ c.end
-  pub range : AllInRange p l c.state
-  pub within : c.state.ticks ≤ fuel
-  pub round : SameRound l.reduces.items c.state.vars c.vars
-  pub given : AgreeOn (UpperSeen outer l c.state.vars c.middle) c.tables c.state.tables
+pub record RangeCut (p : Program) (outer : Modes) (l : ParLoop) (fuel : ℕ) (c : CutRange) : Type 0
+  where
+    pub fits : Fits (BegunPar l c.first c.last) (Range c.next c.end c.accs)
+    pub low : c.next ≤ℤ c.middle
+    pub high : c.middle ≤ℤ c.end
+    pub range : AllInRange p l c.state
+    pub within : c.state.ticks ≤ fuel
+    pub round : SameRound l.reduces.items c.state.vars c.vars
+    pub given : AgreeOn (UpperSeen outer l c.state.vars c.middle) c.tables c.state.tables
 
 -- the lower frame, and the upper one from units, merged are the frame
 abbrev pub RangeLaw : Program → ℕ → ℕ → Modes → ParLoop → CutRange → Type 0
@@ -80,7 +82,8 @@ RangeLaw p fuel depth outer l c =
     RangeJoins fuel l
     (UpperSeen outer l c.state.vars c.middle) (UpperWritten outer l c.state.vars c.middle)
     (run_frame p fuel depth (OfPar l) (Range c.next c.middle c.accs) c.state)
-    (run_frame p fuel depth (OfPar l) (Range c.middle c.end (with_units c.accs)) (child_start c.vars c.tables))
+    (run_frame p fuel depth (OfPar l) (Range c.middle c.end (with_units c.accs))
+    (child_start c.vars c.tables))
     (run_frame p fuel depth (OfPar l) (Range c.next c.end c.accs) c.state)
 
 -- ---- pairs

@@ -24,7 +24,8 @@ body_setting p fuel room l =
 -- n iterations from number i on; the first notes `begin`, and each later one `again`
 abbrev pub iterations_in : Program → ℕ → ℕ → ParLoop → List Note → List Note → ℕ → ℤ → State → Ran
 iterations_in p fuel room l again begin n i s =
-    iterate fuel l.var.text.items (run_list (body_setting p fuel room l) l.body.items) again begin n i s
+    iterate fuel l.var.text.items (run_list (body_setting p fuel room l) l.body.items) again begin n
+    i s
 
 -- numbers in the range of 64 bits: the literals of the functions and of the `par`, those of a
 -- state, and the numbers of the iterations
@@ -85,12 +86,13 @@ middle_of c = c.first +ℤ pos c.below
 
 -- numbers are in range, the ticks are within the fuel, and the upper part has the variables round
 -- the loop and the tables as the lower part has them, where it may see them
-pub record LoopCut (p : Program) (outer : Modes) (l : ParLoop) (fuel : ℕ) (c : CutLoop) : Type 0 where
-  pub calls : c.room ≤ MAX_CALL_DEPTH
-  pub range : LoopInRange p l c.state c.first (middle_of c)
-  pub within : c.state.ticks ≤ fuel
-  pub round : SameRound l.reduces.items c.state.vars c.vars
-  pub given : AgreeOn (UpperSeen outer l c.state.vars (middle_of c)) c.tables c.state.tables
+pub record LoopCut (p : Program) (outer : Modes) (l : ParLoop) (fuel : ℕ) (c : CutLoop) : Type 0
+  where
+    pub calls : c.room ≤ MAX_CALL_DEPTH
+    pub range : LoopInRange p l c.state c.first (middle_of c)
+    pub within : c.state.ticks ≤ fuel
+    pub round : SameRound l.reduces.items c.state.vars c.vars
+    pub given : AgreeOn (UpperSeen outer l c.state.vars (middle_of c)) c.tables c.state.tables
 
 abbrev pub lower_of : Program → ℕ → ParLoop → CutLoop → Ran
 lower_of p fuel l c = iterations_in p fuel c.room l c.again c.begin c.below c.first c.state
@@ -101,7 +103,8 @@ upper_of p fuel l c =
     (upper_start l.reduces.items c.vars c.tables)
 
 abbrev pub whole_of : Program → ℕ → ParLoop → CutLoop → Ran
-whole_of p fuel l c = iterations_in p fuel c.room l c.again c.begin (c.below + c.above) c.first c.state
+whole_of p fuel l c =
+    iterations_in p fuel c.room l c.again c.begin (c.below + c.above) c.first c.state
 
 -- the lower part, and the upper part from units, merged are the whole
 abbrev pub LoopLaw : Program → ℕ → Modes → ParLoop → CutLoop → Type 0

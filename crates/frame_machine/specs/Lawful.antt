@@ -49,14 +49,16 @@ abbrev pub modes_in : Modes → ParLoop → Modes
 modes_in outer l = inner_modes l.carries.items l.var.text.items outer
 
 -- `outside` are the variables round the loop, in the order of their declarations
-pub record Lawful (p : Program) (outer : Modes) (outside : List (List ℕ)) (l : ParLoop) : Type 0 where
-  pub distinct : Distinct outside
-  pub fresh : is_in outside l.var.text.items ≡ false
-  pub plain : Unreduced l.reduces.items l.var.text.items
-  pub targets : DistinctTargets l.reduces.items
-  pub visible : TargetsIn outside l.reduces.items
-  pub rows : RowsFixed outside l.reduces.items l.carries.items
-  pub body :
-      ListKeeps l.reduces.items (Callable p (modes_in outer l))
-      (FixedIn outside l.reduces.items l.var.text.items) l.reduces.items (modes_in outer l) l.body.items
-  pub functions : FuncsKeep (Callable p (modes_in outer l)) (modes_in outer l) p.funcs.items
+pub record Lawful (p : Program) (outer : Modes) (outside : List (List ℕ)) (l : ParLoop) : Type 0
+  where
+    pub distinct : Distinct outside
+    pub fresh : is_in outside l.var.text.items ≡ false
+    pub plain : Unreduced l.reduces.items l.var.text.items
+    pub targets : DistinctTargets l.reduces.items
+    pub visible : TargetsIn outside l.reduces.items
+    pub rows : RowsFixed outside l.reduces.items l.carries.items
+    pub body :
+        ListKeeps l.reduces.items (Callable p (modes_in outer l))
+        (FixedIn outside l.reduces.items l.var.text.items) l.reduces.items (modes_in outer l)
+        l.body.items
+    pub functions : FuncsKeep (Callable p (modes_in outer l)) (modes_in outer l) p.funcs.items

@@ -1,7 +1,9 @@
 -- The two parts of a loop that is cut: the cells that each may read and write, and what keeps to
 -- them.
-use Rattle.frame_machine.specs.Modes.{Closed, Fixed, Line, Mode, Modes, Named, OwnCell, OwnRow, Whole}
-use Rattle.loop_meaning.specs.State.{Chance, Emits, Note, Reads, Writes, cell_of, has_cell, lookup, table_of}
+use Rattle.frame_machine.specs.Modes.{Closed, Fixed, Line, Mode, Modes, Named, OwnCell, OwnRow}
+use Rattle.frame_machine.specs.Modes.{Whole}
+use Rattle.loop_meaning.specs.State.{Chance, Emits, Note, Reads, Writes, cell_of, has_cell, lookup}
+use Rattle.loop_meaning.specs.State.{table_of}
 use Rattle.loop_meaning.specs.declared.value.Variable.{Variable}
 use Rattle.std.specs.Prelude.{List, [], length, true, ℕ, ℤ, ⊤, ◌<ℤ◌, ◌∷◌, ◌≡◌, ◌≤ℤ◌}
 use Rattle.tp_value.specs.declared.Table.{Table}

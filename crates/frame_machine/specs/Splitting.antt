@@ -1,5 +1,6 @@
 -- Cutting a range or a frame in two, and merging what two parts come to.
-use Rattle.std.specs.Prelude.{true, false, ℤ, pos, ◌+ℤ◌, ◌-ℤ◌, ◌≤ℤ◌, int_div, int_le, List, [], ◌∷◌, map, Option, Some, None, ⊤, if◌then◌else◌}
+use Rattle.std.specs.Prelude.{true, false, ℤ, pos, ◌+ℤ◌, ◌-ℤ◌, ◌≤ℤ◌, int_div, int_le, List, [], ◌∷◌}
+use Rattle.std.specs.Prelude.{map, Option, Some, None, ⊤, if◌then◌else◌}
 use Rattle.tp_value.specs.declared.limits.TheConstants.{MAX_PAR_LENGTH}
 use Rattle.tp_value.specs.declared.Op.{Op}
 use Rattle.reduce_ops.specs.Reduction.{combine, unit}

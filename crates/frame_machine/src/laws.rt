@@ -1,7 +1,8 @@
 // What follows from the definitions alone: a loop or a pair of calls that is cut and merged is what
 // it was.
 
-ghost use Rattle.std.specs.Prelude.{◌≡◌, ◌≤◌, ◌+ℤ◌, ◌≤ℤ◌, ◌<ℤ◌, ℕ, true, false, ℤ, pos, List, [], Contains, Some};
+ghost use Rattle.std.specs.Prelude.{◌≡◌, ◌≤◌, ◌+ℤ◌, ◌≤ℤ◌, ◌<ℤ◌, ℕ, true, false, ℤ, pos, List, []};
+ghost use Rattle.std.specs.Prelude.{Contains, Some};
 ghost use Rattle.tp_value.specs.declared.Op.{Op};
 ghost use Rattle.tp_value.specs.declared.Stop.TheVariants.{Done};
 ghost use Rattle.loop_syntax.specs.declared.ParLoop.{ParLoop};
@@ -18,10 +19,13 @@ ghost use Rattle.frame_machine.specs.Modes.{Modes, modes_of};
 ghost use Rattle.frame_machine.specs.Lawful.{Callable, Lawful};
 ghost use Rattle.frame_machine.specs.Parts.{AgreeOn, NotesKeep};
 ghost use Rattle.frame_machine.specs.Joins.{SameRound, names_of};
-ghost use Rattle.frame_machine.specs.Iterating.{iterations_in, UpperSeen, UpperWritten, LowerSeen, LowerWritten, NoCell, OnlyChances, CutLoop, LoopCut, LoopLaw, FromUnits};
+ghost use Rattle.frame_machine.specs.Iterating.{iterations_in, UpperSeen, UpperWritten, LowerSeen};
+ghost use Rattle.frame_machine.specs.Iterating.{LowerWritten, NoCell, OnlyChances, CutLoop};
+ghost use Rattle.frame_machine.specs.Iterating.{LoopCut, LoopLaw, FromUnits};
 ghost use Rattle.frame_machine.specs.Splitting.{cut_of, parts_of, with_units};
 ghost use Rattle.frame_machine.specs.Fitting.{Begun, Fits, RangeFits};
-ghost use Rattle.frame_machine.specs.FrameLaws.{child_start, CutRange, RangeCut, RangeLaw, CutPair, LawfulCalls, PairLaw, WholeCells, pair_frame};
+ghost use Rattle.frame_machine.specs.FrameLaws.{child_start, CutRange, RangeCut, RangeLaw, CutPair};
+ghost use Rattle.frame_machine.specs.FrameLaws.{LawfulCalls, PairLaw, WholeCells, pair_frame};
 
 use loop_syntax::Program;
 
