@@ -1,7 +1,7 @@
 -- Each event keeps what is known of a sound configuration.
 use Rattle.std.proofs.Common.{◌≡◌, ℕ, zero, suc, ◌+◌, ◌*◌, ◌<◌, ◌≤◌, ◌⊎◌, Option, Some, None, List, [], ◌∷◌, ◌++◌, refl, sym, ap, ◌∙◌, subst, ⊎_elim, inl, inr, arith}
 use Rattle.std.specs.Prelude.{Bool, true, false, nat_eq, ◌≢◌}
-use Rattle.std.proofs.Math.Nat.{suc-mul}
+use Rattle.std.proofs.Math.Nat.{suc-mul, mul-le-mul_right}
 use Rattle.std.proofs.lemmas.Bool.{cases_eq, cases_lt}
 use Rattle.schedule_core.specs.Machine.{left, right, Turn, Goes, Beats, Ends, Asks, Forks, Stuck, Merged, Runs, Over, Machine, MergedOwes, MergeOwes, IsOther, TurnOwes, KeepsTurn, KeepsMerge, Lawful}
 use Rattle.schedule_core.specs.Core.{put, top, one_more, without, is_allowed, Seat, resting, running, forked, ended, holding, Cell, free, taken, opened, met, Config, stepped, diverted, given, opens_record, moved, freed, over, merged_seat, left_arrives, right_arrives}
@@ -30,9 +30,6 @@ module _ {T R E : Type 0} (M : Machine T R E) (H K N W : ℕ) (out : E) (L : Law
 
   saved_put : (w : ℕ) (new old : Seat T R E) → w < W → c.seats w ≡ old → total W (λ i. saved M H (put c.seats w new i)) + saved M H old ≡ total W (λ i. saved M H (c.seats i)) + saved M H new
   saved_put w new old lt q = let a = total_put W (saved M H) c.seats w new lt in let b = ap (saved M H) q in omega (arith, a, b)
-
-  beats_put : (w : ℕ) → w < W → total W (put c.beats w (suc (c.beats w))) ≡ suc (total W c.beats)
-  beats_put w lt = let a = total_put W (λ x. x) c.beats w (suc (c.beats w)) lt in omega (arith, a)
 
   pub at_seat : (w : ℕ) (old : Seat T R E) → c.seats w ≡ old → SeatOk M s.holder s.ending c.cells w old
   at_seat w old q = subst (SeatOk M s.holder s.ending c.cells w) q (s.seat_ok w)
@@ -124,11 +121,13 @@ module _ {T R E : Type 0} (M : Machine T R E) (H K N W : ℕ) (out : E) (L : Law
       let pe = ap one_there k.1.1 in
       let cr = k.1.2 in
       let b = s.beats_ok in
-      let bb = beats_put w lt in
-      let dd = ap one_if z.0 in
+            let dd = ap one_if z.0 in
       let few = lt_true (c.beats w) N k.0 in
-      reseat w (running v true) (running t d) (put c.beats w (suc (c.beats w))) c.skipped (one_more c.instructions) q (λ y a. a ∙ sym k.1.0) (λ j a. k.1.1 ∙ a) (λ j a. kind_clash _ _ a (λ z. omega (arith, z))) (same_seat w t v d true k.1.0 k.1.1 o z.1)
-          (λ i. at_put c.beats w (suc (c.beats w)) (λ y x. x ≤ N) i few (λ ne. s.allowed i)) (omega (arith, ow, pe, b, bb, dd)) (step_paid w (running v true) (running t d) lt q (omega (arith, cr)))
+      let wide = mul-le-mul_right {m = 1} {n = W} N (omega (arith, lt)) in
+      let bs = counts (c.beats w) (omega (arith, few, wide, room)) in
+      let bb = total_put W (λ x. x) c.beats w (one_more (c.beats w)) lt in
+      reseat w (running v true) (running t d) (put c.beats w (one_more (c.beats w))) c.skipped (one_more c.instructions) q (λ y a. a ∙ sym k.1.0) (λ j a. k.1.1 ∙ a) (λ j a. kind_clash _ _ a (λ z. omega (arith, z))) (same_seat w t v d true k.1.0 k.1.1 o z.1)
+          (λ i. at_put c.beats w (one_more (c.beats w)) (λ y x. x ≤ N) i (omega (arith, few, bs)) (λ ne. s.allowed i)) (omega (arith, ow, pe, b, bb, bs, dd)) (step_paid w (running v true) (running t d) lt q (omega (arith, cr)))
 
   pub on_ends : (a : Bool) (w : ℕ) (t : T) (d : Bool) (e : E) → w < W → c.seats w ≡ running t d → M.turn a t ≡ Ends e → View M H N K W out (stepped c w (ended e))
   on_ends a w t d e lt q st =

@@ -14,3 +14,27 @@ pub mod Keeps
 pub mod Every
 -- each record has one left and one right arrival between its opening and its freeing
 pub mod Arrivals
+-- what a change of what is kept is for the workers and records of the core
+pub mod Stands
+-- taking a record out of the list of open ones
+pub mod Lists
+-- a turn of one instruction is a step
+pub mod Once
+-- the least free record
+pub mod Free
+-- which events are enabled, by what is kept
+pub mod Enabling
+-- the beats of all workers
+pub mod Beats
+-- the tasks of a code meet the laws of the core
+pub mod Instance
+-- what an event gives belongs to the code
+pub mod Belonging
+-- what the code makes of a configuration is an event of the core
+pub mod Events
+-- what an event asks of a configuration, and what its answer says
+pub mod Asked
+-- the first configuration
+pub mod Beginning
+-- the laws of the core for the tasks of a code
+pub mod Ruling

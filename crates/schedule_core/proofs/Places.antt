@@ -1,6 +1,6 @@
 -- Places in the list of open records.
 use Rattle.std.proofs.Common.{◌≡◌, ℕ, zero, suc, ◌+◌, ◌<◌, ◌≤◌, List, [], ◌∷◌, ◌++◌, length, refl, sym, ap, ◌∙◌, subst, ⊎_elim, arith}
-use Rattle.std.specs.Prelude.{Bool, true, false, nat_eq, if◌then◌else◌}
+use Rattle.std.specs.Prelude.{Bool, true, false, not, nat_eq, if◌then◌else◌}
 use Rattle.std.proofs.lemmas.Bool.{cases_eq, eq-eqb, ne_eqb, cond-true, cond-false}
 use Rattle.schedule_core.specs.Core.{without}
 use Rattle.schedule_core.specs.Sound.{place, later, IsOnce}
@@ -12,10 +12,10 @@ place_next : (j k : ℕ) (js : List ℕ) → (j ≡ k → ⊥) → place (j ∷ 
 place_next j k js ne = cond-false (nat_eq j k) 1 (later (place js k)) (ne_eqb j k ne)
 
 without_here : (k j : ℕ) (js : List ℕ) → j ≡ k → without k (j ∷ js) ≡ without k js
-without_here k j js e = cond-true (nat_eq j k) (without k js) (j ∷ without k js) (eq-eqb j k e)
+without_here k j js e = ap (λ b. if not b then j ∷ without k js else without k js) (eq-eqb j k e)
 
 without_next : (k j : ℕ) (js : List ℕ) → (j ≡ k → ⊥) → without k (j ∷ js) ≡ j ∷ without k js
-without_next k j js ne = cond-false (nat_eq j k) (without k js) (j ∷ without k js) (ne_eqb j k ne)
+without_next k j js ne = ap (λ b. if not b then j ∷ without k js else without k js) (ne_eqb j k ne)
 
 -- what `later` does to places
 later_zero : (n : ℕ) → later n ≡ 0 → n ≡ 0

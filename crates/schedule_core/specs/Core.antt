@@ -1,5 +1,6 @@
 -- Configurations of workers and records, and the events that change them.
-use Rattle.std.specs.Prelude.{ℕ, suc, ◌+◌, ◌-◌, ◌^◌, min, ◌≡◌, ◌≢◌, ◌<◌, List, [], ◌∷◌, ◌++◌, Option, Some, None, Bool, true, false, nat_eq, nat_lt, if◌then◌else◌}
+use Rattle.std.specs.Prelude.{ℕ, suc, ◌+◌, ◌-◌, ◌^◌, min, ◌≡◌, ◌≢◌, ◌<◌, List, [], ◌∷◌, ◌++◌, Option, Some, None, Bool, true, false, not, nat_eq, nat_lt, if◌then◌else◌}
+use Rattle.std.specs.List.{filter}
 use Rattle.schedule_core.specs.Machine.{root, left, right, Machine, Merged, Runs, Over, Goes, Beats, Ends, Asks, Forks}
 
 -- ---- configurations
@@ -51,8 +52,7 @@ one_more n = min (n + 1) top
 
 -- a list without a record
 abbrev pub without : ℕ → List ℕ → List ℕ
-without k [] = []
-without k (j ∷ js) = if nat_eq j k then without k js else j ∷ without k js
+without k js = filter (λ j. not (nat_eq j k)) js
 
 -- whether a worker with so many beats may be diverted, where N are allowed
 abbrev pub is_allowed : ℕ → ℕ → Bool
@@ -65,7 +65,7 @@ module _ {Task Rest Ending : Type 0} where
 
   -- the worker's task was diverted
   abbrev pub diverted : Config Task Rest Ending → ℕ → Task → Config Task Rest Ending
-  diverted c w task = record c { seats = put c.seats w (running task true); beats = put c.beats w (suc (c.beats w)); instructions = one_more c.instructions }
+  diverted c w task = record c { seats = put c.seats w (running task true); beats = put c.beats w (one_more (c.beats w)); instructions = one_more c.instructions }
 
   -- the worker's task was given an answer: a record, or none, which is skipped
   abbrev pub given : Config Task Rest Ending → ℕ → Task → Option ℕ → Config Task Rest Ending

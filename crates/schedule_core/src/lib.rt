@@ -2,3 +2,23 @@
 //! It stands on `tpal_machine`, which runs one task, and takes from it what a step, an answer and a merge
 //! give. Start with `specs/Core.antt`, the table of events, and `specs/Sound.antt`, what holds between them.
 #![tactic(auto)]
+
+mod applying;
+mod config;
+mod enabled;
+mod ends;
+mod event;
+mod first;
+mod job;
+pub mod laws;
+mod records;
+mod seats;
+mod stepping;
+
+pub use applying::apply;
+pub use config::Config;
+pub use event::{ApplyFault, Event};
+pub use job::{Job, Report};
+
+#[cfg(test)]
+mod tests;
