@@ -94,17 +94,17 @@ module _ (code : Listing) (s : Standing) (e : Event) (is : IsStanding s) (is_cod
   sound_step new out so st same =
       let M = tasks code s.heartbeat in
       let after = every_event M s.heartbeat (length s.cells) s.forks (length s.workers) (lawful code s.heartbeat (length s.cells) is_code few) (roomy s is) out (stands s) (stands new) (event_of e) so
-          (any_of M s.forks (length s.cells) (length s.workers) (stands s) (stands new) (event_of e) st) in
+      (any_of M s.forks (length s.cells) (length s.workers) (stands s) (stands new) (event_of e) st) in
       subst (λ h. Sound (tasks code h) h new.forks (length new.cells) (length new.workers) out (stands new)) (sym same.heartbeat)
-          (subst (λ n. Sound M s.heartbeat n (length new.cells) (length new.workers) out (stands new)) (sym same.forks)
-              (subst (λ k. Sound M s.heartbeat s.forks k (length new.workers) out (stands new)) (sym same.records)
-                  (subst (λ w. Sound M s.heartbeat s.forks (length s.cells) w out (stands new)) (sym same.workers) after)))
+      (subst (λ n. Sound M s.heartbeat n (length new.cells) (length new.workers) out (stands new)) (sym same.forks)
+      (subst (λ k. Sound M s.heartbeat s.forks k (length new.workers) out (stands new)) (sym same.records)
+      (subst (λ w. Sound M s.heartbeat s.forks (length s.cells) w out (stands new)) (sym same.workers) after)))
 
   seat_never : (w : ℕ) (out : Ending) (f : Fault) (x : core.Seat State RestState Ending) → IsSound code s out → (stands s).seats w ≡ x → SeatStuck code s.heartbeat (is_allowed s.forks ((stands s).beats w)) f x → ⊥
   seat_never w out f core.resting so q st = st
   seat_never w out f (core.running t d) so q st =
       never_stuck (tasks code s.heartbeat) s.heartbeat (length s.cells) s.forks (length s.workers) out (lawful code s.heartbeat (length s.cells) is_code few) (roomy s is) (stands s)
-          (view_of (tasks code s.heartbeat) s.heartbeat s.forks (length s.cells) (length s.workers) out (stands s) so) (is_allowed s.forks ((stands s).beats w)) w t d q (ap turn_of st)
+      (view_of (tasks code s.heartbeat) s.heartbeat s.forks (length s.cells) (length s.workers) out (stands s) so) (is_allowed s.forks ((stands s).beats w)) w t d q (ap turn_of st)
   seat_never w out f (core.forked k l c r) so q st = st
   seat_never w out f (core.ended x) so q st = st
   seat_never w out f (core.holding k) so q st = st

@@ -42,7 +42,13 @@ abbrev pub first_kept : ℕ → ℕ → State → ℕ → ℕ → Standing
 first_kept workers cells task heartbeat forks = record {
   workers = slice_set (replicate workers no_worker) 0 (working task);
   cells = replicate cells cell.Free;
-  order = []; outcome = None; tasks = 0; skipped = 0; instructions = 0; heartbeat = heartbeat; forks = forks;
+  order = [];
+  outcome = None;
+  tasks = 0;
+  skipped = 0;
+  instructions = 0;
+  heartbeat = heartbeat;
+  forks = forks;
 }
 
 module _ (workers cells : ℕ) (task : State) (heartbeat forks : ℕ) (some : 0 < workers) where
@@ -67,10 +73,10 @@ module _ (workers cells : ℕ) (task : State) (heartbeat forks : ℕ) (some : 0 
   pub stands_first : stands (first_kept workers cells task heartbeat forks) ≡ first task
   stands_first =
       ap (λ (f : ℕ → core.Seat State RestState Ending). record (stands (first_kept workers cells task heartbeat forks)) { seats = f })
-          (seats_put (replicate workers no_worker) 0 (working task) in_list ∙ ap (λ (f : ℕ → core.Seat State RestState Ending). put f 0 (core.running task false)) none_seated)
+      (seats_put (replicate workers no_worker) 0 (working task) in_list ∙ ap (λ (f : ℕ → core.Seat State RestState Ending). put f 0 (core.running task false)) none_seated)
       ∙ (ap (λ (f : ℕ → core.Cell State RestState Ending). record (stands (first_kept workers cells task heartbeat forks)) { seats = put (λ w. core.resting) 0 (core.running task false); cells = f }) none_kept
       ∙ ap (λ (f : ℕ → ℕ). record { seats = put (λ w. core.resting) 0 (core.running task false); cells = λ k. core.free; order = []; outcome = None; beats = f; tasks = 0; skipped = 0; instructions = 0 })
-          (beats_put (replicate workers no_worker) 0 (working task) in_list ∙ (ap (λ (f : ℕ → ℕ). put f 0 0) none_beats ∙ still_none)))
+      (beats_put (replicate workers no_worker) 0 (working task) in_list ∙ (ap (λ (f : ℕ → ℕ). put f 0 0) none_beats ∙ still_none)))
 
 module _ (code : Listing) (job : Job) (is : IsJob code job) where
   abbrev this : State → Standing
@@ -98,8 +104,9 @@ module _ (code : Listing) (job : Job) (is : IsJob code job) where
 
   pub first_belongs : (task : State) → RunsOn code task → Belongs code (stands (this task))
   first_belongs task runs = subst (λ c. Belongs code c) (sym (first_stands task)) (record {
-      seats = λ w. at_put (λ v. core.resting) 0 (core.running task false) (λ y z. SeatBelongs code z) w runs (λ ne. tt);
-      records = λ k. tt })
+    seats = λ w. at_put (λ v. core.resting) 0 (core.running task false) (λ y z. SeatBelongs code z) w runs (λ ne. tt);
+    records = λ k. tt;
+  })
 
   pub first_is_sound : (out : Ending) → FirstOwes code job out → IsSound code (this (first_state job.tables job.fuel)) out
   first_is_sound out owes =
@@ -107,7 +114,7 @@ module _ (code : Listing) (job : Job) (is : IsJob code job) where
       let r = first_run task in
       let M = tasks code job.heartbeat in
       subst (λ k. Sound M job.heartbeat job.forks k (length (this task).workers) out (stands (this task))) (sym r.records)
-          (subst (λ w. Sound M job.heartbeat job.forks (RECORDS_PER_WORKER * job.workers) w out (stands (this task))) (sym r.workers)
-              (subst (λ c. Sound M job.heartbeat job.forks (RECORDS_PER_WORKER * job.workers) job.workers out c) (sym (first_stands task))
-                  (sound_of M job.heartbeat job.forks (RECORDS_PER_WORKER * job.workers) job.workers out (first task)
-                      (first_sound M job.heartbeat (RECORDS_PER_WORKER * job.workers) job.forks job.workers out task some_of refl refl refl owes))))
+      (subst (λ w. Sound M job.heartbeat job.forks (RECORDS_PER_WORKER * job.workers) w out (stands (this task))) (sym r.workers)
+      (subst (λ c. Sound M job.heartbeat job.forks (RECORDS_PER_WORKER * job.workers) job.workers out c) (sym (first_stands task))
+      (sound_of M job.heartbeat job.forks (RECORDS_PER_WORKER * job.workers) job.workers out (first task)
+      (first_sound M job.heartbeat (RECORDS_PER_WORKER * job.workers) job.forks job.workers out task some_of refl refl refl owes))))

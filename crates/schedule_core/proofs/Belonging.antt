@@ -49,7 +49,7 @@ module _ (code : Listing) where
     sides_belong : (rest : RestState) (p q : Side) (both : Merged State Ending) (i j : ℕ) → MergesSides code rest p q both → SeatBelongs code (merged_seat both)
     sides_belong rest p q both i j m =
         subst (λ z. SeatBelongs code (merged_seat z)) m.is
-            (joined_belongs m.joined (subst (IsJoinedOf code) m.merge.gives (joined_of_code code rest p q is_code m.merge.rest_belongs m.merge.left_belongs m.merge.right_belongs)))
+        (joined_belongs m.joined (subst (IsJoinedOf code) m.merge.gives (joined_of_code code rest p q is_code m.merge.rest_belongs m.merge.left_belongs m.merge.right_belongs)))
 
     merge_belongs : (rest : RestState) (p q : Ending) (both : Merged State Ending) → MergesTo code rest p q both → SeatBelongs code (merged_seat both)
     merge_belongs rest (ending.At i Left p) (ending.At j Right q) both m = sides_belong rest p q both i j m

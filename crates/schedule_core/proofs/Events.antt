@@ -93,9 +93,9 @@ module _ (s : Standing) (w : ℕ) (lt : w < length s.workers) where
       let x : Worker = record { seat = seat.Running task true; beats = one_more (worker_at ws w).beats } in
       ap (λ (f : Seats). record (stands (diverted_on (counted s w) w task)) { seats = f }) (seats_put ws w x lt1)
       ∙ (ap (λ (b : ℕ → ℕ). record (stands s) { seats = put (λ v. seat_of (worker_at ws v).seat) w (core.running task true); beats = b; instructions = one_more s.instructions })
-          (beats_put ws w x lt1 ∙ ap (λ (f : ℕ → ℕ). put f w (one_more (f w))) (beats_stay s.workers w seat.Resting lt))
+      (beats_put ws w x lt1 ∙ ap (λ (f : ℕ → ℕ). put f w (one_more (f w))) (beats_stay s.workers w seat.Resting lt))
       ∙ ap (λ (f : Seats). record (stands s) { seats = f; beats = put (stands s).beats w (one_more ((stands s).beats w)); instructions = one_more s.instructions })
-          (ap (λ (f : Seats). put f w (core.running task true)) (seats_put s.workers w (record { seat = seat.Resting; beats = (worker_at s.workers w).beats }) lt) ∙ seats_twice (core.running task true)))
+      (ap (λ (f : Seats). put f w (core.running task true)) (seats_put s.workers w (record { seat = seat.Resting; beats = (worker_at s.workers w).beats }) lt) ∙ seats_twice (core.running task true)))
 
   given : (task : State) (o : Option ℕ) → LeastFree (length s.cells) (stands s).cells o → stands (given_on (counted s w) w task o) ≡ core.given (stands s) w (answered o task) o
   given task None ch = ap (λ (c : Conf). record c { skipped = one_more s.skipped }) (ran (seat.Running (answered None task) false))
@@ -154,8 +154,8 @@ module _ (s : Standing) (w : ℕ) (lt : w < length s.workers) where
     open_at : (k : ℕ) (l c : State) (r : RestState) → (worker_at s.workers w).seat ≡ seat.Forked k l c r → k < length s.cells → Steps code s (event.Open w) (opened s w (seat.Forked k l c r))
     open_at k l c r q lk = at (event.Open w) (opened s w (seat.Forked k l c r)) _
         (ap (λ (z : Conf). record z { order = s.order ++ k ∷ []; tasks = one_more s.tasks })
-            (stands_cell (with_seat (emptied s w) w (seat.Running l false)) k (cell.Opened r (Some c) None None) lk
-            ∙ ap (λ (z : Conf). record z { cells = put z.cells k (core.opened r (Some c) None None) }) (again (seat.Running l false))))
+        (stands_cell (with_seat (emptied s w) w (seat.Running l false)) k (cell.Opened r (Some c) None None) lk
+        ∙ ap (λ (z : Conf). record z { cells = put z.cells k (core.opened r (Some c) None None) }) (again (seat.Running l false))))
         (core.opens w k l c r lt lk (ap seat_of q))
 
     open_gives : (x : Seat) (new : Standing) → (worker_at s.workers w).seat ≡ x → has_forked (length s.cells) x ≡ true → new ≡ opened s w x → Gives code s (event.Open w) (Ok new)
@@ -228,12 +228,12 @@ module _ (s : Standing) (w : ℕ) (lt : w < length s.workers) where
         let t0 = with_cell (emptied s w) k cell.Free in
         let t1 = with_cell t0 k both.0 in
         let put_cell : stands t1 ≡ record (stands t0) { cells = put (stands t0).cells k (cell_of k both.0) } = ⊎_elim
-            (λ (l : k < length s.cells). stands_cell t0 k both.0 (subst (λ n. k < n) (sym (length-set s.cells k cell.Free)) l))
-            (λ (f : cell_of k both.0 ≡ core.free). ⊎_elim
-                (λ (l : k < length t0.cells). stands_cell t0 k both.0 l)
-                (λ (l : length t0.cells ≤ k). beyond t0 k both.0 l f)
-                (cases_lt k (length t0.cells)))
-            u in
+        (λ (l : k < length s.cells). stands_cell t0 k both.0 (subst (λ n. k < n) (sym (length-set s.cells k cell.Free)) l))
+        (λ (f : cell_of k both.0 ≡ core.free). ⊎_elim
+        (λ (l : k < length t0.cells). stands_cell t0 k both.0 l)
+        (λ (l : length t0.cells ≤ k). beyond t0 k both.0 l f)
+        (cases_lt k (length t0.cells)))
+        u in
         stands_seat t1 w both.1 lt1
         ∙ (ap (λ (z : Conf). record z { seats = put z.seats w (seat_of both.1) }) put_cell
         ∙ (ap (λ (z : Conf). record z { seats = put z.seats w (seat_of both.1); cells = put z.cells k (cell_of k both.0) }) (stands_free (emptied s w) k)
@@ -258,11 +258,11 @@ module _ (s : Standing) (w : ℕ) (lt : w < length s.workers) where
     arrive_at k Left o q =
         let m = left_meets k o (cell_at s.cells k) in
         at (event.Arrive w) (met_at s w k (met_left w k o (cell_at s.cells k))) _ (meet_stands k (met_left w k o (cell_at s.cells k)) (place_left k o) ∙ to_moved k _ _ _ _ m.0 m.1)
-            (core.arrives_left w k (ending.At k Left o) lt (ap seat_of q) refl)
+        (core.arrives_left w k (ending.At k Left o) lt (ap seat_of q) refl)
     arrive_at k Right o q =
         let m = right_meets k o (cell_at s.cells k) in
         at (event.Arrive w) (met_at s w k (met_right w k o (cell_at s.cells k))) _ (meet_stands k (met_right w k o (cell_at s.cells k)) (place_right k o) ∙ to_moved k _ _ _ _ m.0 m.1)
-            (core.arrives_right w k (ending.At k Right o) lt (ap seat_of q) refl)
+        (core.arrives_right w k (ending.At k Right o) lt (ap seat_of q) refl)
 
     arrive_gives : (x : Seat) (new : Standing) → (worker_at s.workers w).seat ≡ x → comes_to_record x ≡ true → new ≡ arrived s w x → Gives code s (event.Arrive w) (Ok new)
     arrive_gives seat.Resting new q r is = absurd (cc)
@@ -293,14 +293,14 @@ module _ (s : Standing) (w : ℕ) (lt : w < length s.workers) where
         let both = joined code r p q in
         let x = effects.merged_seat both in
         at (event.Free w) (freed_of s w code k (cell.Met v r p q)) _
-            (ap (λ (z : Conf). record z { order = without k s.order })
-                (stands_seat (with_cell (emptied s w) k cell.Free) w x lt1
-                ∙ (ap (λ (z : Conf). record z { seats = put z.seats w (seat_of x) }) (stands_cell (emptied s w) k cell.Free lk)
-                ∙ (ap (λ (z : Conf). record z { seats = put z.seats w (seat_of x); cells = put z.cells k core.free }) empty_stands
-                ∙ (ap (λ (f : Seats). record (stands s) { seats = f; cells = put (stands s).cells k core.free }) (seats_twice (seat_of x))
-                ∙ ap (λ (y : core.Seat State RestState Ending). record (stands s) { seats = put (stands s).seats w y; cells = put (stands s).cells k core.free }) (merged_is both))))))
-            (core.frees w k v r (ending.At k Left p) (ending.At k Right q) (merged_of both) lt (ap seat_of sq) (ap (cell_of k) cq)
-                (record { joined = both; merge = record { sides = m.sides; rest_belongs = m.rest_belongs; left_belongs = m.left_belongs; right_belongs = m.right_belongs; gives = refl }; is = refl }))
+        (ap (λ (z : Conf). record z { order = without k s.order })
+        (stands_seat (with_cell (emptied s w) k cell.Free) w x lt1
+        ∙ (ap (λ (z : Conf). record z { seats = put z.seats w (seat_of x) }) (stands_cell (emptied s w) k cell.Free lk)
+        ∙ (ap (λ (z : Conf). record z { seats = put z.seats w (seat_of x); cells = put z.cells k core.free }) empty_stands
+        ∙ (ap (λ (f : Seats). record (stands s) { seats = f; cells = put (stands s).cells k core.free }) (seats_twice (seat_of x))
+        ∙ ap (λ (y : core.Seat State RestState Ending). record (stands s) { seats = put (stands s).seats w y; cells = put (stands s).cells k core.free }) (merged_is both))))))
+        (core.frees w k v r (ending.At k Left p) (ending.At k Right q) (merged_of both) lt (ap seat_of sq) (ap (cell_of k) cq)
+        (record { joined = both; merge = record { sides = m.sides; rest_belongs = m.rest_belongs; left_belongs = m.left_belongs; right_belongs = m.right_belongs; gives = refl }; is = refl }))
 
     free_cell : (k : ℕ) (x : Cell) (new : Standing) → (worker_at s.workers w).seat ≡ seat.Holding k → cell_at s.cells k ≡ x → is_met x ≡ true → CellCanMerge code x → new ≡ freed_of s w code k x → Gives code s (event.Free w) (Ok new)
     free_cell k cell.Free new sq cq r m is = absurd (cc)

@@ -30,7 +30,9 @@ module _ {T R E : Type 0} (M : Machine T R E) (H K N W : ℕ) (out : E) where
       let b = total_put W (saved M H) (λ w. resting) 0 (running t false) lt in
       let pe = ap one_there pn in
       record {
-        holder = h; ending = λ x. out; root_is = refl;
+        holder = h;
+        ending = λ x. out;
+        root_is = refl;
         seat_ok = λ i. at_put (λ w. resting) 0 (running t false) (λ y v. SeatOk M h (λ x. out) (λ k. free) y v) i
             (ap h hm ∙ put_here (λ x. nobody) 0 (by_seat 0), ow, subst (IsPending M (λ k. free) 0) (sym pn) tt) (λ ne. tt);
         cell_ok = λ k. (put_else (λ x. nobody) 0 (by_seat 0) (left k) (λ q. omega (arith, q)), put_else (λ x. nobody) 0 (by_seat 0) (right k) (λ q. omega (arith, q)));
@@ -43,7 +45,9 @@ module _ {T R E : Type 0} (M : Machine T R E) (H K N W : ℕ) (out : E) where
         beyond = λ k le. refl;
         order = record { listed = λ k a. absurd a; is_open = λ k a. absurd (omega (arith, a)); once = tt; below = λ k j u. ⊎_elim (λ (q : 0 ≡ left j). absurd (omega (arith, q))) (λ (q : 0 ≡ right j). absurd (omega (arith, q))) u };
         allowed = λ w. omega arith;
-        beats_ok = omega (arith, a, z, pe); saved_ok = inl (omega (arith, b, z, cr)) }
+        beats_ok = omega (arith, a, z, pe);
+        saved_ok = inl (omega (arith, b, z, cr));
+      }
 
 module _ {T R E : Type 0} (M : Machine T R E) (H K N W : ℕ) (L : Lawful M H K) (room : W * N ≤ top) (out : E) where
   asked : (c : Config T R E) (a : Bool) (w : ℕ) (t : T) (d : Bool) (f : Option ℕ → T) (o : Option ℕ) → View M H N K W out c → w < W → c.seats w ≡ running t d → M.turn a t ≡ Rattle.schedule_core.specs.Machine.Asks f → AnyFree K c.cells o → View M H N K W out (given c w (f o) o)
@@ -97,11 +101,11 @@ module _ {T R E : Type 0} (M : Machine T R E) (H K N W : ℕ) (out : E) (c : Con
   no_open (suc n) k h lt op =
       let hk = rest_held k (c.cells k) op (s.cell_ok k) in
       ⊎_elim
-        (λ (q : kept_of M (c.cells k) ≡ 0). record_nobody k hk (ap s.holder q ∙ h))
-        (λ (t : (j : ℕ) × ((kept_of M (c.cells k) ≡ left j) ⊎ (kept_of M (c.cells k) ≡ right j))).
-            let a = s.order.below k t.0 t.1 in
-            no_open n t.0 h (omega (arith, a, lt)) (open_by t.0 (c.cells t.0) (kept_of M (c.cells k)) (s.cell_ok t.0) t.1 (λ z. record_nobody k hk z)))
-        (end_cases (kept_of M (c.cells k)))
+      (λ (q : kept_of M (c.cells k) ≡ 0). record_nobody k hk (ap s.holder q ∙ h))
+      (λ (t : (j : ℕ) × ((kept_of M (c.cells k) ≡ left j) ⊎ (kept_of M (c.cells k) ≡ right j))).
+      let a = s.order.below k t.0 t.1 in
+      no_open n t.0 h (omega (arith, a, lt)) (open_by t.0 (c.cells t.0) (kept_of M (c.cells k)) (s.cell_ok t.0) t.1 (λ z. record_nobody k hk z)))
+      (end_cases (kept_of M (c.cells k)))
 
   none_open : (k : ℕ) → s.holder 0 ≡ nobody → IsOpen (c.cells k) → ⊥
   none_open k h op = no_open (suc (place c.order k)) k h (omega arith) op
@@ -132,5 +136,9 @@ module _ {T R E : Type 0} (M : Machine T R E) (H K N W : ℕ) (out : E) (c : Con
       let t = total_bound W N c.beats s.allowed in
       let m = mul-le-mul_right {m = c.tasks} {n = W * N} H (omega (arith, b, t)) in
       record {
-        owed = r.0; closed = λ k op. none_open k r.1 op; rest = rest; beats = omega (arith, a, z, b);
-        paid = ⊎_elim (λ (x : c.tasks * H + total W (λ w. saved M H (c.seats w)) ≤ c.instructions). omega (arith, x)) (λ (x : c.instructions ≡ top). omega (arith, x, m, le)) s.saved_ok }
+        owed = r.0;
+        closed = λ k op. none_open k r.1 op;
+        rest = rest;
+        beats = omega (arith, a, z, b);
+        paid = ⊎_elim (λ (x : c.tasks * H + total W (λ w. saved M H (c.seats w)) ≤ c.instructions). omega (arith, x)) (λ (x : c.instructions ≡ top). omega (arith, x, m, le)) s.saved_ok;
+      }

@@ -76,45 +76,50 @@ module _ {T R E : Type 0} (M : Machine T R E) (h h' : ℕ → Holder) (e : ℕ �
   pub root_frame : (out : E) (o : Option E) → (h' 0 ≡ nobody → h 0 ≡ nobody) → RootOk M h e out o → RootOk M h' e out o
   root_frame out None b r = λ q. r (b q)
   root_frame out (Some x) b r = (r.0, still_nobody 0 (λ q. omega (arith, q)) (λ q. omega (arith, q)) r.1)
+
 -- ---- the order of open records
 
 module _ {T R E : Type 0} (M : Machine T R E) (cells : ℕ → Cell T R E) (xs : List ℕ) (ord : Order M cells xs) (k : ℕ) (x : Cell T R E) where
   -- a record that stays open or stays closed, and keeps the same end
   pub order_same : (IsOpen x → IsOpen (cells k)) → (IsOpen (cells k) → IsOpen x) → kept_of M x ≡ kept_of M (cells k) → Order M (put cells k x) xs
   order_same f g q = record {
-      listed = λ j. at_put cells k x (λ y z. IsOpen z → 0 < place xs y) j (λ o. ord.listed k (f o)) (λ ne. ord.listed j);
-      is_open = λ j. at_put cells k x (λ y z. 0 < place xs y → IsOpen z) j (λ o. g (ord.is_open k o)) (λ ne. ord.is_open j);
-      once = ord.once;
-      below = λ i j. at_put cells k x (λ y z. KeepsEndOf M z j → place xs j < place xs y) i
-          (λ u. ord.below k j (⊎_elim (λ z. inl (sym q ∙ z)) (λ z. inr (sym q ∙ z)) u)) (λ ne. ord.below i j) }
+    listed = λ j. at_put cells k x (λ y z. IsOpen z → 0 < place xs y) j (λ o. ord.listed k (f o)) (λ ne. ord.listed j);
+    is_open = λ j. at_put cells k x (λ y z. 0 < place xs y → IsOpen z) j (λ o. g (ord.is_open k o)) (λ ne. ord.is_open j);
+    once = ord.once;
+    below = λ i j. at_put cells k x (λ y z. KeepsEndOf M z j → place xs j < place xs y) i
+        (λ u. ord.below k j (⊎_elim (λ z. inl (sym q ∙ z)) (λ z. inr (sym q ∙ z)) u)) (λ ne. ord.below i j);
+  }
 
   -- a record that is freed
   pub order_free : (IsOpen x → ⊥) → kept_of M x ≡ 0 → Order M (put cells k x) (without k xs)
   order_free no_open q = record {
-      listed = λ j. at_put cells k x (λ y z. IsOpen z → 0 < place (without k xs) y) j (λ o. absurd (no_open o)) (λ ne o. without_there xs k j ne (ord.listed j o));
-      is_open = λ j. at_put cells k x (λ y z. 0 < place (without k xs) y → IsOpen z) j
-          (λ o. let a = place_without xs k in absurd (omega (arith, a, o)))
-          (λ ne o. ord.is_open j (⊎_elim (λ (z : place xs j ≡ 0). let a = without_absent xs k j z in absurd (omega (arith, a, o))) (λ (z : place xs j ≡ 0 → ⊥). omega (arith, z)) (cases_eq (place xs j) 0)));
-      once = once_without xs k ord.once;
-      below = λ i j. at_put cells k x (λ y z. KeepsEndOf M z j → place (without k xs) j < place (without k xs) y) i
-          (λ u. ⊎_elim (λ z. absurd (omega (arith, z, q))) (λ z. absurd (omega (arith, z, q))) u)
-          (λ ne u. without_below xs k j i ne (ord.below i j u)) }
+    listed = λ j. at_put cells k x (λ y z. IsOpen z → 0 < place (without k xs) y) j (λ o. absurd (no_open o)) (λ ne o. without_there xs k j ne (ord.listed j o));
+    is_open = λ j. at_put cells k x (λ y z. 0 < place (without k xs) y → IsOpen z) j
+        (λ o. let a = place_without xs k in absurd (omega (arith, a, o)))
+        (λ ne o. ord.is_open j (⊎_elim (λ (z : place xs j ≡ 0). let a = without_absent xs k j z in absurd (omega (arith, a, o))) (λ (z : place xs j ≡ 0 → ⊥). omega (arith, z)) (cases_eq (place xs j) 0)));
+    once = once_without xs k ord.once;
+    below = λ i j. at_put cells k x (λ y z. KeepsEndOf M z j → place (without k xs) j < place (without k xs) y) i
+        (λ u. ⊎_elim (λ z. absurd (omega (arith, z, q))) (λ z. absurd (omega (arith, z, q))) u)
+        (λ ne u. without_below xs k j i ne (ord.below i j u));
+  }
 
   -- a record that is opened: its rest keeps no end of it, and none of its ends was kept
   pub order_open : (IsOpen (cells k) → ⊥) → IsOpen x → ((j : ℕ) → KeepsEndOf M x j → j ≡ k → ⊥) → ((i : ℕ) → KeepsEndOf M (cells i) k → ⊥) → Order M (put cells k x) (xs ++ k ∷ [])
   order_open closed op own none = record {
-      listed = λ j. at_put cells k x (λ y z. IsOpen z → 0 < place (xs ++ k ∷ []) y) j (λ o. omega (arith, last)) (λ ne o. let a = place_other xs k j (λ q. ne (sym q)) in let b = ord.listed j o in omega (arith, a, b));
-      is_open = λ j. at_put cells k x (λ y z. 0 < place (xs ++ k ∷ []) y → IsOpen z) j (λ o. op) (λ ne o. let a = place_other xs k j (λ q. ne (sym q)) in ord.is_open j (omega (arith, a, o)));
-      once = once_more xs k new ord.once;
-      below = λ i j. at_put cells k x (λ y z. KeepsEndOf M z j → place (xs ++ k ∷ []) j < place (xs ++ k ∷ []) y) i
-          (λ u. let a = place_other xs k j (λ q. own j u (sym q)) in let b = place_short xs j in omega (arith, a, b, last))
-          (λ ne u. ⊎_elim
-              (λ (q : j ≡ k). absurd (none i (subst (KeepsEndOf M (cells i)) q u)))
-              (λ (nj : j ≡ k → ⊥). let a = place_other xs k j (λ q. nj (sym q)) in let b = place_other xs k i (λ q. ne (sym q)) in let d = ord.below i j u in omega (arith, a, b, d))
-              (cases_eq j k)) }
+    listed = λ j. at_put cells k x (λ y z. IsOpen z → 0 < place (xs ++ k ∷ []) y) j (λ o. omega (arith, last)) (λ ne o. let a = place_other xs k j (λ q. ne (sym q)) in let b = ord.listed j o in omega (arith, a, b));
+    is_open = λ j. at_put cells k x (λ y z. 0 < place (xs ++ k ∷ []) y → IsOpen z) j (λ o. op) (λ ne o. let a = place_other xs k j (λ q. ne (sym q)) in ord.is_open j (omega (arith, a, o)));
+    once = once_more xs k new ord.once;
+    below = λ i j. at_put cells k x (λ y z. KeepsEndOf M z j → place (xs ++ k ∷ []) j < place (xs ++ k ∷ []) y) i
+        (λ u. let a = place_other xs k j (λ q. own j u (sym q)) in let b = place_short xs j in omega (arith, a, b, last))
+        (λ ne u. ⊎_elim
+        (λ (q : j ≡ k). absurd (none i (subst (KeepsEndOf M (cells i)) q u)))
+        (λ (nj : j ≡ k → ⊥). let a = place_other xs k j (λ q. nj (sym q)) in let b = place_other xs k i (λ q. ne (sym q)) in let d = ord.below i j u in omega (arith, a, b, d))
+        (cases_eq j k));
+  }
     where
       new : place xs k ≡ 0
       new = ⊎_elim (λ (z : place xs k ≡ 0). z) (λ (z : place xs k ≡ 0 → ⊥). absurd (closed (ord.is_open k (omega (arith, z))))) (cases_eq (place xs k) 0)
+
       last : place (xs ++ k ∷ []) k ≡ suc (length xs)
       last = place_last xs k new
 

@@ -66,12 +66,22 @@ module _ (code : Listing) (heartbeat : ℕ) where
   keeps_by allowed task (machine.Goes after) k q = (ap (λ g. end_number (end_of g)) k.goal, ap number_of k.pending, let c = k.credit in omega (arith, c))
   keeps_by allowed task (machine.Beats diverted) k q = (allowed_for allowed task diverted q, (ap (λ g. end_number (end_of g)) k.goal, ap number_of k.pending, let c = k.credit in omega (arith, c)))
   keeps_by allowed task (machine.Ends e) k q = (ap end_number k.place, ap number_of k.pending)
-  keeps_by allowed task (machine.Asks waits) k q = (ap number_of k.none, λ o.
-      let a = answer_keeps o waits k.waiting k.pending in
-      (ap (λ g. end_number (end_of g)) (a.goal ∙ k.goal), a.pending, let c = k.credit in let b = ap (credit heartbeat) a.beat in omega (arith, c, b)))
-  keeps_by allowed task (machine.Forks parts) k q =
-      (ap number_of k.pending ∙ ap Some (sym k.rec), ap (λ g. end_number (end_of g)) k.rest_goal, ap end_number k.left_end, ap end_number k.child_end,
-       ap number_of k.left_pending, ap number_of k.child_pending, let c = k.left_credit in omega (arith, c), k.child_credit)
+  keeps_by allowed task (machine.Asks waits) k q = (
+    ap number_of k.none,
+    λ o.
+        let a = answer_keeps o waits k.waiting k.pending in
+        (ap (λ g. end_number (end_of g)) (a.goal ∙ k.goal), a.pending, let c = k.credit in let b = ap (credit heartbeat) a.beat in omega (arith, c, b)),
+  )
+  keeps_by allowed task (machine.Forks parts) k q = (
+    ap number_of k.pending ∙ ap Some (sym k.rec),
+    ap (λ g. end_number (end_of g)) k.rest_goal,
+    ap end_number k.left_end,
+    ap end_number k.child_end,
+    ap number_of k.left_pending,
+    ap number_of k.child_pending,
+    let c = k.left_credit in omega (arith, c),
+    k.child_credit,
+  )
   keeps_by allowed task (machine.Stuck fault) k q = tt
   keeps_by allowed task machine.Strays k q = tt
 
@@ -118,13 +128,23 @@ module _ (code : Listing) (heartbeat K : ℕ) (is_code : IsCode code.tables code
     owed_by (machine.Goes after) o k n = o
     owed_by (machine.Beats diverted) o k n = (o.0, o.1.diverted_owes)
     owed_by (machine.Ends other) o k n = o
-    owed_by (machine.Asks waits) o k n = (o.0, o.1 None tt, λ j is.
-        o.1 (Some j) (other_record waits.goal j (let lt = is.0 in omega (arith, lt, few))
-            (λ q. is.1 (ap (λ g. end_number (end_of g)) (sym k.goal) ∙ q)) (λ q. is.2 (ap (λ g. end_number (end_of g)) (sym k.goal) ∙ q))))
-    owed_by (machine.Forks parts) o k n = (o.0, record {
-        p = ending.At parts.rec Left o.1.left; q = ending.At parts.rec Right o.1.right;
-        on_owes = o.1.left_owes; child_owes = o.1.child_owes;
-        merged = record { both = merged_of o.1.both; merges = record { joined = o.1.both; merge = o.1.merged; is = refl }; owes = joined_owed e o.1.both o.1.joined_owes } })
+    owed_by (machine.Asks waits) o k n = (
+      o.0,
+      o.1 None tt,
+      λ j is.
+          o.1 (Some j) (other_record waits.goal j (let lt = is.0 in omega (arith, lt, few))
+          (λ q. is.1 (ap (λ g. end_number (end_of g)) (sym k.goal) ∙ q)) (λ q. is.2 (ap (λ g. end_number (end_of g)) (sym k.goal) ∙ q))),
+    )
+    owed_by (machine.Forks parts) o k n = (
+      o.0,
+      record {
+        p = ending.At parts.rec Left o.1.left;
+        q = ending.At parts.rec Right o.1.right;
+        on_owes = o.1.left_owes;
+        child_owes = o.1.child_owes;
+        merged = record { both = merged_of o.1.both; merges = record { joined = o.1.both; merge = o.1.merged; is = refl }; owes = joined_owed e o.1.both o.1.joined_owes };
+      },
+    )
     owed_by (machine.Stuck fault) o k n = o
     owed_by machine.Strays o k n = o
 
@@ -146,7 +166,8 @@ module _ (code : Listing) (heartbeat K : ℕ) (is_code : IsCode code.tables code
 
   pub lawful : Lawful (tasks code heartbeat) heartbeat K
   lawful = record {
-      invert = λ allowed due task e o. owed_at due task e allowed o;
-      keeps = λ allowed due task e o. keeps_at code heartbeat allowed task;
-      merged = λ rest p q both m. merges_keep code heartbeat rest p q both m;
-      one_merge = λ rest p q both other a b. one_merge code rest p q both other a b }
+    invert = λ allowed due task e o. owed_at due task e allowed o;
+    keeps = λ allowed due task e o. keeps_at code heartbeat allowed task;
+    merged = λ rest p q both m. merges_keep code heartbeat rest p q both m;
+    one_merge = λ rest p q both other a b. one_merge code rest p q both other a b;
+  }

@@ -48,12 +48,21 @@ module _ {T R E : Type 0} (M : Machine T R E) (H K N W : ℕ) (out : E) (L : Law
       → ((i : ℕ) → b i ≤ N) → total W b ≡ c.tasks + sk + total W (λ i. owing M H (put c.seats w new i)) → Paid (c.tasks * H + total W (λ i. saved M H (put c.seats w new i))) n
       → View M H N K W out (record { seats = put c.seats w new; cells = c.cells; order = c.order; outcome = c.outcome; beats = b; tasks = c.tasks; skipped = sk; instructions = n })
   reseat w new old b sk n qo sh ta ho ok al cb cs = record {
-      has_seat = λ y i. at_put c.seats w new (λ z v. s.holder y ≡ by_seat z → SeatHas M v y) i (λ q. sh y (subst (λ v. SeatHas M v y) qo (s.has_seat y w q))) (λ ne q. s.has_seat y i q);
-      has_record = s.has_record;
-      in_hand = λ j. hand_frame w j new old qo (ta j) (ho j) (c.cells j) (s.in_hand j);
-      holder = s.holder; ending = s.ending; root_is = s.root_is;
-      seat_ok = λ i. at_put c.seats w new (λ y z. SeatOk M s.holder s.ending c.cells y z) i ok (λ ne. s.seat_ok i);
-      cell_ok = s.cell_ok; root_ok = s.root_ok; beyond = s.beyond; order = s.order; allowed = al; beats_ok = cb; saved_ok = cs }
+    has_seat = λ y i. at_put c.seats w new (λ z v. s.holder y ≡ by_seat z → SeatHas M v y) i (λ q. sh y (subst (λ v. SeatHas M v y) qo (s.has_seat y w q))) (λ ne q. s.has_seat y i q);
+    has_record = s.has_record;
+    in_hand = λ j. hand_frame w j new old qo (ta j) (ho j) (c.cells j) (s.in_hand j);
+    holder = s.holder;
+    ending = s.ending;
+    root_is = s.root_is;
+    seat_ok = λ i. at_put c.seats w new (λ y z. SeatOk M s.holder s.ending c.cells y z) i ok (λ ne. s.seat_ok i);
+    cell_ok = s.cell_ok;
+    root_ok = s.root_ok;
+    beyond = s.beyond;
+    order = s.order;
+    allowed = al;
+    beats_ok = cb;
+    saved_ok = cs;
+  }
 
   -- an event of worker w at record k
   rebuild : (w k : ℕ) (new old : Seat T R E) (x : Cell T R E) (h : ℕ → Holder) (xs : List ℕ) (tk sk n : ℕ) → k < K → c.seats w ≡ old
@@ -65,15 +74,21 @@ module _ {T R E : Type 0} (M : Machine T R E) (H K N W : ℕ) (out : E) (L : Law
       → total W c.beats ≡ tk + sk + total W (λ i. owing M H (put c.seats w new i)) → Paid (tk * H + total W (λ i. saved M H (put c.seats w new i))) n
       → View M H N K W out (record { seats = put c.seats w new; cells = put c.cells k x; order = xs; outcome = c.outcome; beats = c.beats; tasks = tk; skipped = sk; instructions = n })
   rebuild w k new old x h xs tk sk n lk qo bk hs hc hx ta ho st hand ok okc ord cb cs = record {
-      has_seat = λ y i. at_put c.seats w new (λ z v. h y ≡ by_seat z → SeatHas M v y) i (λ q. hs y q) (λ ne q. s.has_seat y i (sym (bk y (subst (Untouched w k y) (sym q) ne)) ∙ q));
-      has_record = λ y j. at_put c.cells k x (λ z v. h y ≡ by_record z → CellHas M z v y) j (λ q. hc y q) (λ ne q. s.has_record y j (sym (bk y (subst (Untouched w k y) (sym q) ne)) ∙ q));
-      in_hand = λ j. at_put c.cells k x (λ z v. HandOk M (put c.seats w new) z v) j hx (λ ne. hand_frame w j new old qo (ta j ne) (ho j ne) (c.cells j) (s.in_hand j));
-      holder = h; ending = s.ending; root_is = s.root_is;
-      seat_ok = λ i. at_put c.seats w new (λ y z. SeatOk M h s.ending (put c.cells k x) y z) i ok (λ ne. seat_frame M s.holder h s.ending w k st (λ y n0 n1 n2 q. sym (bk y (subst (Untouched w k y) (sym q) (n1, n2))) ∙ q) c.cells x i (c.seats i) ne (hand i ne) (s.seat_ok i));
-      cell_ok = λ j. at_put c.cells k x (λ y z. CellOk M h s.ending y z) j okc (λ ne. cell_frame M s.holder h s.ending w k st (λ y n0 n1 n2 q. sym (bk y (subst (Untouched w k y) (sym q) (n1, n2))) ∙ q) j (c.cells j) ne (s.cell_ok j));
-      root_ok = root_frame M s.holder h s.ending w k st (λ y n0 n1 n2 q. sym (bk y (subst (Untouched w k y) (sym q) (n1, n2))) ∙ q) out c.outcome (λ q. sym (bk 0 (subst (Untouched w k 0) (sym q) ((λ z. omega (arith, z)), (λ z. omega (arith, z))))) ∙ q) s.root_ok;
-      beyond = λ j le. at_put c.cells k x (λ y z. K ≤ y → z ≡ free) j (λ l. absurd (omega (arith, lk, l))) (λ ne. s.beyond j) le;
-      order = ord; allowed = s.allowed; beats_ok = cb; saved_ok = cs }
+    has_seat = λ y i. at_put c.seats w new (λ z v. h y ≡ by_seat z → SeatHas M v y) i (λ q. hs y q) (λ ne q. s.has_seat y i (sym (bk y (subst (Untouched w k y) (sym q) ne)) ∙ q));
+    has_record = λ y j. at_put c.cells k x (λ z v. h y ≡ by_record z → CellHas M z v y) j (λ q. hc y q) (λ ne q. s.has_record y j (sym (bk y (subst (Untouched w k y) (sym q) ne)) ∙ q));
+    in_hand = λ j. at_put c.cells k x (λ z v. HandOk M (put c.seats w new) z v) j hx (λ ne. hand_frame w j new old qo (ta j ne) (ho j ne) (c.cells j) (s.in_hand j));
+    holder = h;
+    ending = s.ending;
+    root_is = s.root_is;
+    seat_ok = λ i. at_put c.seats w new (λ y z. SeatOk M h s.ending (put c.cells k x) y z) i ok (λ ne. seat_frame M s.holder h s.ending w k st (λ y n0 n1 n2 q. sym (bk y (subst (Untouched w k y) (sym q) (n1, n2))) ∙ q) c.cells x i (c.seats i) ne (hand i ne) (s.seat_ok i));
+    cell_ok = λ j. at_put c.cells k x (λ y z. CellOk M h s.ending y z) j okc (λ ne. cell_frame M s.holder h s.ending w k st (λ y n0 n1 n2 q. sym (bk y (subst (Untouched w k y) (sym q) (n1, n2))) ∙ q) j (c.cells j) ne (s.cell_ok j));
+    root_ok = root_frame M s.holder h s.ending w k st (λ y n0 n1 n2 q. sym (bk y (subst (Untouched w k y) (sym q) (n1, n2))) ∙ q) out c.outcome (λ q. sym (bk 0 (subst (Untouched w k 0) (sym q) ((λ z. omega (arith, z)), (λ z. omega (arith, z))))) ∙ q) s.root_ok;
+    beyond = λ j le. at_put c.cells k x (λ y z. K ≤ y → z ≡ free) j (λ l. absurd (omega (arith, lk, l))) (λ ne. s.beyond j) le;
+    order = ord;
+    allowed = s.allowed;
+    beats_ok = cb;
+    saved_ok = cs;
+  }
 
   turn_of : (a d : Bool) (t : T) (e : E) (x : Turn T R E) → M.turn a t ≡ x → M.owes d t e → KeepsTurn M H a t x
   turn_of a d t e x st o = subst (KeepsTurn M H a t) st (L.keeps a d t e o)
@@ -109,7 +124,7 @@ module _ {T R E : Type 0} (M : Machine T R E) (H K N W : ℕ) (out : E) (L : Law
       let cr = k.2 in
       let b = s.beats_ok in
       reseat w (running u d) (running t d) c.beats c.skipped (one_more c.instructions) q (λ y a. a ∙ sym k.0) (λ j a. k.1 ∙ a) (λ j a. kind_clash _ _ a (λ z. omega (arith, z))) (same_seat w t u d d k.0 k.1 o v)
-          s.allowed (omega (arith, ow, pe, b)) (step_paid w (running u d) (running t d) lt q (omega (arith, cr)))
+      s.allowed (omega (arith, ow, pe, b)) (step_paid w (running u d) (running t d) lt q (omega (arith, cr)))
 
   pub on_beats : (w : ℕ) (t : T) (d : Bool) (v : T) → w < W → c.seats w ≡ running t d → M.turn (is_allowed N (c.beats w)) t ≡ Beats v → View M H N K W out (diverted c w v)
   on_beats w t d v lt q st =
@@ -121,13 +136,13 @@ module _ {T R E : Type 0} (M : Machine T R E) (H K N W : ℕ) (out : E) (L : Law
       let pe = ap one_there k.1.1 in
       let cr = k.1.2 in
       let b = s.beats_ok in
-            let dd = ap one_if z.0 in
+      let dd = ap one_if z.0 in
       let few = lt_true (c.beats w) N k.0 in
       let wide = mul-le-mul_right {m = 1} {n = W} N (omega (arith, lt)) in
       let bs = counts (c.beats w) (omega (arith, few, wide, room)) in
       let bb = total_put W (λ x. x) c.beats w (one_more (c.beats w)) lt in
       reseat w (running v true) (running t d) (put c.beats w (one_more (c.beats w))) c.skipped (one_more c.instructions) q (λ y a. a ∙ sym k.1.0) (λ j a. k.1.1 ∙ a) (λ j a. kind_clash _ _ a (λ z. omega (arith, z))) (same_seat w t v d true k.1.0 k.1.1 o z.1)
-          (λ i. at_put c.beats w (one_more (c.beats w)) (λ y x. x ≤ N) i (omega (arith, few, bs)) (λ ne. s.allowed i)) (omega (arith, ow, pe, b, bb, bs, dd)) (step_paid w (running v true) (running t d) lt q (omega (arith, cr)))
+      (λ i. at_put c.beats w (one_more (c.beats w)) (λ y x. x ≤ N) i (omega (arith, few, bs)) (λ ne. s.allowed i)) (omega (arith, ow, pe, b, bb, bs, dd)) (step_paid w (running v true) (running t d) lt q (omega (arith, cr)))
 
   pub on_ends : (a : Bool) (w : ℕ) (t : T) (d : Bool) (e : E) → w < W → c.seats w ≡ running t d → M.turn a t ≡ Ends e → View M H N K W out (stepped c w (ended e))
   on_ends a w t d e lt q st =
@@ -139,7 +154,7 @@ module _ {T R E : Type 0} (M : Machine T R E) (H K N W : ℕ) (out : E) (L : Law
       let b = s.beats_ok in
       let dd = ap one_if z.0 in
       reseat w (ended e) (running t d) c.beats c.skipped (one_more c.instructions) q (λ y a. a ∙ sym k.0) (λ j a. none_some (sym k.1 ∙ a)) (λ j a. kind_clash _ _ a (λ z. omega (arith, z))) (ap s.holder k.0 ∙ o.0, z.1 ∙ ap s.ending (sym k.0))
-          s.allowed (omega (arith, ow, pe, b, dd)) (step_paid w (ended e) (running t d) lt q (omega arith))
+      s.allowed (omega (arith, ow, pe, b, dd)) (step_paid w (ended e) (running t d) lt q (omega arith))
 
   pub on_skips : (a : Bool) (w : ℕ) (t : T) (d : Bool) (f : Option ℕ → T) → w < W → c.seats w ≡ running t d → M.turn a t ≡ Asks f → View M H N K W out (given c w (f None) None)
   on_skips a w t d f lt q st =
@@ -156,7 +171,7 @@ module _ {T R E : Type 0} (M : Machine T R E) (H K N W : ℕ) (out : E) (L : Law
       let rl = room_left in
       let sk = counts c.skipped (omega (arith, ow, pe, pf, dd, rl)) in
       reseat w (running (f None) false) (running t d) c.beats (one_more c.skipped) (one_more c.instructions) q (λ y a. a ∙ sym g.0) (λ j a. absurd (none_some (sym k.0 ∙ a))) (λ j a. kind_clash _ _ a (λ z. omega (arith, z))) (same_seat w t (f None) d false g.0 (g.1 ∙ sym k.0) o z.1)
-          s.allowed (omega (arith, ow, pe, pf, b, dd, sk)) (step_paid w (running (f None) false) (running t d) lt q (omega (arith, cr)))
+      s.allowed (omega (arith, ow, pe, pf, b, dd, sk)) (step_paid w (running (f None) false) (running t d) lt q (omega (arith, cr)))
 
   pub on_takes : (a : Bool) (w : ℕ) (t : T) (d : Bool) (f : Option ℕ → T) (k : ℕ) → w < W → c.seats w ≡ running t d → M.turn a t ≡ Asks f → k < K → c.cells k ≡ free
       → View M H N K W out (given c w (f (Some k)) (Some k))
@@ -175,15 +190,15 @@ module _ {T R E : Type 0} (M : Machine T R E) (H K N W : ℕ) (out : E) (L : Law
       let cf = at_cell j free fr in
       let other : IsOther M K (M.home t) j = (jk, (λ y. seat_nobody w o.0 (ap s.holder y ∙ cf.0)), (λ y. seat_nobody w o.0 (ap s.holder y ∙ cf.1))) in
       rebuild w j (running u false) (running t d) (taken w) s.holder c.order c.tasks c.skipped (one_more c.instructions) jk q (back_same w j s.holder)
-          (λ y a. subst (λ v. SeatHas M v y) q (s.has_seat y w a) ∙ sym g.0)
-          (λ y a. subst (λ v. CellHas M j v y) fr (s.has_record y j a))
-          (subst (λ v. SeatTakes M v j) (sym (put_here c.seats w (running u false))) g.1)
-          (λ i ne a. absurd (none_some (sym k.0 ∙ a))) (λ i ne a. kind_clash _ _ a (λ z. omega (arith, z)))
-          (still_same w j s.holder)
-          (λ i ne. subst (NotHand i) (sym fr) tt)
-          (ap s.holder g.0 ∙ o.0, subst (λ x. M.owes false u (s.ending x)) (sym g.0) (z.2 j other), subst (IsPending M (put c.cells j (taken w)) w) (sym g.1) (put_here c.cells j (taken w)))
-          cf (order_same M c.cells c.order s.order j (taken w) (λ a. absurd a) (λ a. subst IsOpen fr a) (sym (ap (kept_of M) fr)))
-          (omega (arith, ow, pe, pf, b, dd)) (step_paid w (running u false) (running t d) lt q (omega (arith, cr)))
+      (λ y a. subst (λ v. SeatHas M v y) q (s.has_seat y w a) ∙ sym g.0)
+      (λ y a. subst (λ v. CellHas M j v y) fr (s.has_record y j a))
+      (subst (λ v. SeatTakes M v j) (sym (put_here c.seats w (running u false))) g.1)
+      (λ i ne a. absurd (none_some (sym k.0 ∙ a))) (λ i ne a. kind_clash _ _ a (λ z. omega (arith, z)))
+      (still_same w j s.holder)
+      (λ i ne. subst (NotHand i) (sym fr) tt)
+      (ap s.holder g.0 ∙ o.0, subst (λ x. M.owes false u (s.ending x)) (sym g.0) (z.2 j other), subst (IsPending M (put c.cells j (taken w)) w) (sym g.1) (put_here c.cells j (taken w)))
+      cf (order_same M c.cells c.order s.order j (taken w) (λ a. absurd a) (λ a. subst IsOpen fr a) (sym (ap (kept_of M) fr)))
+      (omega (arith, ow, pe, pf, b, dd)) (step_paid w (running u false) (running t d) lt q (omega (arith, cr)))
 
   -- a record that is in use is one of the K
   in_range : (k : ℕ) (x : Cell T R E) → c.cells k ≡ x → IsUsed x → k < K
@@ -218,23 +233,23 @@ module _ {T R E : Type 0} (M : Machine T R E) (H K N W : ℕ) (out : E) (L : Law
       let tk = counts c.tasks (omega (arith, ow, pe, rl)) in
       let paid = paid_same (c.tasks * H + total W (λ i. saved M H (c.seats i))) (suc c.tasks * H + total W (λ i. saved M H (put c.seats w (running l false) i))) c.instructions s.saved_ok (omega (arith, sv, mu)) in
       rebuild w k (running l false) (forked k l x r) new h3 (c.order ++ k ∷ []) (one_more c.tasks) c.skipped c.instructions (in_range k (taken w) o.1 tt) q
-          (back_put w k s.holder h2 (back_put w k s.holder h1 (back_put w k s.holder s.holder (back_same w k s.holder) (M.kept r) (by_record k) (λ a. a refl)) (left k) (by_seat w) (λ a. a refl)) (right k) (by_record k) (λ a. a refl))
-          (λ y. at_put h2 (right k) (by_record k) (λ z v. v ≡ by_seat w → z ≡ M.home l) y (λ a. absurd (seat_record w k a refl))
-              (λ n1. at_put h1 (left k) (by_seat w) (λ z v. v ≡ by_seat w → z ≡ M.home l) y (λ a. sym o.2)
-                  (λ n2. at_put s.holder (M.kept r) (by_record k) (λ z v. v ≡ by_seat w → z ≡ M.home l) y (λ a. absurd (seat_record w k a refl))
-                      (λ n3 a. absurd (n3 (subst (λ v. SeatHas M v y) q (s.has_seat y w a)))))))
-          (λ y. at_put h2 (right k) (by_record k) (λ z v. v ≡ by_record k → CellHas M k new z) y (λ a. inr (inr (refl, inl tt)))
-              (λ n1. at_put h1 (left k) (by_seat w) (λ z v. v ≡ by_record k → CellHas M k new z) y (λ a. absurd (seat_record w k refl a))
-                  (λ n2. at_put s.holder (M.kept r) (by_record k) (λ z v. v ≡ by_record k → CellHas M k new z) y (λ a. inl refl)
-                      (λ n3 a. absurd (subst (λ v. CellHas M k v y) o.1 (s.has_record y k a))))))
-          tt (λ j ne a. absurd (ne (sym a))) (λ j ne a. kind_clash _ _ a (λ z. omega (arith, z)))
-          (still_put w k s.holder h2 (still_put w k s.holder h1 (still_put w k s.holder s.holder (still_same w k s.holder) (M.kept r) (by_record k) (mine w k (M.kept r) s.holder o.0)) (left k) (by_seat w) (dead_left w k s.holder ct.0)) (right k) (by_record k) (dead_right w k s.holder ct.1))
-          (λ i ne. subst (NotHand i) (sym o.1) (λ z. ne (sym z)))
-          (ap h3 o.2 ∙ at_left, subst (λ y. M.owes false l (s.ending y)) (sym o.2) o.4, subst (IsPending M (put c.cells k new) w) (sym o.3) tt)
-          ((at_up, o.9), (refl, put_here h2 (right k) (by_record k), o.5, o.6, o.7, o.8), (λ a. seat_nobody w at_left a), (λ a. record_nobody k (put_here h2 (right k) (by_record k)) a))
-          (order_open M c.cells c.order s.order k new (λ a. subst IsOpen o.1 a) tt
-              (λ j u jk. ⊎_elim (λ z. ul (z ∙ ap left jk)) (λ z. ur (z ∙ ap right jk)) u) (λ i u. not_up k i ct.0 ct.1 u))
-          (omega (arith, ow, pe, b, tk)) (subst (λ n. Paid (n * H + total W (λ i. saved M H (put c.seats w (running l false) i))) c.instructions) (sym tk) paid)
+      (back_put w k s.holder h2 (back_put w k s.holder h1 (back_put w k s.holder s.holder (back_same w k s.holder) (M.kept r) (by_record k) (λ a. a refl)) (left k) (by_seat w) (λ a. a refl)) (right k) (by_record k) (λ a. a refl))
+      (λ y. at_put h2 (right k) (by_record k) (λ z v. v ≡ by_seat w → z ≡ M.home l) y (λ a. absurd (seat_record w k a refl))
+      (λ n1. at_put h1 (left k) (by_seat w) (λ z v. v ≡ by_seat w → z ≡ M.home l) y (λ a. sym o.2)
+      (λ n2. at_put s.holder (M.kept r) (by_record k) (λ z v. v ≡ by_seat w → z ≡ M.home l) y (λ a. absurd (seat_record w k a refl))
+      (λ n3 a. absurd (n3 (subst (λ v. SeatHas M v y) q (s.has_seat y w a)))))))
+      (λ y. at_put h2 (right k) (by_record k) (λ z v. v ≡ by_record k → CellHas M k new z) y (λ a. inr (inr (refl, inl tt)))
+      (λ n1. at_put h1 (left k) (by_seat w) (λ z v. v ≡ by_record k → CellHas M k new z) y (λ a. absurd (seat_record w k refl a))
+      (λ n2. at_put s.holder (M.kept r) (by_record k) (λ z v. v ≡ by_record k → CellHas M k new z) y (λ a. inl refl)
+      (λ n3 a. absurd (subst (λ v. CellHas M k v y) o.1 (s.has_record y k a))))))
+      tt (λ j ne a. absurd (ne (sym a))) (λ j ne a. kind_clash _ _ a (λ z. omega (arith, z)))
+      (still_put w k s.holder h2 (still_put w k s.holder h1 (still_put w k s.holder s.holder (still_same w k s.holder) (M.kept r) (by_record k) (mine w k (M.kept r) s.holder o.0)) (left k) (by_seat w) (dead_left w k s.holder ct.0)) (right k) (by_record k) (dead_right w k s.holder ct.1))
+      (λ i ne. subst (NotHand i) (sym o.1) (λ z. ne (sym z)))
+      (ap h3 o.2 ∙ at_left, subst (λ y. M.owes false l (s.ending y)) (sym o.2) o.4, subst (IsPending M (put c.cells k new) w) (sym o.3) tt)
+      ((at_up, o.9), (refl, put_here h2 (right k) (by_record k), o.5, o.6, o.7, o.8), (λ a. seat_nobody w at_left a), (λ a. record_nobody k (put_here h2 (right k) (by_record k)) a))
+      (order_open M c.cells c.order s.order k new (λ a. subst IsOpen o.1 a) tt
+      (λ j u jk. ⊎_elim (λ z. ul (z ∙ ap left jk)) (λ z. ur (z ∙ ap right jk)) u) (λ i u. not_up k i ct.0 ct.1 u))
+      (omega (arith, ow, pe, b, tk)) (subst (λ n. Paid (n * H + total W (λ i. saved M H (put c.seats w (running l false) i))) c.instructions) (sym tk) paid)
 
   pub on_claims : (w k : ℕ) (r : R) (x : T) (p q : Option E) → w < W → c.seats w ≡ resting → c.cells k ≡ opened r (Some x) p q
       → View M H N K W out (moved c w (running x false) k (opened r None p q))
@@ -245,22 +260,22 @@ module _ {T R E : Type 0} (M : Machine T R E) (H K N W : ℕ) (out : E) (L : Law
       let ur : M.kept r ≡ right k → ⊥ = λ z. let a = s.order.below k k (inr (ap (kept_of M) qc ∙ z)) in omega (arith, a) in
       let lr : left k ≡ right k → ⊥ = λ z. omega (arith, z) in
       let ow = owing_put w (running x false) resting lt qs in
-            let pe = ap one_there oc.1.3 in
+      let pe = ap one_there oc.1.3 in
       let cr = oc.1.4 in
       let b = s.beats_ok in
       let sa = s.saved_ok in
       rebuild w k (running x false) resting new h1 c.order c.tasks c.skipped c.instructions (in_range k (opened r (Some x) p q) qc tt) qs
-          (back_put w k s.holder s.holder (back_same w k s.holder) (right k) (by_seat w) (λ a. a refl))
-          (λ y. at_put s.holder (right k) (by_seat w) (λ z v. v ≡ by_seat w → z ≡ M.home x) y (λ a. sym oc.1.2) (λ ne a. absurd (subst (λ v. SeatHas M v y) qs (s.has_seat y w a))))
-          (λ y. at_put s.holder (right k) (by_seat w) (λ z v. v ≡ by_record k → CellHas M k new z) y (λ a. absurd (seat_record w k refl a))
-              (λ ne a. ⊎_elim inl (λ b2. ⊎_elim (λ e2. inr (inl e2)) (λ e2. absurd (ne e2.0)) b2) (subst (λ v. CellHas M k v y) qc (s.has_record y k a))))
-          tt (λ j ne a. absurd a) (λ j ne a. kind_clash _ _ a (λ z. omega (arith, z)))
-          (still_put w k s.holder s.holder (still_same w k s.holder) (right k) (by_seat w) (ours w k (right k) s.holder oc.1.1))
-          (λ i ne. subst (NotHand i) (sym qc) tt)
-          (ap h1 oc.1.2 ∙ put_here s.holder (right k) (by_seat w), subst (λ y. M.owes false x (s.ending y)) (sym oc.1.2) oc.1.5, subst (IsPending M (put c.cells k new) w) (sym oc.1.3) tt)
-          ((put_else s.holder (right k) (by_seat w) (M.kept r) ur ∙ oc.0.0, oc.0.1), tt, side_else k (left k) (right k) (by_seat w) p lr oc.2, subst (SideOk M h1 s.ending k (right k)) (sym oc.1.0) (λ a. seat_nobody w (put_here s.holder (right k) (by_seat w)) a))
-          (order_same M c.cells c.order s.order k new (λ a. subst IsOpen (sym qc) tt) (λ a. tt) (sym (ap (kept_of M) qc)))
-          (omega (arith, ow, pe, b)) (same_paid w (running x false) resting lt qs (omega (arith, cr)))
+      (back_put w k s.holder s.holder (back_same w k s.holder) (right k) (by_seat w) (λ a. a refl))
+      (λ y. at_put s.holder (right k) (by_seat w) (λ z v. v ≡ by_seat w → z ≡ M.home x) y (λ a. sym oc.1.2) (λ ne a. absurd (subst (λ v. SeatHas M v y) qs (s.has_seat y w a))))
+      (λ y. at_put s.holder (right k) (by_seat w) (λ z v. v ≡ by_record k → CellHas M k new z) y (λ a. absurd (seat_record w k refl a))
+      (λ ne a. ⊎_elim inl (λ b2. ⊎_elim (λ e2. inr (inl e2)) (λ e2. absurd (ne e2.0)) b2) (subst (λ v. CellHas M k v y) qc (s.has_record y k a))))
+      tt (λ j ne a. absurd a) (λ j ne a. kind_clash _ _ a (λ z. omega (arith, z)))
+      (still_put w k s.holder s.holder (still_same w k s.holder) (right k) (by_seat w) (ours w k (right k) s.holder oc.1.1))
+      (λ i ne. subst (NotHand i) (sym qc) tt)
+      (ap h1 oc.1.2 ∙ put_here s.holder (right k) (by_seat w), subst (λ y. M.owes false x (s.ending y)) (sym oc.1.2) oc.1.5, subst (IsPending M (put c.cells k new) w) (sym oc.1.3) tt)
+      ((put_else s.holder (right k) (by_seat w) (M.kept r) ur ∙ oc.0.0, oc.0.1), tt, side_else k (left k) (right k) (by_seat w) p lr oc.2, subst (SideOk M h1 s.ending k (right k)) (sym oc.1.0) (λ a. seat_nobody w (put_here s.holder (right k) (by_seat w)) a))
+      (order_same M c.cells c.order s.order k new (λ a. subst IsOpen (sym qc) tt) (λ a. tt) (sym (ap (kept_of M) qc)))
+      (omega (arith, ow, pe, b)) (same_paid w (running x false) resting lt qs (omega (arith, cr)))
     where
       side_else : (k x y : ℕ) (v : Holder) (o : Option E) → (x ≡ y → ⊥) → SideOk M s.holder s.ending k x o → SideOk M (put s.holder y v) s.ending k x o
       side_else k x y v None ne o = λ a. o (sym (put_else s.holder y v x ne) ∙ a)
@@ -290,15 +305,15 @@ module _ {T R E : Type 0} (M : Machine T R E) (H K N W : ℕ) (out : E) (L : Law
       let ow = owing_put w st (ended e) lt qs in
       let b = s.beats_ok in
       rebuild w k st (ended e) new (put s.holder y (by_record k)) c.order c.tasks c.skipped c.instructions (in_range k old qc (open_used old qo)) qs
-          (back_put w k s.holder s.holder (back_same w k s.holder) y (by_record k) (λ a. a refl))
-          (λ z. at_put s.holder y (by_record k) (λ i v. v ≡ by_seat w → SeatHas M st i) z (λ a. absurd (seat_record w k a refl)) (λ ne a. absurd (ne (subst (λ v. SeatHas M v z) qs (s.has_seat z w a) ∙ qe))))
-          (λ z. at_put s.holder y (by_record k) (λ i v. v ≡ by_record k → CellHas M k new i) z (λ a. hc y (inl refl)) (λ ne a. hc z (inr (subst (λ v. CellHas M k v z) qc (s.has_record z k a)))))
-          hx (λ j ne a. absurd a) (λ j ne a. kind_clash _ _ a (λ z. omega (arith, z)))
-          (still_put w k s.holder s.holder (still_same w k s.holder) y (by_record k) (mine w k y s.holder hy))
-          (λ i ne. subst (NotHand i) (sym qc) (nh i))
-          okst okc
-          (order_same M c.cells c.order s.order k new (λ a. subst IsOpen (sym qc) qo) (λ a. qn) (qu ∙ sym (ap (kept_of M) qc)))
-          (omega (arith, ow, zo, b)) (same_paid w st (ended e) lt qs (omega (arith, zs)))
+      (back_put w k s.holder s.holder (back_same w k s.holder) y (by_record k) (λ a. a refl))
+      (λ z. at_put s.holder y (by_record k) (λ i v. v ≡ by_seat w → SeatHas M st i) z (λ a. absurd (seat_record w k a refl)) (λ ne a. absurd (ne (subst (λ v. SeatHas M v z) qs (s.has_seat z w a) ∙ qe))))
+      (λ z. at_put s.holder y (by_record k) (λ i v. v ≡ by_record k → CellHas M k new i) z (λ a. hc y (inl refl)) (λ ne a. hc z (inr (subst (λ v. CellHas M k v z) qc (s.has_record z k a)))))
+      hx (λ j ne a. absurd a) (λ j ne a. kind_clash _ _ a (λ z. omega (arith, z)))
+      (still_put w k s.holder s.holder (still_same w k s.holder) y (by_record k) (mine w k y s.holder hy))
+      (λ i ne. subst (NotHand i) (sym qc) (nh i))
+      okst okc
+      (order_same M c.cells c.order s.order k new (λ a. subst IsOpen (sym qc) qo) (λ a. qn) (qu ∙ sym (ap (kept_of M) qc)))
+      (omega (arith, ow, zo, b)) (same_paid w st (ended e) lt qs (omega (arith, zs)))
 
   pub left_in : (w k : ℕ) (e : E) (x : Cell T R E) → w < W → c.seats w ≡ ended e → M.end_of e ≡ left k → c.cells k ≡ x → After w k (left_arrives w k e x)
   left_in w k e free lt qs qe qc = absurd (seat_nobody w (at_seat w (ended e) qs).0 (ap s.holder qe ∙ (at_cell k free qc).0))
@@ -311,17 +326,17 @@ module _ {T R E : Type 0} (M : Machine T R E) (H K N W : ℕ) (out : E) (L : Law
       let ul : M.kept r ≡ left k → ⊥ = λ z. let a = s.order.below k k (inl (ap (kept_of M) qc ∙ z)) in omega (arith, a) in
       let rl : right k ≡ left k → ⊥ = λ z. omega (arith, z) in
       arrival w k (left k) e (opened r ch None None) (opened r ch (Some e) None) resting lt qs qe (inl refl) qc (λ i. tt) tt tt refl refl refl
-          (λ z u. ⊎_elim (λ a. inr (inl (a, tt))) (λ b2. ⊎_elim inl (λ c2. ⊎_elim (λ d2. absurd d2.1) (λ d2. inr (inr d2)) c2) b2) u) tt tt
-          ((put_else s.holder (left k) (by_record k) (M.kept r) ul ∙ oc.0.0, oc.0.1), child_other k (left k) (by_record k) ch None rl oc.1, (put_here s.holder (left k) (by_record k), o.1 ∙ ap s.ending qe), side_other k (right k) (left k) (by_record k) None rl oc.3)
+      (λ z u. ⊎_elim (λ a. inr (inl (a, tt))) (λ b2. ⊎_elim inl (λ c2. ⊎_elim (λ d2. absurd d2.1) (λ d2. inr (inr d2)) c2) b2) u) tt tt
+      ((put_else s.holder (left k) (by_record k) (M.kept r) ul ∙ oc.0.0, oc.0.1), child_other k (left k) (by_record k) ch None rl oc.1, (put_here s.holder (left k) (by_record k), o.1 ∙ ap s.ending qe), side_other k (right k) (left k) (by_record k) None rl oc.3)
   left_in w k e (opened r ch None (Some q)) lt qs qe qc =
       let o = at_seat w (ended e) qs in
       let oc = at_cell k (opened r ch None (Some q)) qc in
       let ul : M.kept r ≡ left k → ⊥ = λ z. let a = s.order.below k k (inl (ap (kept_of M) qc ∙ z)) in omega (arith, a) in
       let rl : right k ≡ left k → ⊥ = λ z. omega (arith, z) in
       arrival w k (left k) e (opened r ch None (Some q)) (met w r e q) (holding k) lt qs qe (inl refl) qc (λ i. tt) tt tt refl refl refl
-          (λ z u. ⊎_elim (λ a. inr (inl a)) (λ b2. ⊎_elim inl (λ c2. ⊎_elim (λ d2. absurd d2.1) (λ d2. inr (inr d2.0)) c2) b2) u) (put_here c.seats w (holding k))
-          (r, e, q, put_here c.cells k (met w r e q))
-          ((put_else s.holder (left k) (by_record k) (M.kept r) ul ∙ oc.0.0, oc.0.1), (put_here s.holder (left k) (by_record k), o.1 ∙ ap s.ending qe), (put_else s.holder (left k) (by_record k) (right k) rl ∙ oc.3.0, oc.3.1))
+      (λ z u. ⊎_elim (λ a. inr (inl a)) (λ b2. ⊎_elim inl (λ c2. ⊎_elim (λ d2. absurd d2.1) (λ d2. inr (inr d2.0)) c2) b2) u) (put_here c.seats w (holding k))
+      (r, e, q, put_here c.cells k (met w r e q))
+      ((put_else s.holder (left k) (by_record k) (M.kept r) ul ∙ oc.0.0, oc.0.1), (put_here s.holder (left k) (by_record k), o.1 ∙ ap s.ending qe), (put_else s.holder (left k) (by_record k) (right k) rl ∙ oc.3.0, oc.3.1))
 
   pub right_in : (w k : ℕ) (e : E) (x : Cell T R E) → w < W → c.seats w ≡ ended e → M.end_of e ≡ right k → c.cells k ≡ x → After w k (right_arrives w k e x)
   right_in w k e free lt qs qe qc = absurd (seat_nobody w (at_seat w (ended e) qs).0 (ap s.holder qe ∙ (at_cell k free qc).1))
@@ -334,17 +349,17 @@ module _ {T R E : Type 0} (M : Machine T R E) (H K N W : ℕ) (out : E) (L : Law
       let oc = at_cell k (opened r None None None) qc in
       let ur : M.kept r ≡ right k → ⊥ = λ z. let a = s.order.below k k (inr (ap (kept_of M) qc ∙ z)) in omega (arith, a) in
       arrival w k (right k) e (opened r None None None) (opened r None None (Some e)) resting lt qs qe (inr refl) qc (λ i. tt) tt tt refl refl refl
-          (λ z u. ⊎_elim (λ a. inr (inr (a, inr tt))) (λ b2. ⊎_elim inl (λ c2. ⊎_elim (λ d2. absurd d2.1) (λ d2. absurd (⊎_elim (λ g2. g2) (λ g2. g2) d2.1)) c2) b2) u) tt tt
-          ((put_else s.holder (right k) (by_record k) (M.kept r) ur ∙ oc.0.0, oc.0.1), tt, side_other k (left k) (right k) (by_record k) None (λ z. omega (arith, z)) oc.2, (put_here s.holder (right k) (by_record k), o.1 ∙ ap s.ending qe))
+      (λ z u. ⊎_elim (λ a. inr (inr (a, inr tt))) (λ b2. ⊎_elim inl (λ c2. ⊎_elim (λ d2. absurd d2.1) (λ d2. absurd (⊎_elim (λ g2. g2) (λ g2. g2) d2.1)) c2) b2) u) tt tt
+      ((put_else s.holder (right k) (by_record k) (M.kept r) ur ∙ oc.0.0, oc.0.1), tt, side_other k (left k) (right k) (by_record k) None (λ z. omega (arith, z)) oc.2, (put_here s.holder (right k) (by_record k), o.1 ∙ ap s.ending qe))
   right_in w k e (opened r None (Some p) None) lt qs qe qc =
       let o = at_seat w (ended e) qs in
       let oc = at_cell k (opened r None (Some p) None) qc in
       let ur : M.kept r ≡ right k → ⊥ = λ z. let a = s.order.below k k (inr (ap (kept_of M) qc ∙ z)) in omega (arith, a) in
       let lr : left k ≡ right k → ⊥ = λ z. omega (arith, z) in
       arrival w k (right k) e (opened r None (Some p) None) (met w r p e) (holding k) lt qs qe (inr refl) qc (λ i. tt) tt tt refl refl refl
-          (λ z u. ⊎_elim (λ a. inr (inr a)) (λ b2. ⊎_elim inl (λ c2. ⊎_elim (λ d2. inr (inl d2.0)) (λ d2. absurd (⊎_elim (λ g2. g2) (λ g2. g2) d2.1)) c2) b2) u) (put_here c.seats w (holding k))
-          (r, p, e, put_here c.cells k (met w r p e))
-          ((put_else s.holder (right k) (by_record k) (M.kept r) ur ∙ oc.0.0, oc.0.1), (put_else s.holder (right k) (by_record k) (left k) lr ∙ oc.2.0, oc.2.1), (put_here s.holder (right k) (by_record k), o.1 ∙ ap s.ending qe))
+      (λ z u. ⊎_elim (λ a. inr (inr a)) (λ b2. ⊎_elim inl (λ c2. ⊎_elim (λ d2. inr (inl d2.0)) (λ d2. absurd (⊎_elim (λ g2. g2) (λ g2. g2) d2.1)) c2) b2) u) (put_here c.seats w (holding k))
+      (r, p, e, put_here c.cells k (met w r p e))
+      ((put_else s.holder (right k) (by_record k) (M.kept r) ur ∙ oc.0.0, oc.0.1), (put_else s.holder (right k) (by_record k) (left k) lr ∙ oc.2.0, oc.2.1), (put_here s.holder (right k) (by_record k), o.1 ∙ ap s.ending qe))
 
   -- what the merge owes
   pub merge_at : (k i : ℕ) (r : R) (p q : E) → c.cells k ≡ met i r p q → MergeOwes M (s.ending (M.kept r)) r p q
@@ -367,29 +382,29 @@ module _ {T R E : Type 0} (M : Machine T R E) (H K N W : ℕ) (out : E) (L : Law
       let ow = owing_put w st (holding k) lt qs in
       let b = s.beats_ok in
       rebuild w k st (holding k) free h3 (without k c.order) c.tasks c.skipped c.instructions (in_range k (met i r p q) qc tt) qs
-          (back_put w k s.holder h2 (back_put w k s.holder h1 (back_put w k s.holder s.holder (back_same w k s.holder) (left k) nobody (λ a. a.0 refl)) (right k) nobody (λ a. a.1 refl)) (M.kept r) (by_seat w) (λ a. a refl))
-          (λ y. at_put h2 (M.kept r) (by_seat w) (λ z v. v ≡ by_seat w → SeatHas M st z) y (λ a. hu)
-              (λ n1. at_put h1 (right k) nobody (λ z v. v ≡ by_seat w → SeatHas M st z) y (λ a. absurd (seat_nobody w a refl))
-                  (λ n2. at_put s.holder (left k) nobody (λ z v. v ≡ by_seat w → SeatHas M st z) y (λ a. absurd (seat_nobody w a refl))
-                      (λ n3 a. absurd (subst (λ v. SeatHas M v y) qs (s.has_seat y w a))))))
-          (λ y. at_put h2 (M.kept r) (by_seat w) (λ z v. v ≡ by_record k → ⊥) y (λ a. seat_record w k refl a)
-              (λ n1. at_put h1 (right k) nobody (λ z v. v ≡ by_record k → ⊥) y (λ a. record_nobody k a refl)
-                  (λ n2. at_put s.holder (left k) nobody (λ z v. v ≡ by_record k → ⊥) y (λ a. record_nobody k a refl)
-                      (λ n3 a. ⊎_elim n1 (λ b2. ⊎_elim n3 n2 b2) (subst (λ v. CellHas M k v y) qc (s.has_record y k a))))))
-          tt (λ j ne a. absurd a) (λ j ne a. ne (sym (held_same k j a)))
-          (still_put w k s.holder h2 (still_put w k s.holder h1 (still_put w k s.holder s.holder (still_same w k s.holder) (left k) nobody (ours w k (left k) s.holder oc.1.0)) (right k) nobody (ours w k (right k) s.holder oc.2.0)) (M.kept r) (by_seat w) (ours w k (M.kept r) s.holder oc.0.0))
-          (λ j ne. subst (NotHand j) (sym o.3) (λ z. ne (sym z)))
-          (okst h3 (put c.cells k free) (put_here h2 (M.kept r) (by_seat w)))
-          (put_else h2 (M.kept r) (by_seat w) (left k) lu ∙ (put_else h1 (right k) nobody (left k) (λ z. omega (arith, z)) ∙ put_here s.holder (left k) nobody), put_else h2 (M.kept r) (by_seat w) (right k) ru ∙ put_here h1 (right k) nobody)
-          (order_free M c.cells c.order s.order k free (λ a. a) refl)
-          (omega (arith, ow, zo, b)) (same_paid w st (holding k) lt qs (omega (arith, zs)))
+      (back_put w k s.holder h2 (back_put w k s.holder h1 (back_put w k s.holder s.holder (back_same w k s.holder) (left k) nobody (λ a. a.0 refl)) (right k) nobody (λ a. a.1 refl)) (M.kept r) (by_seat w) (λ a. a refl))
+      (λ y. at_put h2 (M.kept r) (by_seat w) (λ z v. v ≡ by_seat w → SeatHas M st z) y (λ a. hu)
+      (λ n1. at_put h1 (right k) nobody (λ z v. v ≡ by_seat w → SeatHas M st z) y (λ a. absurd (seat_nobody w a refl))
+      (λ n2. at_put s.holder (left k) nobody (λ z v. v ≡ by_seat w → SeatHas M st z) y (λ a. absurd (seat_nobody w a refl))
+      (λ n3 a. absurd (subst (λ v. SeatHas M v y) qs (s.has_seat y w a))))))
+      (λ y. at_put h2 (M.kept r) (by_seat w) (λ z v. v ≡ by_record k → ⊥) y (λ a. seat_record w k refl a)
+      (λ n1. at_put h1 (right k) nobody (λ z v. v ≡ by_record k → ⊥) y (λ a. record_nobody k a refl)
+      (λ n2. at_put s.holder (left k) nobody (λ z v. v ≡ by_record k → ⊥) y (λ a. record_nobody k a refl)
+      (λ n3 a. ⊎_elim n1 (λ b2. ⊎_elim n3 n2 b2) (subst (λ v. CellHas M k v y) qc (s.has_record y k a))))))
+      tt (λ j ne a. absurd a) (λ j ne a. ne (sym (held_same k j a)))
+      (still_put w k s.holder h2 (still_put w k s.holder h1 (still_put w k s.holder s.holder (still_same w k s.holder) (left k) nobody (ours w k (left k) s.holder oc.1.0)) (right k) nobody (ours w k (right k) s.holder oc.2.0)) (M.kept r) (by_seat w) (ours w k (M.kept r) s.holder oc.0.0))
+      (λ j ne. subst (NotHand j) (sym o.3) (λ z. ne (sym z)))
+      (okst h3 (put c.cells k free) (put_here h2 (M.kept r) (by_seat w)))
+      (put_else h2 (M.kept r) (by_seat w) (left k) lu ∙ (put_else h1 (right k) nobody (left k) (λ z. omega (arith, z)) ∙ put_here s.holder (left k) nobody), put_else h2 (M.kept r) (by_seat w) (right k) ru ∙ put_here h1 (right k) nobody)
+      (order_free M c.cells c.order s.order k free (λ a. a) refl)
+      (omega (arith, ow, zo, b)) (same_paid w st (holding k) lt qs (omega (arith, zs)))
 
   free_by : (w k i : ℕ) (r : R) (p q : E) (both : Merged T E) → w < W → c.seats w ≡ holding k → c.cells k ≡ met i r p q → M.merges r p q both → MergedOwes M (s.ending (M.kept r)) both → View M H N K W out (freed c w (merged_seat both) k)
   free_by w k i r p q (Runs u) lt qs qc qm m =
       let km = L.merged r p q (Runs u) qm in
       let pe = ap one_there km.1 in
       freeing w k i r p q (running u false) lt qs qc (omega (arith, pe)) km.2 (sym km.0)
-          (λ h cells hu. (ap h km.0 ∙ hu, subst (λ y. M.owes false u (s.ending y)) (sym km.0) m, subst (IsPending M cells w) (sym km.1) tt))
+      (λ h cells hu. (ap h km.0 ∙ hu, subst (λ y. M.owes false u (s.ending y)) (sym km.0) m, subst (IsPending M cells w) (sym km.1) tt))
   free_by w k i r p q (Over e) lt qs qc qm m =
       let km = L.merged r p q (Over e) qm in
       freeing w k i r p q (ended e) lt qs qc refl refl (sym km) (λ h cells hu. (ap h km ∙ hu, m ∙ ap s.ending (sym km)))
@@ -418,11 +433,18 @@ module _ {T R E : Type 0} (M : Machine T R E) (H K N W : ℕ) (out : E) (L : Law
             (λ ne b2 a2. s.has_seat y i b2) (back y (by_seat i) a (λ z. seat_nobody i refl z)) a;
         has_record = λ y j a. s.has_record y j (back y (by_record j) a (λ z. record_nobody j refl z));
         in_hand = λ j. hand_frame w j resting (ended e) qs (λ a. a) (λ a. kind_clash _ _ a (λ z. omega (arith, z))) (c.cells j) (s.in_hand j);
-        holder = h; ending = s.ending; root_is = s.root_is;
+        holder = h;
+        ending = s.ending;
+        root_is = s.root_is;
         seat_ok = λ i. at_put c.seats w resting (λ y z. SeatOk M h s.ending c.cells y z) i tt (λ ne. seat_moves M s.holder h s.ending w 0 (still 0) (λ y n0 n1 n2 q. sym (put_else s.holder 0 nobody y n0) ∙ q) c.cells c.cells i (c.seats i) ne (λ j z. z) (λ j r p q z. z) (s.seat_ok i));
         cell_ok = λ j. cell_frame M s.holder h s.ending w (suc j) (still (suc j)) (λ y n0 n1 n2 q. sym (put_else s.holder 0 nobody y n0) ∙ q) j (c.cells j) (λ z. omega (arith, z)) (s.cell_ok j);
         root_ok = (o.1 ∙ (ap s.ending qe ∙ s.root_is), put_here s.holder 0 nobody);
-        beyond = s.beyond; order = s.order; allowed = s.allowed; beats_ok = omega (arith, ow, b); saved_ok = same_paid w resting (ended e) lt qs (omega arith) }
+        beyond = s.beyond;
+        order = s.order;
+        allowed = s.allowed;
+        beats_ok = omega (arith, ow, b);
+        saved_ok = same_paid w resting (ended e) lt qs (omega arith);
+      }
 
   module _ (e' : ℕ → E) (k w : ℕ) (tk : c.cells k ≡ taken w) (st : (x : ℕ) → (x ≡ left k → ⊥) → (x ≡ right k → ⊥) → e' x ≡ s.ending x) where
     by_seat_same : (x i : ℕ) → s.holder x ≡ by_seat i → e' x ≡ s.ending x
@@ -440,8 +462,8 @@ module _ {T R E : Type 0} (M : Machine T R E) (H K N W : ℕ) (out : E) (L : Law
     merge_same : (j : ℕ) (r : R) → (j ≡ k → ⊥) → e' (M.kept r) ≡ s.ending (M.kept r) → MergeOwes M (s.ending (M.kept r)) r (s.ending (left j)) (s.ending (right j)) → MergeOwes M (e' (M.kept r)) r (e' (left j)) (e' (right j))
     merge_same j r ne qu o =
         subst (λ y. MergeOwes M y r (e' (left j)) (e' (right j))) (sym qu)
-            (subst (λ y. MergeOwes M (s.ending (M.kept r)) r y (e' (right j))) (sym (left_same j ne))
-                (subst (λ y. MergeOwes M (s.ending (M.kept r)) r (s.ending (left j)) y) (sym (right_same j ne)) o))
+        (subst (λ y. MergeOwes M (s.ending (M.kept r)) r y (e' (right j))) (sym (left_same j ne))
+        (subst (λ y. MergeOwes M (s.ending (M.kept r)) r (s.ending (left j)) y) (sym (right_same j ne)) o))
 
     pending_endings : (i : ℕ) (o : Option ℕ) → IsPending M c.cells i o → IsPending M c.cells i o
     pending_endings i None p = p
@@ -490,7 +512,7 @@ module _ {T R E : Type 0} (M : Machine T R E) (H K N W : ℕ) (out : E) (L : Law
       let hu : s.holder (M.kept r) ≡ by_seat w = ap s.holder g.1 ∙ o.0 in
       let eu : e' (M.kept r) ≡ s.ending (M.home t) = by_seat_same e' k w tk same (M.kept r) w hu ∙ ap s.ending g.1 in
       let ow = owing_put w (forked k l x r) (running t d) lt q in
-            let pe = ap one_there g.0 in
+      let pe = ap one_there g.0 in
       let dd = ap one_if z.0 in
       let cr = g.6 in
       let b = s.beats_ok in
@@ -498,16 +520,32 @@ module _ {T R E : Type 0} (M : Machine T R E) (H K N W : ℕ) (out : E) (L : Law
         has_seat = λ y i. at_put c.seats w (forked k l x r) (λ z v. s.holder y ≡ by_seat z → SeatHas M v y) i (λ a. subst (λ v. SeatHas M v y) q (s.has_seat y w a) ∙ sym g.1) (λ ne a. s.has_seat y i a);
         has_record = s.has_record;
         in_hand = λ j. hand_frame w j (forked k l x r) (running t d) q (λ a. some_same k j (sym g.0 ∙ a)) (λ a. kind_clash _ _ a (λ z2. omega (arith, z2))) (c.cells j) (s.in_hand j);
-        holder = s.holder; ending = e'; root_is = same 0 (λ a. omega (arith, a)) (λ a. omega (arith, a)) ∙ s.root_is;
-        seat_ok = λ i. at_put c.seats w (forked k l x r) (λ y v. SeatOk M s.holder e' c.cells y v) i
-            (hu, tk, g.2, g.4, subst (M.owes false l) (sym el) z.1.on_owes, g.3, g.5, g.7, subst (M.owes false x) (sym er) z.1.child_owes,
-             subst (λ y. MergeOwes M y r (e' (left k)) (e' (right k))) (sym eu)
-                (subst (λ y. MergeOwes M (s.ending (M.home t)) r y (e' (right k))) (sym el)
-                    (subst (λ y. MergeOwes M (s.ending (M.home t)) r z.1.p y) (sym er) z.1.merged)))
+        holder = s.holder;
+        ending = e';
+        root_is = same 0 (λ a. omega (arith, a)) (λ a. omega (arith, a)) ∙ s.root_is;
+        seat_ok = λ i. at_put c.seats w (forked k l x r) (λ y v. SeatOk M s.holder e' c.cells y v) i (
+          hu,
+          tk,
+          g.2,
+          g.4,
+          subst (M.owes false l) (sym el) z.1.on_owes,
+          g.3,
+          g.5,
+          g.7,
+          subst (M.owes false x) (sym er) z.1.child_owes,
+          subst (λ y. MergeOwes M y r (e' (left k)) (e' (right k))) (sym eu)
+              (subst (λ y. MergeOwes M (s.ending (M.home t)) r y (e' (right k))) (sym el)
+              (subst (λ y. MergeOwes M (s.ending (M.home t)) r z.1.p y) (sym er) z.1.merged)),
+        )
             (λ ne. seat_endings e' k w tk same i (c.seats i) ne (s.seat_ok i));
         cell_ok = λ j. ⊎_elim
             (λ (a : j ≡ k). let a2 : c.cells j ≡ taken w = ap c.cells a ∙ tk in subst (CellOk M s.holder e' j) (sym a2) (subst (CellOk M s.holder s.ending j) a2 (s.cell_ok j)))
             (λ (a : j ≡ k → ⊥). cell_endings e' k w tk same j (c.cells j) a (s.cell_ok j))
             (cases_eq j k);
-        root_ok = root_endings s.holder s.ending e' c.outcome s.root_ok; beyond = s.beyond; order = s.order; allowed = s.allowed;
-        beats_ok = omega (arith, ow, pe, dd, b); saved_ok = step_paid w (forked k l x r) (running t d) lt q (omega (arith, cr)) }
+        root_ok = root_endings s.holder s.ending e' c.outcome s.root_ok;
+        beyond = s.beyond;
+        order = s.order;
+        allowed = s.allowed;
+        beats_ok = omega (arith, ow, pe, dd, b);
+        saved_ok = step_paid w (forked k l x r) (running t d) lt q (omega (arith, cr));
+      }

@@ -218,4 +218,4 @@ stepped_at code s w task due o mid result h a right is gives q m hq aq runs =
     let is' = subst (λ x. IsStepOnce (step code x (is_allowed s.forks (worker_at s.workers w).beats) task) o) hq (subst (λ x. IsStepOnce (step code h x task) o) aq is) in
     let gives' = subst (λ (x : Standing). OnceGives (record x { instructions = one_more x.instructions }) w due o result) m gives in
     subst (λ x. SeatStepped code s w x result) (sym q)
-        (stepped_of s w due (step code s.heartbeat (is_allowed s.forks (worker_at s.workers w).beats) task) o result (strays_never code s.heartbeat (is_allowed s.forks (worker_at s.workers w).beats) task right can) is' gives')
+    (stepped_of s w due (step code s.heartbeat (is_allowed s.forks (worker_at s.workers w).beats) task) o result (strays_never code s.heartbeat (is_allowed s.forks (worker_at s.workers w).beats) task right can) is' gives')

@@ -19,9 +19,9 @@ counts n lt = let a = min_left (n + 1) top (omega (arith, lt)) in omega (arith, 
 pub paid_more : (x y n : ℕ) → Paid x n → y ≤ suc x → Paid y (one_more n)
 paid_more x y n p le = ⊎_elim
     (λ (lt : n < top). ⊎_elim
-        (λ (a : x ≤ n). let b = counts n lt in inl (omega (arith, a, b, le)))
-        (λ (a : n ≡ top). absurd (omega (arith, a, lt)))
-        p)
+    (λ (a : x ≤ n). let b = counts n lt in inl (omega (arith, a, b, le)))
+    (λ (a : n ≡ top). absurd (omega (arith, a, lt)))
+    p)
     (λ (ge : top ≤ n). inr (min_right (n + 1) top (omega (arith, ge))))
     (cases_lt n top)
 

@@ -98,11 +98,11 @@ without_absent [] k i z = refl
 without_absent (j ∷ js) k i z = ⊎_elim
     (λ (e : j ≡ i). let a = place_here j i js e in absurd (omega (arith, a, z)))
     (λ (n : j ≡ i → ⊥).
-        let b = without_absent js k i (later_zero (place js i) (sym (place_next j i js n) ∙ z)) in
-        ⊎_elim
-            (λ (e : j ≡ k). gone j k i js e ∙ b)
-            (λ (ne : j ≡ k → ⊥). stays j k i js ne ∙ (place_next j i (without k js) n ∙ ap later b))
-            (cases_eq j k))
+    let b = without_absent js k i (later_zero (place js i) (sym (place_next j i js n) ∙ z)) in
+    ⊎_elim
+    (λ (e : j ≡ k). gone j k i js e ∙ b)
+    (λ (ne : j ≡ k → ⊥). stays j k i js ne ∙ (place_next j i (without k js) n ∙ ap later b))
+    (cases_eq j k))
     (cases_eq j i)
 
 pub without_there : (js : List ℕ) (k i : ℕ) → (i ≡ k → ⊥) → 0 < place js i → 0 < place (without k js) i
@@ -110,64 +110,64 @@ without_there [] k i ne lt = absurd (omega (arith, lt))
 without_there (j ∷ js) k i ne lt = ⊎_elim
     (λ (e : j ≡ i). let a = stays j k i js (λ q. ne (sym e ∙ q)) in let b = place_here j i (without k js) e in omega (arith, a, b))
     (λ (n : j ≡ i → ⊥).
-        let p = place_next j i js n in
-        let h = without_there js k i ne (⊎_elim (λ (z : place js i ≡ 0). let l = ap later z in absurd (omega (arith, lt, p, l))) (λ (z : place js i ≡ 0 → ⊥). omega (arith, z)) (cases_eq (place js i) 0)) in
-        ⊎_elim
-            (λ (e : j ≡ k). let a = gone j k i js e in omega (arith, a, h))
-            (λ (m : j ≡ k → ⊥). let a = stays j k i js m in let b = place_next j i (without k js) n in let l = later_there (place (without k js) i) h in omega (arith, a, b, l))
-            (cases_eq j k))
+    let p = place_next j i js n in
+    let h = without_there js k i ne (⊎_elim (λ (z : place js i ≡ 0). let l = ap later z in absurd (omega (arith, lt, p, l))) (λ (z : place js i ≡ 0 → ⊥). omega (arith, z)) (cases_eq (place js i) 0)) in
+    ⊎_elim
+    (λ (e : j ≡ k). let a = gone j k i js e in omega (arith, a, h))
+    (λ (m : j ≡ k → ⊥). let a = stays j k i js m in let b = place_next j i (without k js) n in let l = later_there (place (without k js) i) h in omega (arith, a, b, l))
+    (cases_eq j k))
     (cases_eq j i)
 
 pub without_below : (js : List ℕ) (k i m : ℕ) → (m ≡ k → ⊥) → place js i < place js m → place (without k js) i < place (without k js) m
 without_below [] k i m ne lt = absurd (omega (arith, lt))
 without_below (j ∷ js) k i m ne lt = ⊎_elim
     (λ (e : j ≡ k).
-        let a = gone j k i js e in
-        let b = gone j k m js e in
-        let c = place_next j m js (λ q. ne (sym q ∙ e)) in
-        let below : (x : ℕ) → place (j ∷ js) i ≡ x → x < later (place js m) → place (without k js) i < place (without k js) m = λ x q l. ⊎_elim
-            (λ (s : j ≡ i).
-                let z : place (without k js) i ≡ 0 = ap (place (without k js)) (sym s ∙ e) ∙ place_without js k in
-                let t = without_there js k m ne (⊎_elim (λ (y : place js m ≡ 0). let g = ap later y in absurd (omega (arith, l, g))) (λ (y : place js m ≡ 0 → ⊥). omega (arith, y)) (cases_eq (place js m) 0)) in
-                omega (arith, z, t))
-            (λ (s : j ≡ i → ⊥). let p = place_next j i js s in without_below js k i m ne (later_down (place js i) (place js m) (omega (arith, q, p, l))))
-            (cases_eq j i) in
-        let r = below (place (j ∷ js) i) refl (omega (arith, lt, c)) in
-        omega (arith, a, b, r))
+    let a = gone j k i js e in
+    let b = gone j k m js e in
+    let c = place_next j m js (λ q. ne (sym q ∙ e)) in
+    let below : (x : ℕ) → place (j ∷ js) i ≡ x → x < later (place js m) → place (without k js) i < place (without k js) m = λ x q l. ⊎_elim
+    (λ (s : j ≡ i).
+    let z : place (without k js) i ≡ 0 = ap (place (without k js)) (sym s ∙ e) ∙ place_without js k in
+    let t = without_there js k m ne (⊎_elim (λ (y : place js m ≡ 0). let g = ap later y in absurd (omega (arith, l, g))) (λ (y : place js m ≡ 0 → ⊥). omega (arith, y)) (cases_eq (place js m) 0)) in
+    omega (arith, z, t))
+    (λ (s : j ≡ i → ⊥). let p = place_next j i js s in without_below js k i m ne (later_down (place js i) (place js m) (omega (arith, q, p, l))))
+    (cases_eq j i) in
+    let r = below (place (j ∷ js) i) refl (omega (arith, lt, c)) in
+    omega (arith, a, b, r))
     (λ (nk : j ≡ k → ⊥).
-        let a = stays j k i js nk in
-        let b = stays j k m js nk in
-        ⊎_elim
-            (λ (s : j ≡ i).
-                let p = place_here j i js s in
-                let p2 = place_here j i (without k js) s in
-                ⊎_elim
-                    (λ (t : j ≡ m). let q = place_here j m js t in absurd (omega (arith, lt, p, q)))
-                    (λ (t : j ≡ m → ⊥).
-                        let q = place_next j m js t in
-                        let q2 = place_next j m (without k js) t in
-                        let th = without_there js k m ne (⊎_elim (λ (y : place js m ≡ 0). let g = ap later y in absurd (omega (arith, lt, q, g))) (λ (y : place js m ≡ 0 → ⊥). omega (arith, y)) (cases_eq (place js m) 0)) in
-                        let l = later_there (place (without k js) m) th in
-                        omega (arith, a, b, p2, q2, l))
-                    (cases_eq j m))
-            (λ (s : j ≡ i → ⊥).
-                let p = place_next j i js s in
-                let p2 = place_next j i (without k js) s in
-                ⊎_elim
-                    (λ (t : j ≡ m).
-                        let q = place_here j m js t in
-                        let q2 = place_here j m (without k js) t in
-                        let z = without_absent js k i (later_one (place js i) (omega (arith, lt, p, q))) in
-                        let l = ap later z in
-                        omega (arith, a, b, p2, q2, l))
-                    (λ (t : j ≡ m → ⊥).
-                        let q = place_next j m js t in
-                        let q2 = place_next j m (without k js) t in
-                        let h = without_below js k i m ne (later_down (place js i) (place js m) (omega (arith, lt, p, q))) in
-                        let l = later_up (place (without k js) i) (place (without k js) m) h in
-                        omega (arith, a, b, p2, q2, l))
-                    (cases_eq j m))
-            (cases_eq j i))
+    let a = stays j k i js nk in
+    let b = stays j k m js nk in
+    ⊎_elim
+    (λ (s : j ≡ i).
+    let p = place_here j i js s in
+    let p2 = place_here j i (without k js) s in
+    ⊎_elim
+    (λ (t : j ≡ m). let q = place_here j m js t in absurd (omega (arith, lt, p, q)))
+    (λ (t : j ≡ m → ⊥).
+    let q = place_next j m js t in
+    let q2 = place_next j m (without k js) t in
+    let th = without_there js k m ne (⊎_elim (λ (y : place js m ≡ 0). let g = ap later y in absurd (omega (arith, lt, q, g))) (λ (y : place js m ≡ 0 → ⊥). omega (arith, y)) (cases_eq (place js m) 0)) in
+    let l = later_there (place (without k js) m) th in
+    omega (arith, a, b, p2, q2, l))
+    (cases_eq j m))
+    (λ (s : j ≡ i → ⊥).
+    let p = place_next j i js s in
+    let p2 = place_next j i (without k js) s in
+    ⊎_elim
+    (λ (t : j ≡ m).
+    let q = place_here j m js t in
+    let q2 = place_here j m (without k js) t in
+    let z = without_absent js k i (later_one (place js i) (omega (arith, lt, p, q))) in
+    let l = ap later z in
+    omega (arith, a, b, p2, q2, l))
+    (λ (t : j ≡ m → ⊥).
+    let q = place_next j m js t in
+    let q2 = place_next j m (without k js) t in
+    let h = without_below js k i m ne (later_down (place js i) (place js m) (omega (arith, lt, p, q))) in
+    let l = later_up (place (without k js) i) (place (without k js) m) h in
+    omega (arith, a, b, p2, q2, l))
+    (cases_eq j m))
+    (cases_eq j i))
     (cases_eq j k)
 
 pub once_without : (js : List ℕ) (k : ℕ) → IsOnce js → IsOnce (without k js)

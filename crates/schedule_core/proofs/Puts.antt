@@ -28,14 +28,14 @@ pub total_put : {A : Type 0} (n : ℕ) (f : A → ℕ) (s : ℕ → A) (w : ℕ)
 total_put zero f s w x lt = absurd (omega (arith, lt))
 total_put (suc n) f s w x lt = ⊎_elim
     (λ (e : n ≡ w).
-        let a = total_same n (λ i. f (put s w x i)) (λ i. f (s i)) (λ i li. ap f (put_else s w x i (λ q. omega (arith, q, e, li)))) in
-        let b : f (put s w x n) ≡ f x = subst (λ z. f (put s w x z) ≡ f x) (sym e) (ap f (put_here s w x)) in
-        let d : f (s n) ≡ f (s w) = ap (λ z. f (s z)) e in
-        omega (arith, a, b, d))
+    let a = total_same n (λ i. f (put s w x i)) (λ i. f (s i)) (λ i li. ap f (put_else s w x i (λ q. omega (arith, q, e, li)))) in
+    let b : f (put s w x n) ≡ f x = subst (λ z. f (put s w x z) ≡ f x) (sym e) (ap f (put_here s w x)) in
+    let d : f (s n) ≡ f (s w) = ap (λ z. f (s z)) e in
+    omega (arith, a, b, d))
     (λ (ne : n ≡ w → ⊥).
-        let a = total_put n f s w x (omega (arith, lt, ne)) in
-        let b : f (put s w x n) ≡ f (s n) = ap f (put_else s w x n ne) in
-        omega (arith, a, b))
+    let a = total_put n f s w x (omega (arith, lt, ne)) in
+    let b : f (put s w x n) ≡ f (s n) = ap f (put_else s w x n ne) in
+    omega (arith, a, b))
     (cases_eq n w)
 
 pub total_zero : (n : ℕ) → total n (λ i. 0) ≡ 0

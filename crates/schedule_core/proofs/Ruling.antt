@@ -45,7 +45,7 @@ module _ (code : Listing) (is_code : IsCode code.tables code.blocks) (s : Standi
   fit_cell k (opened r c p e) q m = m
   fit_cell k (met w r p e) q m =
       let owed = merge_at (tasks code s.heartbeat) s.heartbeat (length s.cells) s.forks (length s.workers) out (lawful code s.heartbeat (length s.cells) is_code (let l = is.records in omega (arith, l))) (roomy s is) (stands s)
-              (view_of (tasks code s.heartbeat) s.heartbeat s.forks (length s.cells) (length s.workers) out (stands s) so) k w r p e q in
+      (view_of (tasks code s.heartbeat) s.heartbeat s.forks (length s.cells) (length s.workers) out (stands s) so) k w r p e q in
       merges_fit code r p e owed.both owed.merges
 
   fit_seat : (x : Seat State RestState Ending) → HasMet (λ r p q. Unit {0}) (stands s).cells x → HasMet (AreSidesOf code) (stands s).cells x
@@ -70,7 +70,7 @@ module _ (code : Listing) (is_code : IsCode code.tables code.blocks) (H N K W : 
       let M = tasks code H in
       let t = first_state held fuel in
       one_each M H K N W (lawful code H K is_code few) room out (first t) last events run seen
-          (sound_of M H N K W out (first t) (first_sound M H K N W out t some refl refl refl owes)) (λ j o. absurd o) k w rest p q e
+      (sound_of M H N K W out (first t) (first_sound M H K N W out t some refl refl refl owes)) (λ j o. absurd o) k w rest p q e
 
 module _ (code : Listing) (H N K W : ℕ) where
   pub begins_sound : (held : List Holding) (fuel : ℕ) (out : Ending) → 0 < W → Owes code H false 0 (first_state held fuel) out → Sound (tasks code H) H N K W out (first (first_state held fuel))

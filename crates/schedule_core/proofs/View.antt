@@ -98,13 +98,21 @@ module _ {T R E : Type 0} (M : Machine T R E) (h : ℕ → Holder) (e : ℕ → 
 module _ {T R E : Type 0} (M : Machine T R E) (H N K W : ℕ) (out : E) (c : Config T R E) where
   pub view_of : Sound M H N K W out c → View M H N K W out c
   view_of s = record {
-      holder = s.holder; ending = s.ending; root_is = s.owed.run;
-      seat_ok = λ w. seat_in M s.holder s.ending c.cells w (c.seats w) (s.ends.seats w) (s.owed.seats w) (s.records.seats w) (s.counts.seats w);
-      cell_ok = λ k. cell_in M s.holder s.ending c.seats k (c.cells k) (s.ends.records k) (s.owed.records k) (s.records.records k) (s.counts.records k);
-      has_seat = s.ends.of_seat; has_record = s.ends.of_record;
-      in_hand = λ k. hand_in M s.holder s.ending c.seats k (c.cells k) (s.records.records k);
-      root_ok = root_in M s.holder s.ending out c.outcome s.ends.run s.owed.outcome;
-      beyond = s.records.beyond; order = s.order; allowed = s.counts.allowed; beats_ok = s.counts.beats; saved_ok = s.counts.paid }
+    holder = s.holder;
+    ending = s.ending;
+    root_is = s.owed.run;
+    seat_ok = λ w. seat_in M s.holder s.ending c.cells w (c.seats w) (s.ends.seats w) (s.owed.seats w) (s.records.seats w) (s.counts.seats w);
+    cell_ok = λ k. cell_in M s.holder s.ending c.seats k (c.cells k) (s.ends.records k) (s.owed.records k) (s.records.records k) (s.counts.records k);
+    has_seat = s.ends.of_seat;
+    has_record = s.ends.of_record;
+    in_hand = λ k. hand_in M s.holder s.ending c.seats k (c.cells k) (s.records.records k);
+    root_ok = root_in M s.holder s.ending out c.outcome s.ends.run s.owed.outcome;
+    beyond = s.records.beyond;
+    order = s.order;
+    allowed = s.counts.allowed;
+    beats_ok = s.counts.beats;
+    saved_ok = s.counts.paid;
+  }
 
 -- ---- and back
 
@@ -198,23 +206,32 @@ module _ {T R E : Type 0} (M : Machine T R E) (h : ℕ → Holder) (e : ℕ → 
 module _ {T R E : Type 0} (M : Machine T R E) (H N K W : ℕ) (out : E) (c : Config T R E) where
   pub sound_of : View M H N K W out c → Sound M H N K W out c
   sound_of v = record {
-      holder = v.holder; ending = v.ending;
-      ends = record {
-          seats = λ w. ends_out M v.holder v.ending c.cells w (c.seats w) (v.seat_ok w);
-          records = λ k. cell_ends M v.holder v.ending k (c.cells k) (v.cell_ok k);
-          of_seat = v.has_seat; of_record = v.has_record;
-          run = root_end M v.holder v.ending out c.outcome v.root_ok };
-      owed = record {
-          seats = λ w. owes_out M v.holder v.ending c.cells w (c.seats w) (v.seat_ok w);
-          records = λ k. cell_owes M v.holder v.ending k (c.cells k) (v.cell_ok k);
-          run = v.root_is;
-          outcome = root_owed M v.holder v.ending out c.outcome v.root_ok };
-      records = record {
-          seats = λ w. record_out M v.holder v.ending c.cells w (c.seats w) (v.seat_ok w);
-          records = λ k. cell_record M v.holder v.ending c.seats k (c.cells k) (v.cell_ok k) (v.in_hand k);
-          beyond = v.beyond };
-      order = v.order;
-      counts = record {
-          beats = v.beats_ok; paid = v.saved_ok; allowed = v.allowed;
-          seats = λ w. fresh_out M v.holder v.ending c.cells w (c.seats w) (v.seat_ok w);
-          records = λ k. cell_fresh M v.holder v.ending k (c.cells k) (v.cell_ok k) } }
+    holder = v.holder;
+    ending = v.ending;
+    ends = record {
+      seats = λ w. ends_out M v.holder v.ending c.cells w (c.seats w) (v.seat_ok w);
+      records = λ k. cell_ends M v.holder v.ending k (c.cells k) (v.cell_ok k);
+      of_seat = v.has_seat;
+      of_record = v.has_record;
+      run = root_end M v.holder v.ending out c.outcome v.root_ok;
+    };
+    owed = record {
+      seats = λ w. owes_out M v.holder v.ending c.cells w (c.seats w) (v.seat_ok w);
+      records = λ k. cell_owes M v.holder v.ending k (c.cells k) (v.cell_ok k);
+      run = v.root_is;
+      outcome = root_owed M v.holder v.ending out c.outcome v.root_ok;
+    };
+    records = record {
+      seats = λ w. record_out M v.holder v.ending c.cells w (c.seats w) (v.seat_ok w);
+      records = λ k. cell_record M v.holder v.ending c.seats k (c.cells k) (v.cell_ok k) (v.in_hand k);
+      beyond = v.beyond;
+    };
+    order = v.order;
+    counts = record {
+      beats = v.beats_ok;
+      paid = v.saved_ok;
+      allowed = v.allowed;
+      seats = λ w. fresh_out M v.holder v.ending c.cells w (c.seats w) (v.seat_ok w);
+      records = λ k. cell_fresh M v.holder v.ending k (c.cells k) (v.cell_ok k);
+    };
+  }

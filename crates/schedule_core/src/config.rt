@@ -57,7 +57,6 @@ impl Config {
     ghost use Rattle.schedule_core.specs.declared.seats.Seat.TheVariants as seat;
     ghost use Rattle.schedule_core.specs.declared.seats.Cell.TheVariants as cell;
     ghost use Rattle.schedule_core.specs.Standing.{worker_at, cell_at, with_seat, with_cell};
-
     ghost use Rattle.std.specs.Prelude.{IfOk};
     ghost use Rattle.tpal_machine.specs.declared.ends.Ending.{Ending};
     ghost use Rattle.tpal_machine.specs.State.{first_state};
@@ -104,7 +103,7 @@ impl Config {
 
     ghost use Rattle.std.specs.Prelude.{min, MatchOption, None, Some};
     ghost use Rattle.schedule_core.specs.Core.{top};
-    ghost use Rattle.schedule_core.specs.Standing.{all_beats};
+    ghost use Rattle.schedule_core.specs.Sound.{total};
 
     /// The outcome of the run, once it is finished.
     pub fn outcome(&self) -> Option<&Outcome>
@@ -123,7 +122,7 @@ impl Config {
     /// The diversions of all workers.
     #[tactic(auto, using(crate::proofs::Beats::beats_more))]
     pub fn beats(&self) -> u64
-        ensures { result ≡ min (all_beats self.now.workers) top }
+        ensures { result ≡ min (total (length self.now.workers) (stands self.now).beats) top }
     {
         let mut beats: u64 = 0;
         for worker in &self.workers {

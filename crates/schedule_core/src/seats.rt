@@ -8,7 +8,10 @@ pub enum Seat {
     /// Nothing.
     Resting,
     /// A task that runs, and whether a beat came for which it asked for no record yet.
-    Running { task: Task, due: bool },
+    Running {
+        task: Task,
+        due: bool,
+    },
     /// A task that has just forked under a record, with its child and its rest.
     Forked {
         rec: u32,
@@ -131,10 +134,9 @@ impl Cell {
         ensures { result ≡ is_unclaimed self.now }
     {
         match self {
-            Cell::Opened {
-                child: Some(_), ..
-            } => true,
-            Cell::Opened { child: None, .. } | Cell::Free | Cell::Taken(_) | Cell::Met { .. } => false,
+            Cell::Opened { child: Some(_), .. } => true,
+            Cell::Opened { child: None, .. } | Cell::Free | Cell::Taken(_) | Cell::Met { .. } =>
+                false,
         }
     }
 

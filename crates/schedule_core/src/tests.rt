@@ -25,11 +25,11 @@ fn block(
     })
 }
 
-const fn moved(to: u8, value: Value) -> Instr {
+fn moved(to: u8, value: Value) -> Instr {
     Instr::Move { to, value }
 }
 
-const fn calc(to: u8, left: u8, alu: Alu, right: Value) -> Instr {
+fn calc(to: u8, left: u8, alu: Alu, right: Value) -> Instr {
     Instr::Calc {
         to,
         left,
@@ -52,75 +52,85 @@ fn two_and_three(alloc: Global) -> Result<Option<Code>, NoMemory>
     Code::new(alloc, Vec::new(alloc), blocks)
 }
 
-const MAIN: [Instr; 6] = [
-    Instr::Salloc(2),
-    Instr::Store {
-        base: 31,
-        off: 1,
-        value: Value::Nil,
-    },
-    moved(0, Value::Int(0)),
-    moved(1, Value::Int(100)),
-    moved(2, Value::Int(0)),
-    Instr::PrmPush {
-        base: 31,
-        off: 0,
-        cells: 2,
-        split: 5,
-    },
-];
+fn main_body() -> [Instr; 6] {
+    [
+        Instr::Salloc(2),
+        Instr::Store {
+            base: 31,
+            off: 1,
+            value: Value::Nil,
+        },
+        moved(0, Value::Int(0)),
+        moved(1, Value::Int(100)),
+        moved(2, Value::Int(0)),
+        Instr::PrmPush {
+            base: 31,
+            off: 0,
+            cells: 2,
+            split: 5,
+        },
+    ]
+}
 
-const BODY: [Instr; 4] = [
-    calc(2, 2, Alu::Add, Value::Reg(0)),
-    calc(0, 0, Alu::Add, Value::Int(1)),
-    calc(3, 0, Alu::Lt, Value::Reg(1)),
-    Instr::IfJump { test: 3, label: 1 },
-];
+fn loop_body() -> [Instr; 4] {
+    [
+        calc(2, 2, Alu::Add, Value::Reg(0)),
+        calc(0, 0, Alu::Add, Value::Int(1)),
+        calc(3, 0, Alu::Lt, Value::Reg(1)),
+        Instr::IfJump { test: 3, label: 1 },
+    ]
+}
 
-const END: [Instr; 4] = [
-    Instr::PrmPop { base: 31, off: 0 },
-    Instr::Load {
-        to: 4,
-        base: 31,
-        off: 1,
-    },
-    calc(3, 4, Alu::Eq, Value::Nil),
-    Instr::IfJump { test: 3, label: 4 },
-];
+fn end_body() -> [Instr; 4] {
+    [
+        Instr::PrmPop { base: 31, off: 0 },
+        Instr::Load {
+            to: 4,
+            base: 31,
+            off: 1,
+        },
+        calc(3, 4, Alu::Eq, Value::Nil),
+        Instr::IfJump { test: 3, label: 4 },
+    ]
+}
 
-const BEAT: [Instr; 11] = [
-    Instr::JrAlloc { to: 4, target: 9 },
-    calc(3, 4, Alu::Eq, Value::Nil),
-    Instr::IfJump { test: 3, label: 6 },
-    calc(5, 1, Alu::Sub, Value::Reg(0)),
-    calc(5, 5, Alu::Div, Value::Int(2)),
-    calc(5, 5, Alu::Add, Value::Reg(0)),
-    Instr::Fork { rec: 4, child: 7 },
-    Instr::Store {
-        base: 31,
-        off: 1,
-        value: Value::Reg(4),
-    },
-    moved(1, Value::Reg(5)),
-    calc(3, 0, Alu::Lt, Value::Reg(1)),
-    Instr::IfJump { test: 3, label: 6 },
-];
+fn beat_body() -> [Instr; 11] {
+    [
+        Instr::JrAlloc { to: 4, target: 9 },
+        calc(3, 4, Alu::Eq, Value::Nil),
+        Instr::IfJump { test: 3, label: 6 },
+        calc(5, 1, Alu::Sub, Value::Reg(0)),
+        calc(5, 5, Alu::Div, Value::Int(2)),
+        calc(5, 5, Alu::Add, Value::Reg(0)),
+        Instr::Fork { rec: 4, child: 7 },
+        Instr::Store {
+            base: 31,
+            off: 1,
+            value: Value::Reg(4),
+        },
+        moved(1, Value::Reg(5)),
+        calc(3, 0, Alu::Lt, Value::Reg(1)),
+        Instr::IfJump { test: 3, label: 6 },
+    ]
+}
 
-const CHILD: [Instr; 4] = [
-    Instr::Store {
-        base: 31,
-        off: 1,
-        value: Value::Reg(4),
-    },
-    moved(0, Value::Reg(5)),
-    moved(2, Value::Int(0)),
-    Instr::PrmPush {
-        base: 31,
-        off: 0,
-        cells: 2,
-        split: 5,
-    },
-];
+fn child_body() -> [Instr; 4] {
+    [
+        Instr::Store {
+            base: 31,
+            off: 1,
+            value: Value::Reg(4),
+        },
+        moved(0, Value::Reg(5)),
+        moved(2, Value::Int(0)),
+        Instr::PrmPush {
+            base: 31,
+            off: 0,
+            cells: 2,
+            split: 5,
+        },
+    ]
+}
 
 // The sum of the numbers below 100, by a loop that may be cut: main 0, loop 1, body 2, end 3, out 4, beat 5,
 // back 6, child 7, comb 8, joined 9.
@@ -137,14 +147,14 @@ fn sum(alloc: Global) -> Result<Option<Code>, NoMemory>
     };
     let comb = [calc(2, 2, Alu::Add, Value::Reg(6))];
     let mut blocks = Vec::new(alloc);
-    blocks.push(block(alloc, b"main", Note::Plain, &MAIN, to(2))?)?;
+    blocks.push(block(alloc, b"main", Note::Plain, &main_body(), to(2))?)?;
     blocks.push(block(alloc, b"loop", Note::Ready(5), &[], to(2))?)?;
-    blocks.push(block(alloc, b"body", Note::Plain, &BODY, to(3))?)?;
-    blocks.push(block(alloc, b"end", Note::Plain, &END, Term::Join(4))?)?;
+    blocks.push(block(alloc, b"body", Note::Plain, &loop_body(), to(3))?)?;
+    blocks.push(block(alloc, b"end", Note::Plain, &end_body(), Term::Join(4))?)?;
     blocks.push(block(alloc, b"out", Note::Plain, &[Instr::Print(2)], Term::Halt)?)?;
-    blocks.push(block(alloc, b"beat", Note::Plain, &BEAT, to(3))?)?;
+    blocks.push(block(alloc, b"beat", Note::Plain, &beat_body(), to(3))?)?;
     blocks.push(block(alloc, b"back", Note::Plain, &[], Term::Jump(Value::Reg(30)))?)?;
-    blocks.push(block(alloc, b"child", Note::Plain, &CHILD, to(2))?)?;
+    blocks.push(block(alloc, b"child", Note::Plain, &child_body(), to(2))?)?;
     blocks.push(block(alloc, b"comb", Note::Plain, &comb, Term::Join(4))?)?;
     blocks.push(block(alloc, b"joined", Note::Target(joined), &[], to(3))?)?;
     Code::new(alloc, Vec::new(alloc), blocks)
@@ -189,13 +199,15 @@ fn printed(
     match stepped(same, code, times) {
         None => Ok(None),
         Some(last) => match apply(last, code, Event::Finish(0)) {
-            Ok(end) => Ok(end.outcome().map(|outcome| {
-                (
-                    outcome.output.items() == expected,
-                    end.instructions(),
-                    end.tasks(),
-                )
-            })),
+            Ok(end) => Ok(
+                end.outcome().map(|outcome| {
+                    (
+                        outcome.output.items() == expected,
+                        end.instructions(),
+                        end.tasks(),
+                    )
+                }),
+            ),
             Err(_) => Ok(None),
         },
     }
@@ -207,6 +219,9 @@ fn codes_are_run_event_by_event(rt: HostRuntime) -> Result<(), Fail> {
     let short = two_and_three(alloc)?.expect(&rt, "a code");
     assert_eq!(rt; printed(alloc, &short, 4, b"5\n")?, Some((true, 4, 0)));
     let long = sum(alloc)?.expect(&rt, "a code");
-    assert_eq!(rt; printed(alloc, &long, 513, b"4950\n")?, Some((true, 513, 0)));
+    assert_eq!(rt;
+        printed(alloc, &long, 513, b"4950\n")?,
+        Some((true, 513, 0))
+    );
     Ok(())
 }

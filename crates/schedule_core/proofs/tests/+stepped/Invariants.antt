@@ -1,0 +1,5 @@
+use Rattle.schedule_core.proofs.tests.+stepped.Given as goal
+
+-- the instructions left
+abbrev pub decreases-stepped : goal.decreases-stepped
+decreases-stepped l = l.times
