@@ -1,8 +1,7 @@
 -- Each record has one left and one right arrival between its opening and its freeing.
-use Rattle.std.proofs.Common.{◌≡◌, ℕ, zero, suc, ◌+◌, ◌*◌, ◌<◌, ◌≤◌, ◌⊎◌, List, [], ◌∷◌, Option, Some, None, refl, sym, ap, ◌∙◌, subst, ⊎_elim, inl, inr, arith}
-use Rattle.std.specs.Prelude.{Bool, true, false}
+use Rattle.std.proofs.Common.{◌≡◌, ℕ, ◌*◌, ◌≤◌, List, Option, Some, None, refl, sym, ap, ◌∙◌, subst}
 use Rattle.schedule_core.specs.Machine.{left, right, Machine, Lawful}
-use Rattle.schedule_core.specs.Core.{put, top, Seat, resting, running, forked, ended, holding, Cell, free, taken, opened, met, Config, Event, AnyFree, CoreStep, goes, beats, ends, asks, forks, opens, claims, arrives_left, arrives_right, frees, finishes, given, left_arrives, right_arrives}
+use Rattle.schedule_core.specs.Core.{put, top, ended, Cell, free, taken, opened, met, Config, Event, AnyFree, CoreStep, goes, beats, ends, asks, forks, opens, claims, arrives_left, arrives_right, frees, finishes, given, left_arrives, right_arrives}
 use Rattle.schedule_core.specs.Sound.{Sound, IsOpen}
 use Rattle.schedule_core.specs.Run.{CoreRun, here, on, Arrivals, one_left, one_right, counted, counted_in}
 use Rattle.schedule_core.proofs.Puts.{put_here, put_else, at_put}

@@ -1,22 +1,20 @@
 -- The first configuration.
-use Rattle.std.proofs.Common.{◌≡◌, ℕ, zero, suc, ◌+◌, ◌*◌, ◌<◌, ◌≤◌, ◌^◌, List, [], ◌∷◌, length, replicate, Option, Some, None, refl, sym, ap, ◌∙◌, subst, ⊎_elim, arith}
-use Rattle.std.specs.Prelude.{Bool, true, false, slice_set, slice_index_or}
+use Rattle.std.proofs.Common.{◌≡◌, ℕ, ◌*◌, ◌<◌, ◌≤◌, [], length, replicate, None, refl, sym, ap, ◌∙◌, subst, ⊎_elim, arith}
+use Rattle.std.specs.Prelude.{false, slice_set, slice_index_or}
 use Rattle.std.proofs.lemmas.Bool.{cases_lt}
 use Rattle.std.proofs.lemmas.List.{length-set, length-replicate, get_or-replicate, get_or_past}
 use mathlib.Core.Path.{fun_ext}
-use Rattle.tpal_syntax.specs.Conditions.{IsCode}
 use Rattle.tpal_syntax.specs.Listing.{Listing}
-use Rattle.tp_value.specs.declared.limits.TheConstants.{MAX_BEAT, MAX_FORKS, MAX_WORKERS, RECORDS_PER_WORKER}
+use Rattle.tp_value.specs.declared.limits.TheConstants.{RECORDS_PER_WORKER}
 use Rattle.tpal_machine.specs.declared.ends.Ending.{Ending}
 use Rattle.tpal_machine.specs.Belonging.{RunsOn}
 use Rattle.tpal_machine.specs.RestState.{RestState}
 use Rattle.tpal_machine.specs.State.{State, first_state}
 use Rattle.schedule_core.specs.declared.job.Job.{Job}
 use Rattle.schedule_core.specs.declared.seats.Seat.TheVariants as seat
-use Rattle.schedule_core.specs.declared.seats.Cell.{Cell}
 use Rattle.schedule_core.specs.declared.seats.Cell.TheVariants as cell
 use Rattle.schedule_core.specs.declared.seats.Worker.{Worker}
-use Rattle.schedule_core.specs.Apply.{IsJob, IsRunOf, Belongs, SeatBelongs, CellBelongs, FirstOwes, IsSound}
+use Rattle.schedule_core.specs.Apply.{IsJob, IsRunOf, Belongs, SeatBelongs, FirstOwes, IsSound}
 use Rattle.schedule_core.specs.Core as core
 use Rattle.schedule_core.specs.Core.{put, first, Config}
 use Rattle.schedule_core.specs.Sound.{Sound}

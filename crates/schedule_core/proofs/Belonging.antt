@@ -1,5 +1,5 @@
 -- What an event gives belongs to the code.
-use Rattle.std.proofs.Common.{◌≡◌, ℕ, ◌<◌, ◌≤◌, Option, Some, None, refl, sym, ap, ◌∙◌, subst}
+use Rattle.std.proofs.Common.{◌≡◌, ℕ, Option, Some, None, subst}
 use Rattle.std.specs.Prelude.{Bool, true, false}
 use Rattle.tpal_syntax.specs.Conditions.{IsCode}
 use Rattle.tpal_syntax.specs.Listing.{Listing}
@@ -17,9 +17,9 @@ use Rattle.tpal_machine.specs.Step as machine
 use Rattle.tpal_machine.specs.Step.{Step, step}
 use Rattle.tpal_machine.proofs.Belonging.{step_of}
 use Rattle.tpal_machine.proofs.Given.{answered_of, joined_of_code}
-use Rattle.schedule_core.specs.Machine.{Turn, Goes, Beats, Ends, Asks, Forks, Stuck, Merged, Runs, Over}
-use Rattle.schedule_core.specs.Core.{put, Seat, resting, running, forked, ended, holding, Cell, free, taken, opened, met, Config, Event, Choice, CoreStep, goes, beats, ends, asks, forks, opens, claims, arrives_left, arrives_right, frees, finishes, is_allowed, left_arrives, right_arrives, merged_seat, given}
-use Rattle.schedule_core.specs.Apply.{SeatBelongs, ChildBelongs, SideBelongs, CellBelongs, Belongs}
+use Rattle.schedule_core.specs.Machine.{Turn, Goes, Beats, Ends, Asks, Forks, Stuck, Merged}
+use Rattle.schedule_core.specs.Core.{put, Seat, resting, running, forked, ended, Cell, free, taken, opened, met, Config, Event, Choice, CoreStep, goes, beats, ends, asks, forks, opens, claims, arrives_left, arrives_right, frees, finishes, left_arrives, right_arrives, merged_seat, given}
+use Rattle.schedule_core.specs.Apply.{SeatBelongs, CellBelongs, Belongs}
 use Rattle.schedule_core.specs.Tasks.{turn_of, merged_of, MergesSides, MergesTo, tasks}
 use Rattle.schedule_core.proofs.Puts.{at_put}
 

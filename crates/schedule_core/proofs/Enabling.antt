@@ -1,9 +1,8 @@
 -- Which events are enabled, by what is kept.
-use Rattle.std.proofs.Common.{◌≡◌, ℕ, ◌<◌, ◌≤◌, List, length, Option, Some, None, refl, sym, ap, ◌∙◌, subst, ⊎_elim, arith}
+use Rattle.std.proofs.Common.{◌≡◌, ℕ, ◌<◌, length, Some, None, refl, ⊎_elim, arith}
 use Rattle.std.specs.Prelude.{Bool, true, false, ◌&&◌, nat_lt, ◌≢◌}
 use Rattle.std.proofs.lemmas.Bool.{cases_lt, lt-ltb, le-ltb}
 use Rattle.tpal_syntax.specs.Listing.{Listing}
-use Rattle.tpal_machine.specs.declared.ends.Ending.{Ending}
 use Rattle.tpal_machine.specs.declared.ends.Ending.TheVariants as ending
 use Rattle.tpal_machine.specs.declared.ends.SideName.TheVariants.{Left, Right}
 use Rattle.tpal_machine.specs.Keeping.{place_of}
@@ -15,7 +14,7 @@ use Rattle.schedule_core.specs.declared.seats.Cell.{Cell}
 use Rattle.schedule_core.specs.declared.seats.Cell.TheVariants as cell
 use Rattle.schedule_core.specs.Machine.{root}
 use Rattle.schedule_core.specs.Apply.{IsEnabled}
-use Rattle.schedule_core.specs.Effects.{can, fits, worker_of, runs, has_forked, rests, comes_to_record, ends_run, is_unclaimed, is_met, has_met}
+use Rattle.schedule_core.specs.Effects.{can, runs, has_forked, rests, comes_to_record, ends_run, is_unclaimed, is_met, has_met}
 use Rattle.schedule_core.specs.Enabled.{Runs, HasForked, Rests, HasEnded, IsUnclaimed, MetWith, HasMet}
 use Rattle.schedule_core.specs.Standing.{Standing, seat_of, cell_of, cell_at, worker_at, stands}
 use Rattle.schedule_core.specs.Tasks.{end_number}

@@ -1,11 +1,9 @@
 -- What the code makes of a configuration is an event of the core.
-use Rattle.std.proofs.Common.{◌≡◌, ℕ, zero, suc, ◌+◌, ◌<◌, ◌≤◌, ◌⊎◌, List, [], ◌∷◌, ◌++◌, length, Option, Some, None, refl, sym, ap, ◌∙◌, subst, ⊎_elim, inl, inr, arith}
-use Rattle.std.specs.Prelude.{Bool, true, false, ◌&&◌, nat_lt, Result, Ok, Err, slice_set, slice_index_or}
-use Rattle.std.proofs.lemmas.Bool.{cases_eq, cases_lt}
+use Rattle.std.proofs.Common.{◌≡◌, ℕ, ◌<◌, ◌≤◌, ◌⊎◌, List, [], ◌∷◌, ◌++◌, length, Option, Some, None, refl, sym, ap, ◌∙◌, subst, ⊎_elim, inl, inr, arith}
+use Rattle.std.specs.Prelude.{Bool, true, false, ◌&&◌, nat_lt, Result, Ok, Err}
+use Rattle.std.proofs.lemmas.Bool.{cases_lt}
 use Rattle.std.proofs.lemmas.List.{length-set}
-use mathlib.Core.Path.{fun_ext}
 use Rattle.tpal_syntax.specs.Listing.{Listing}
-use Rattle.tp_value.specs.declared.values.Outcome.{Outcome}
 use Rattle.tpal_machine.specs.declared.ends.Ending.{Ending}
 use Rattle.tpal_machine.specs.declared.ends.Ending.TheVariants as ending
 use Rattle.tpal_machine.specs.declared.ends.Side.{Side}
@@ -30,14 +28,13 @@ use Rattle.schedule_core.specs.declared.seats.Cell.TheVariants as cell
 use Rattle.schedule_core.specs.declared.seats.Worker.{Worker}
 use Rattle.schedule_core.specs.Core as core
 use Rattle.schedule_core.specs.Core.{put, one_more, without, is_allowed, Config, LeastFree, CoreStep}
-use Rattle.schedule_core.specs.Apply.{Steps, Gives, IsStuckAt, SeatStuck, event_of}
+use Rattle.schedule_core.specs.Apply.{Steps, Gives, SeatStuck, event_of}
 use Rattle.schedule_core.specs.Effects as effects
 use Rattle.schedule_core.specs.Effects.{can, fits, runs, has_forked, rests, comes_to_record, ends_run, is_unclaimed, is_met, has_met, least_free, emptied, counted, diverted_on, given_on, opened, claimed, met_left, met_right, met_side, met_at, arrived, finished, freed, freed_of, IsNow, IsStuckBy, Stepped, SeatStepped, Mergeable, CellCanMerge, CanMerge}
-use Rattle.schedule_core.specs.Standing.{Standing, SameRun, seat_of, left_of, right_of, cell_of, worker_at, cell_at, ending_of, stands, with_seat, with_cell}
+use Rattle.schedule_core.specs.Standing.{Standing, SameRun, seat_of, left_of, right_of, cell_of, worker_at, cell_at, stands, with_seat, with_cell}
 use Rattle.schedule_core.specs.Tasks.{turn_of, merged_of, tasks}
 use Rattle.schedule_core.proofs.Enabling.{and_left, and_right, lt_is}
 use Rattle.schedule_core.proofs.Free.{least_is}
-use Rattle.schedule_core.proofs.Puts.{put_here, put_else, at_put}
 use Rattle.schedule_core.proofs.Stands.{put_is, put_twice, seats_put, beats_put, beats_stay, stands_seat, stands_cell, set_beyond, cell_beyond}
 
 abbrev Conf : Type 0

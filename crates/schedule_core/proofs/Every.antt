@@ -1,10 +1,10 @@
 -- The first configuration, every event, every list of events, and the end.
-use Rattle.std.proofs.Common.{◌≡◌, ℕ, zero, suc, ◌+◌, ◌*◌, ◌<◌, ◌≤◌, ◌⊎◌, List, [], ◌∷◌, Option, Some, None, refl, sym, ap, ◌∙◌, subst, ⊎_elim, inl, inr, arith}
-use Rattle.std.specs.Prelude.{Bool, true, false}
+use Rattle.std.proofs.Common.{◌≡◌, ℕ, zero, suc, ◌+◌, ◌*◌, ◌<◌, ◌≤◌, ◌⊎◌, List, Option, Some, None, refl, sym, ap, ◌∙◌, subst, ⊎_elim, inl, inr, arith}
+use Rattle.std.specs.Prelude.{Bool, false}
 use Rattle.std.proofs.Math.Nat.{mul-le-mul_right}
 use Rattle.schedule_core.specs.Machine.{left, right, Machine, Lawful}
 use Rattle.schedule_core.specs.Core.{put, top, Seat, resting, running, forked, ended, holding, Cell, free, taken, opened, met, Config, Event, AnyFree, CoreStep, goes, beats, ends, asks, forks, opens, claims, arrives_left, arrives_right, frees, finishes, given, first}
-use Rattle.schedule_core.specs.Sound.{Holder, nobody, by_seat, by_record, total, owing, saved, one_there, kept_of, IsOpen, IsPending, place, SeatHas, Paid, Sound}
+use Rattle.schedule_core.specs.Sound.{Holder, nobody, by_seat, by_record, total, owing, saved, one_there, kept_of, IsOpen, IsPending, place, SeatHas, Sound}
 use Rattle.schedule_core.specs.Run.{CoreRun, here, on, Finished}
 use Rattle.schedule_core.proofs.Puts.{put_here, put_else, at_put, total_same, total_put, total_zero}
 use Rattle.schedule_core.proofs.Paid.{total_bound}

@@ -1,18 +1,15 @@
 -- The tasks of a code meet the laws of the core.
-use Rattle.std.proofs.Common.{◌≡◌, ℕ, zero, suc, ◌+◌, ◌*◌, ◌<◌, ◌≤◌, ◌^◌, Option, Some, None, refl, sym, ap, ◌∙◌, subst, arith}
+use Rattle.std.proofs.Common.{◌≡◌, ℕ, ◌<◌, ◌≤◌, ◌^◌, Some, None, refl, sym, ap, ◌∙◌, subst, arith}
 use Rattle.std.specs.Prelude.{Bool, true, false, ◌≢◌}
 use Rattle.tpal_syntax.specs.Conditions.{IsCode}
 use Rattle.tpal_syntax.specs.Listing.{Listing}
-use Rattle.tpal_machine.specs.declared.ends.End.{End}
 use Rattle.tpal_machine.specs.declared.ends.Ending.{Ending}
 use Rattle.tpal_machine.specs.declared.ends.Ending.TheVariants as ending
 use Rattle.tpal_machine.specs.declared.ends.Goal.{Goal}
 use Rattle.tpal_machine.specs.declared.ends.Goal.TheVariants as goal
 use Rattle.tpal_machine.specs.declared.ends.Side.{Side}
-use Rattle.tpal_machine.specs.declared.ends.SideName.{SideName}
 use Rattle.tpal_machine.specs.declared.ends.SideName.TheVariants.{Left, Right}
-use Rattle.tpal_machine.specs.Effect.{answered}
-use Rattle.tpal_machine.specs.Keeping.{number_of, place_of, credit, StepKeeps, JoinedKeeps, IsUndiverted}
+use Rattle.tpal_machine.specs.Keeping.{number_of, credit, StepKeeps, JoinedKeeps, IsUndiverted}
 use Rattle.tpal_machine.specs.Merge as merging
 use Rattle.tpal_machine.specs.Merge.{Joined, joined}
 use Rattle.tpal_machine.specs.Owed.{owing}
@@ -25,7 +22,7 @@ use Rattle.tpal_machine.specs.Within.{JoinedOwes, NextOwes}
 use Rattle.tpal_machine.proofs.Keeping.{step_keeps, answer_keeps, merge_keeps}
 use Rattle.tpal_machine.proofs.Owed.{after_step}
 use Rattle.tpal_machine.proofs.Undiverted.{agrees}
-use Rattle.schedule_core.specs.Machine.{left, right, Machine, Merged, Runs, Over, MergedOwes, IsOther, TurnOwes, KeepsTurn, KeepsMerge, Lawful}
+use Rattle.schedule_core.specs.Machine.{left, right, Merged, MergedOwes, TurnOwes, KeepsTurn, KeepsMerge, Lawful}
 use Rattle.schedule_core.specs.Tasks.{end_number, turn_of, merged_of, MergesSides, MergesTo, tasks}
 
 other_record : (g : Goal) (k : ℕ) → k < 2 ^ 32 → end_number (end_of g) ≢ left k → end_number (end_of g) ≢ right k → IsOtherRecord g k

@@ -38,3 +38,11 @@ pub mod Asked
 pub mod Beginning
 -- the laws of the core for the tasks of a code
 pub mod Ruling
+-- a solo run comes to its end
+pub mod Finishing
+-- a turn of a solo run
+pub mod Turning
+-- a solo run on its way
+pub mod Soloing
+-- a solo run is a list of events of the core
+pub mod Sharing

@@ -1,6 +1,6 @@
 -- A turn of one instruction is a step.
-use Rattle.std.proofs.Common.{◌≡◌, ℕ, zero, suc, ◌+◌, ◌≤◌, refl, sym, ap, ◌∙◌, subst, arith}
-use Rattle.std.specs.Prelude.{Bool, ◌≢◌, Option, None, Result, Ok, Err}
+use Rattle.std.proofs.Common.{◌≡◌, ℕ, refl, sym, ap, subst, arith}
+use Rattle.std.specs.Prelude.{Bool, ◌≢◌, Option, Result, Ok, Err}
 use Rattle.tpal_syntax.specs.Listing.{Listing}
 use Rattle.tpal_syntax.specs.Conditions.{IsCode}
 use Rattle.tpal_machine.specs.declared.ends.Ending.{Ending}
@@ -27,7 +27,7 @@ use Rattle.schedule_core.specs.declared.stepping.Once.{Once}
 use Rattle.schedule_core.specs.declared.stepping.Once.TheVariants as once
 use Rattle.schedule_core.specs.declared.seats.Seat.TheVariants as seat
 use Rattle.schedule_core.specs.Core.{one_more, is_allowed}
-use Rattle.schedule_core.specs.Effects.{Stepped, SeatStepped, CanRun, IsStepOnce, OnceGives, IsWant, IsNow, emptied, counted, least_free}
+use Rattle.schedule_core.specs.Effects.{Stepped, SeatStepped, CanRun, IsStepOnce, OnceGives, IsWant, emptied, counted, least_free}
 use Rattle.schedule_core.specs.Standing.{Standing, worker_at}
 
 abbrev kind : Stopped → ℕ

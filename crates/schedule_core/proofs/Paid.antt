@@ -1,8 +1,8 @@
 -- Counts that stay at their type's end.
-use Rattle.std.proofs.Common.{◌≡◌, ℕ, zero, suc, ◌+◌, ◌*◌, ◌<◌, ◌≤◌, ◌⊎◌, refl, sym, ap, ◌∙◌, subst, ⊎_elim, inl, inr, arith}
-use Rattle.std.specs.Prelude.{Bool, true, false, nat_lt, min}
+use Rattle.std.proofs.Common.{◌≡◌, ℕ, zero, suc, ◌+◌, ◌*◌, ◌<◌, ◌≤◌, ⊎_elim, inl, inr, arith}
+use Rattle.std.specs.Prelude.{true, nat_lt, min}
 use Rattle.std.proofs.Math.Nat.{suc-mul, min-eq_left, min-eq_right}
-use Rattle.std.proofs.lemmas.Bool.{cases_lt, lt-ltb, le-ltb}
+use Rattle.std.proofs.lemmas.Bool.{cases_lt, le-ltb}
 use Rattle.schedule_core.specs.Core.{one_more, top}
 use Rattle.schedule_core.specs.Sound.{Paid, total}
 

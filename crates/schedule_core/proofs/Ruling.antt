@@ -1,6 +1,6 @@
 -- The laws of the core for the tasks of a code.
-use Rattle.std.proofs.Common.{◌≡◌, ℕ, ◌+◌, ◌*◌, ◌<◌, ◌≤◌, ◌^◌, List, length, Option, Some, None, refl, sym, ap, ◌∙◌, subst, arith}
-use Rattle.std.specs.Prelude.{Bool, true, false}
+use Rattle.std.proofs.Common.{◌≡◌, ℕ, ◌*◌, ◌<◌, ◌≤◌, ◌^◌, List, length, Some, refl, arith}
+use Rattle.std.specs.Prelude.{Bool, false}
 use Rattle.tpal_syntax.specs.Conditions.{IsCode}
 use Rattle.tpal_syntax.specs.Listing.{Listing}
 use Rattle.tpal_machine.specs.declared.ends.Ending.{Ending}
@@ -25,7 +25,7 @@ use Rattle.schedule_core.proofs.Asked.{roomy}
 use Rattle.schedule_core.proofs.Every.{first_sound, every_event, every_run, finished}
 use Rattle.schedule_core.proofs.Instance.{lawful}
 use Rattle.schedule_core.proofs.Keeps.{merge_at, never_stuck}
-use Rattle.schedule_core.proofs.View.{View, view_of, sound_of}
+use Rattle.schedule_core.proofs.View.{view_of, sound_of}
 
 merges_fit : (code : Listing) (r : RestState) (p q : Ending) (both : Merged State Ending) → MergesTo code r p q both → AreSidesOf code r p q
 merges_fit code r (ending.At i Left p) (ending.At j Right q) both m = m.merge.sides

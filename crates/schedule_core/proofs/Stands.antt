@@ -1,16 +1,13 @@
 -- What a change of what is kept is for the workers and records of the core.
-use Rattle.std.proofs.Common.{◌≡◌, ℕ, zero, suc, ◌+◌, ◌<◌, ◌≤◌, List, [], ◌∷◌, length, set, Option, Some, None, refl, sym, ap, ◌∙◌, subst, ⊎_elim, arith}
-use Rattle.std.specs.Prelude.{Bool, true, false, nat_eq, slice_set, slice_index_or}
+use Rattle.std.proofs.Common.{◌≡◌, ℕ, ◌<◌, ◌≤◌, List, length, set, refl, sym, ap, ◌∙◌, subst, ⊎_elim}
+use Rattle.std.specs.Prelude.{slice_set}
 use Rattle.std.proofs.lemmas.Bool.{cases_eq}
 use Rattle.std.proofs.lemmas.List.{get_or-set_same, get_or-set_other, length-set, set_past, get_or_past}
 use mathlib.Core.Path.{fun_ext}
-use Rattle.tp_value.specs.declared.values.Outcome.{Outcome}
 use Rattle.tpal_machine.specs.declared.ends.Ending.{Ending}
-use Rattle.tpal_machine.specs.declared.ends.Ending.TheVariants as ending
 use Rattle.tpal_machine.specs.RestState.{RestState}
 use Rattle.tpal_machine.specs.State.{State}
 use Rattle.schedule_core.specs.declared.seats.Seat.{Seat}
-use Rattle.schedule_core.specs.declared.seats.Seat.TheVariants as seat
 use Rattle.schedule_core.specs.declared.seats.Cell.{Cell}
 use Rattle.schedule_core.specs.declared.seats.Cell.TheVariants as cell
 use Rattle.schedule_core.specs.declared.seats.Worker.{Worker}

@@ -1,9 +1,9 @@
 -- Soundness as one record, the form in which events are followed.
-use Rattle.std.proofs.Common.{◌≡◌, ℕ, zero, suc, ◌+◌, ◌*◌, ◌<◌, ◌≤◌, ◌⊎◌, Option, Some, None, List, refl, sym, ap, ◌∙◌, subst}
-use Rattle.std.specs.Prelude.{Bool, true, false, ◌≢◌}
+use Rattle.std.proofs.Common.{◌≡◌, ℕ, ◌+◌, ◌*◌, ◌≤◌, Option, Some, None, refl, sym, ap, ◌∙◌, subst}
+use Rattle.std.specs.Prelude.{false}
 use Rattle.schedule_core.specs.Machine.{left, right, Machine, MergeOwes}
 use Rattle.schedule_core.specs.Core.{Seat, resting, running, forked, ended, holding, Cell, free, taken, opened, met, Config}
-use Rattle.schedule_core.specs.Sound.{Holder, nobody, by_seat, by_record, SeatHas, CellHas, SeatEnds, ChildEnd, SideEnd, CellEnds, RootEnd, SeatOwes, ChildOwes, SideIs, CellOwes, IsPending, IsMet, SeatRecord, SeatTakes, ChildRecord, CellRecord, Order, total, owing, saved, SeatFresh, CellFresh, Paid, Sound}
+use Rattle.schedule_core.specs.Sound.{Holder, nobody, by_seat, by_record, SeatHas, CellHas, SeatEnds, ChildEnd, SideEnd, CellEnds, RootEnd, SeatOwes, ChildOwes, SideIs, CellOwes, IsPending, SeatRecord, SeatTakes, ChildRecord, CellRecord, Order, total, owing, saved, SeatFresh, CellFresh, Paid, Sound}
 
 module _ {T R E : Type 0} (M : Machine T R E) (holder : ℕ → Holder) (ending : ℕ → E) where
   abbrev pub SeatOk : (ℕ → Cell T R E) → ℕ → Seat T R E → Type 0

@@ -1,5 +1,5 @@
 -- What an event is asked of a configuration of a code, and what it gives.
-use Rattle.std.specs.Prelude.{ℕ, ◌+◌, ◌*◌, ◌^◌, ◌≡◌, ◌≢◌, ◌<◌, ◌≤◌, Bool, false, length, Option, Some, None, Result, Ok, Err}
+use Rattle.std.specs.Prelude.{ℕ, ◌*◌, ◌≡◌, ◌≤◌, Bool, false, length, Option, Some, None, Result, Ok, Err}
 use Rattle.tp_value.specs.declared.limits.TheConstants.{MAX_FUEL, MAX_BEAT, MAX_WORKERS, MAX_FORKS, RECORDS_PER_WORKER}
 use Rattle.tpal_syntax.specs.Listing.{Listing}
 use Rattle.tpal_machine.specs.declared.ends.Ending.{Ending}

@@ -1,5 +1,5 @@
 -- Configurations of workers and records, and the events that change them.
-use Rattle.std.specs.Prelude.{ℕ, suc, ◌+◌, ◌-◌, ◌^◌, min, ◌≡◌, ◌≢◌, ◌<◌, List, [], ◌∷◌, ◌++◌, Option, Some, None, Bool, true, false, not, nat_eq, nat_lt, if◌then◌else◌}
+use Rattle.std.specs.Prelude.{ℕ, ◌+◌, ◌-◌, ◌^◌, min, ◌≡◌, ◌≢◌, ◌<◌, List, [], ◌∷◌, ◌++◌, Option, Some, None, Bool, true, false, not, nat_eq, nat_lt, if◌then◌else◌}
 use Rattle.std.specs.List.{filter}
 use Rattle.schedule_core.specs.Machine.{root, left, right, Machine, Merged, Runs, Over, Goes, Beats, Ends, Asks, Forks}
 

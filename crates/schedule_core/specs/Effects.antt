@@ -1,7 +1,6 @@
 -- What each event makes of a configuration as it is kept, by what its worker has.
 use Rattle.std.specs.Prelude.{ℕ, ◌+◌, ◌≡◌, Bool, true, false, ◌&&◌, nat_lt, if◌then◌else◌, IsSome, length, List, [], ◌∷◌, ◌++◌, Option, Some, None, Result, Ok, Err, slice_set}
 use Rattle.tpal_syntax.specs.Listing.{Listing}
-use Rattle.tpal_machine.specs.declared.ends.Ending.{Ending}
 use Rattle.tpal_machine.specs.declared.ends.Ending.TheVariants as ending
 use Rattle.tpal_machine.specs.declared.ends.Side.{Side}
 use Rattle.tpal_machine.specs.declared.ends.SideName.{SideName}
@@ -24,7 +23,6 @@ use Rattle.schedule_core.specs.declared.seats.Seat.{Seat}
 use Rattle.schedule_core.specs.declared.seats.Seat.TheVariants as seat
 use Rattle.schedule_core.specs.declared.seats.Cell.{Cell}
 use Rattle.schedule_core.specs.declared.seats.Cell.TheVariants as cell
-use Rattle.schedule_core.specs.declared.seats.Worker.{Worker}
 use Rattle.schedule_core.specs.declared.stepping.Once.{Once}
 use Rattle.schedule_core.specs.declared.stepping.Once.TheVariants as once
 use Rattle.schedule_core.specs.Core.{one_more, without, is_allowed}

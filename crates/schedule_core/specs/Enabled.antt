@@ -1,5 +1,5 @@
 -- Which events are enabled.
-use Rattle.std.specs.Prelude.{ℕ, ◌≡◌, ◌≢◌, ◌<◌, Option, Some, None}
+use Rattle.std.specs.Prelude.{ℕ, ◌≡◌, ◌≢◌, ◌<◌, Some, None}
 use Rattle.schedule_core.specs.Machine.{root, Machine}
 use Rattle.schedule_core.specs.Core.{Seat, resting, running, forked, ended, holding, Cell, free, taken, opened, met, Config, Event, Step, Open, Claim, Arrive, Free, Finish}
 

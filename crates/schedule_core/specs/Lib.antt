@@ -18,3 +18,13 @@ pub mod Standing
 pub mod Apply
 -- what each event makes of a configuration, by what its worker has
 pub mod Effects
+-- the solo run
+pub mod Solo
+-- the number of instructions after which a solo run is over
+pub mod Steps
+-- what the worker of a solo run owes
+pub mod Lanes
+-- a solo run as a list of events of the core
+pub mod Sharing
+-- the counts of a report
+pub mod Counting

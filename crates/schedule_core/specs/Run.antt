@@ -1,7 +1,7 @@
 -- Lists of events, and what is said of the configurations that they lead to.
-use Rattle.std.specs.Prelude.{ℕ, suc, ◌+◌, ◌*◌, ◌≡◌, ◌≤◌, List, [], ◌∷◌, Some}
+use Rattle.std.specs.Prelude.{ℕ, suc, ◌+◌, ◌*◌, ◌≡◌, ◌≤◌, List, [], ◌∷◌}
 use Rattle.schedule_core.specs.Machine.{Machine}
-use Rattle.schedule_core.specs.Core.{Seat, resting, Cell, Config, Event, Choice, CoreStep, goes, beats, ends, asks, forks, opens, claims, arrives_left, arrives_right, frees, finishes, put}
+use Rattle.schedule_core.specs.Core.{resting, Config, Event, Choice, CoreStep, goes, beats, ends, asks, forks, opens, claims, arrives_left, arrives_right, frees, finishes, put}
 use Rattle.schedule_core.specs.Sound.{IsOpen, total}
 
 -- a list of events leads from a configuration to another

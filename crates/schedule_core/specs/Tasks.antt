@@ -1,5 +1,5 @@
 -- The tasks of a code, as the core sees them.
-use Rattle.std.specs.Prelude.{ℕ, ◌≡◌, Bool, Option, Some, None}
+use Rattle.std.specs.Prelude.{ℕ, ◌≡◌}
 use Rattle.tpal_syntax.specs.Listing.{Listing}
 use Rattle.tpal_machine.specs.declared.ends.End.{End}
 use Rattle.tpal_machine.specs.declared.ends.End.TheVariants as «end»

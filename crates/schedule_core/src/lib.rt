@@ -10,15 +10,22 @@ mod ends;
 mod event;
 mod first;
 mod job;
+mod lanes;
 pub mod laws;
 mod records;
 mod seats;
+mod solo;
+pub mod solo_laws;
 mod stepping;
 
 pub use applying::apply;
 pub use config::Config;
 pub use event::{ApplyFault, Event};
 pub use job::{Job, Report};
+pub use lanes::{Opened, Tally};
+pub use solo::solo_run;
 
+#[cfg(test)]
+mod solo_tests;
 #[cfg(test)]
 mod tests;
