@@ -1,26 +1,23 @@
 -- What a task owes after a step and after a turn.
-use Rattle.std.proofs.Common.{◌≡◌, ℕ, zero, suc, ◌+◌, ◌≤◌, Bool, true, false, Option, refl, ap, sym, subst, ◌∙◌, arith}
+use Rattle.std.proofs.Common.{◌≡◌, ℕ, zero, suc, ◌+◌, ◌≤◌, Bool, true, false, refl, ap, sym, subst, ◌∙◌, arith}
 use Rattle.tpal_syntax.specs.Conditions.{IsCode}
 use Rattle.tpal_syntax.specs.Listing.{Listing}
 use Rattle.tpal_machine.specs.declared.ends.Ending.{Ending}
-use Rattle.tpal_machine.specs.declared.ends.Ending.TheVariants as ending
-use Rattle.tpal_machine.specs.declared.ends.SideName.TheVariants.{Left, Right}
 use Rattle.tpal_machine.specs.declared.turn.Ran.{Ran}
 use Rattle.tpal_machine.specs.declared.turn.Turn.{Turn}
 use Rattle.tpal_machine.specs.declared.turn.Turn.TheVariants as turn
 use Rattle.tpal_machine.specs.Answer.{IsTurn, IsRan, HadMemory}
 use Rattle.tpal_machine.specs.Belonging.{RunsOn, IsStepOf, IsJoinedOf}
-use Rattle.tpal_machine.specs.Cut.{Forked}
 use Rattle.tpal_machine.specs.Effect.{answered}
 use Rattle.tpal_machine.specs.Keeping.{IsUndiverted}
 use Rattle.tpal_machine.specs.Memory.{IsWant, WhereWanting}
 use Rattle.tpal_machine.specs.Merge as merging
 use Rattle.tpal_machine.specs.Merge.{Joined}
 use Rattle.tpal_machine.specs.Owed.{owing, AnswersOwe, StoppedOwes, AnsweredOwes, TurnOwes, RanOwes, due_after}
-use Rattle.tpal_machine.specs.Owes.{Bound, Owes}
+use Rattle.tpal_machine.specs.Owes.{Owes}
 use Rattle.tpal_machine.specs.State.{State}
 use Rattle.tpal_machine.specs.Step.{Step, Goes, Beats, Ends, Asks, Forks, Stuck, Strays, step}
-use Rattle.tpal_machine.specs.Turn.{Stopped, Pauses, Waits, Parts, Comes, Sticks, Turned, turn_from, turn_of, went_on}
+use Rattle.tpal_machine.specs.Turn.{Stopped, Turned, turn_from, turn_of, went_on}
 use Rattle.tpal_machine.specs.Within.{Owing, NextOwes, ForkOwes, JoinedOwes}
 use Rattle.tpal_machine.proofs.Belonging.{step_of}
 use Rattle.tpal_machine.proofs.Given.{answered_of, joined_of_code}
