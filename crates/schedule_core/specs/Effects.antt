@@ -1,5 +1,7 @@
 -- What each event makes of a configuration as it is kept, by what its worker has.
-use Rattle.std.specs.Prelude.{ℕ, ◌+◌, ◌≡◌, Bool, true, false, ◌&&◌, nat_lt, if◌then◌else◌, IsSome, length, List, [], ◌∷◌, ◌++◌, Option, Some, None, Result, Ok, Err, slice_set}
+use Rattle.std.specs.Prelude.{ℕ, ◌+◌, ◌≡◌, Bool, true, false, ◌&&◌, nat_lt, if◌then◌else◌, IsSome}
+use Rattle.std.specs.Prelude.{length, List, [], ◌∷◌, ◌++◌, Option, Some, None, Result, Ok, Err}
+use Rattle.std.specs.Prelude.{slice_set}
 use Rattle.tpal_syntax.specs.Listing.{Listing}
 use Rattle.tpal_machine.specs.declared.ends.Ending.TheVariants as ending
 use Rattle.tpal_machine.specs.declared.ends.Side.{Side}
@@ -106,7 +108,9 @@ fits cells (event.Finish w) x = ends_run x
 
 -- an event can happen
 abbrev pub can : Standing → Event → Bool
-can s e = nat_lt (worker_of e) (length s.workers) && fits s.cells e (worker_at s.workers (worker_of e)).seat
+can s e =
+    nat_lt (worker_of e) (length s.workers) && fits s.cells e
+    (worker_at s.workers (worker_of e)).seat
 
 -- ---- the least free record
 
@@ -129,14 +133,16 @@ least_free cells = least_free_from cells 0
 abbrev pub met_left : ℕ → ℕ → Side → Cell → Cell × Seat
 met_left w k out cell.Free = (cell.Free, seat.Resting)
 met_left w k out (cell.Taken worker) = (cell.Taken worker, seat.Resting)
-met_left w k out (cell.Opened rest child p None) = (cell.Opened rest child (Some out) None, seat.Resting)
+met_left w k out (cell.Opened rest child p None) =
+    (cell.Opened rest child (Some out) None, seat.Resting)
 met_left w k out (cell.Opened rest child p (Some q)) = (cell.Met w rest out q, seat.Holding k)
 met_left w k out (cell.Met worker rest p q) = (cell.Met worker rest p q, seat.Resting)
 
 abbrev pub met_right : ℕ → ℕ → Side → Cell → Cell × Seat
 met_right w k out cell.Free = (cell.Free, seat.Resting)
 met_right w k out (cell.Taken worker) = (cell.Taken worker, seat.Resting)
-met_right w k out (cell.Opened rest child None q) = (cell.Opened rest child None (Some out), seat.Resting)
+met_right w k out (cell.Opened rest child None q) =
+    (cell.Opened rest child None (Some out), seat.Resting)
 met_right w k out (cell.Opened rest child (Some p) q) = (cell.Met w rest p out, seat.Holding k)
 met_right w k out (cell.Met worker rest p q) = (cell.Met worker rest p q, seat.Resting)
 
@@ -152,12 +158,19 @@ merged_seat (merging.Ends e) = seat.Ended e
 module _ (s : Standing) (w : ℕ) where
   -- the worker's task was diverted
   abbrev pub diverted_on : State → Standing
-  diverted_on task = record s { workers = slice_set s.workers w (record { seat = seat.Running task true; beats = one_more (worker_at s.workers w).beats }) }
+  diverted_on task =
+      record s {
+        workers = slice_set s.workers w
+            (record { seat = seat.Running task true; beats = one_more (worker_at s.workers w).beats });
+      }
 
   -- the worker's task was given a record, or none
   abbrev pub given_on : State → Option ℕ → Standing
-  given_on task None = record (with_seat s w (seat.Running (answered None task) false)) { skipped = one_more s.skipped }
-  given_on task (Some k) = with_cell (with_seat s w (seat.Running (answered (Some k) task) false)) k (cell.Taken w)
+  given_on task None =
+      record (with_seat s w (seat.Running (answered None task) false))
+      { skipped = one_more s.skipped }
+  given_on task (Some k) =
+      with_cell (with_seat s w (seat.Running (answered (Some k) task) false)) k (cell.Taken w)
 
 module _ (s : Standing) (w : ℕ) where
   -- the worker has nothing
@@ -171,7 +184,11 @@ module _ (s : Standing) (w : ℕ) where
   abbrev pub opened : Seat → Standing
   opened seat.Resting = emptied
   opened (seat.Running task due) = emptied
-  opened (seat.Forked rec on child rest) = record (with_cell (with_seat emptied w (seat.Running on false)) rec (cell.Opened rest (Some child) None None)) { order = s.order ++ rec ∷ []; tasks = one_more s.tasks }
+  opened (seat.Forked rec on child rest) =
+      record
+      (with_cell (with_seat emptied w (seat.Running on false)) rec
+      (cell.Opened rest (Some child) None None))
+      { order = s.order ++ rec ∷ []; tasks = one_more s.tasks }
   opened (seat.Ended e) = emptied
   opened (seat.Holding rec) = emptied
 
@@ -179,7 +196,9 @@ module _ (s : Standing) (w : ℕ) where
   claimed k cell.Free = with_cell s k cell.Free
   claimed k (cell.Taken worker) = with_cell s k cell.Free
   claimed k (cell.Opened rest None p q) = with_cell s k cell.Free
-  claimed k (cell.Opened rest (Some child) p q) = with_cell (with_seat (with_cell s k cell.Free) w (seat.Running child false)) k (cell.Opened rest None p q)
+  claimed k (cell.Opened rest (Some child) p q) =
+      with_cell (with_seat (with_cell s k cell.Free) w (seat.Running child false)) k
+      (cell.Opened rest None p q)
   claimed k (cell.Met worker rest p q) = with_cell s k cell.Free
 
   abbrev pub met_at : ℕ → Cell × Seat → Standing
@@ -189,7 +208,8 @@ module _ (s : Standing) (w : ℕ) where
   arrived seat.Resting = emptied
   arrived (seat.Running task due) = emptied
   arrived (seat.Forked rec on child rest) = emptied
-  arrived (seat.Ended (ending.At rec side out)) = met_at rec (met_side w rec side out (cell_at s.cells rec))
+  arrived (seat.Ended (ending.At rec side out)) =
+      met_at rec (met_side w rec side out (cell_at s.cells rec))
   arrived (seat.Ended (ending.Root outcome)) = emptied
   arrived (seat.Holding rec) = emptied
 
@@ -205,7 +225,9 @@ module _ (s : Standing) (w : ℕ) where
   freed_of code k cell.Free = with_cell emptied k cell.Free
   freed_of code k (cell.Taken worker) = with_cell emptied k cell.Free
   freed_of code k (cell.Opened rest child p q) = with_cell emptied k cell.Free
-  freed_of code k (cell.Met worker rest p q) = record (with_seat (with_cell emptied k cell.Free) w (merged_seat (joined code rest p q))) { order = without k s.order }
+  freed_of code k (cell.Met worker rest p q) =
+      record (with_seat (with_cell emptied k cell.Free) w (merged_seat (joined code rest p q)))
+      { order = without k s.order }
 
   abbrev pub freed : Listing → Seat → Standing
   freed code seat.Resting = emptied
@@ -238,11 +260,14 @@ IsWant (Err fault.NoMemory) = Unit {0}
 module _ (s : Standing) (w : ℕ) (free : Option ℕ) where
   -- what a step of the worker's task gives, where this is the least free record
   abbrev pub Stepped : Bool → machine.Step → Result Standing ApplyFault → Type 0
-  Stepped due (machine.Goes task) result = IsNow (with_seat (counted s w) w (seat.Running task due)) result
+  Stepped due (machine.Goes task) result =
+      IsNow (with_seat (counted s w) w (seat.Running task due)) result
   Stepped due (machine.Beats task) result = IsNow (diverted_on (counted s w) w task) result
   Stepped due (machine.Ends e) result = IsNow (with_seat (counted s w) w (seat.Ended e)) result
   Stepped due (machine.Asks task) result = IsNow (given_on (counted s w) w task free) result
-  Stepped due (machine.Forks parts) result = IsNow (with_seat (counted s w) w (seat.Forked parts.rec parts.left parts.child parts.rest)) result
+  Stepped due (machine.Forks parts) result =
+      IsNow (with_seat (counted s w) w (seat.Forked parts.rec parts.left parts.child parts.rest))
+      result
   Stepped due (machine.Stuck f) result = IsStuckBy f result
   Stepped due machine.Strays result = ⊥
 
@@ -252,7 +277,8 @@ OnceGives c w due (once.Goes task) result = IsNow (with_seat c w (seat.Running t
 OnceGives c w due (once.Beats task) result = IsNow (diverted_on c w task) result
 OnceGives c w due (once.Ends e) result = IsNow (with_seat c w (seat.Ended e)) result
 OnceGives c w due (once.Asks task) result = IsNow (given_on c w task (least_free c.cells)) result
-OnceGives c w due (once.Forks rec on child rest) result = IsNow (with_seat c w (seat.Forked rec on child rest)) result
+OnceGives c w due (once.Forks rec on child rest) result =
+    IsNow (with_seat c w (seat.Forked rec on child rest)) result
 OnceGives c w due (once.Stuck f) result = IsStuckBy f result
 OnceGives c w due once.NoMemory result = IsWant result
 
@@ -272,7 +298,8 @@ IsStepOnce x (once.Goes task) = x ≡ machine.Goes task
 IsStepOnce x (once.Beats task) = x ≡ machine.Beats task
 IsStepOnce x (once.Ends e) = x ≡ machine.Ends e
 IsStepOnce x (once.Asks task) = x ≡ machine.Asks task
-IsStepOnce x (once.Forks rec on child rest) = x ≡ machine.Forks (record { rec = rec; left = on; rest = rest; child = child })
+IsStepOnce x (once.Forks rec on child rest) =
+    x ≡ machine.Forks (record { rec = rec; left = on; rest = rest; child = child })
 IsStepOnce x (once.Stuck f) = x ≡ machine.Stuck f
 IsStepOnce x once.NoMemory = Unit {0}
 
@@ -287,7 +314,9 @@ CanRun code (seat.Holding rec) = Unit {0}
 -- what a step of a worker gives
 abbrev pub SeatStepped : Listing → Standing → ℕ → Seat → Result Standing ApplyFault → Type 0
 SeatStepped code s w seat.Resting result = Unit {0}
-SeatStepped code s w (seat.Running task due) result = Stepped s w (least_free s.cells) due (step code s.heartbeat (is_allowed s.forks (worker_at s.workers w).beats) task) result
+SeatStepped code s w (seat.Running task due) result =
+    Stepped s w (least_free s.cells) due
+    (step code s.heartbeat (is_allowed s.forks (worker_at s.workers w).beats) task) result
 SeatStepped code s w (seat.Forked rec on child rest) result = Unit {0}
 SeatStepped code s w (seat.Ended e) result = Unit {0}
 SeatStepped code s w (seat.Holding rec) result = Unit {0}

@@ -1,7 +1,9 @@
 -- Which events are enabled.
 use Rattle.std.specs.Prelude.{ℕ, ◌≡◌, ◌≢◌, ◌<◌, Some, None}
 use Rattle.schedule_core.specs.Machine.{root, Machine}
-use Rattle.schedule_core.specs.Core.{Seat, resting, running, forked, ended, holding, Cell, free, taken, opened, met, Config, Event, Step, Open, Claim, Arrive, Free, Finish}
+use Rattle.schedule_core.specs.Core.{Seat, resting, running, forked, ended, holding, Cell, free}
+use Rattle.schedule_core.specs.Core.{taken, opened, met, Config, Event, Step, Open, Claim, Arrive}
+use Rattle.schedule_core.specs.Core.{Free, Finish}
 
 module _ {Task Rest Ending : Type 0} where
   -- a worker runs a task
@@ -52,7 +54,10 @@ module _ {Task Rest Ending : Type 0} where
   MetWith P (met w rest p q) = P rest p q
 
   -- a worker has met a record, of whose rest and sides this holds
-  abbrev pub HasMet : (Rest → Ending → Ending → Type 0) → (ℕ → Cell Task Rest Ending) → Seat Task Rest Ending → Type 0
+  abbrev pub HasMet : (Rest → Ending → Ending → Type 0)
+      → (ℕ → Cell Task Rest Ending)
+      → Seat Task Rest Ending
+      → Type 0
   HasMet P cells resting = ⊥
   HasMet P cells (running task due) = ⊥
   HasMet P cells (forked k on child rest) = ⊥
@@ -60,7 +65,8 @@ module _ {Task Rest Ending : Type 0} where
   HasMet P cells (holding k) = MetWith P (cells k)
 
 -- the event can happen, among W workers and K records
-abbrev pub Enabled : {Task Rest Ending : Type 0} → Machine Task Rest Ending → ℕ → ℕ → Config Task Rest Ending → Event → Type 0
+abbrev pub Enabled : {Task Rest Ending : Type 0} → Machine Task Rest Ending → ℕ → ℕ
+    → Config Task Rest Ending → Event → Type 0
 Enabled M K W c (Step w) = (w < W) × Runs (c.seats w)
 Enabled M K W c (Open w) = (w < W) × HasForked K (c.seats w)
 Enabled M K W c (Claim w k) = (w < W) × Rests (c.seats w) × IsUnclaimed (c.cells k)

@@ -1,6 +1,7 @@
--- What the worker of a solo run owes: its task, and for each open record the two sides and what they are
--- merged to.
-use Rattle.std.specs.Prelude.{◌≡◌, ◌⊎◌, ◌≤◌, ◌^◌, ◌-◌, ℕ, Bool, false, IsSome, List, [], ◌∷◌, length, Some, None}
+-- What the worker of a solo run owes: its task, and for each open record the two sides and what
+-- they are merged to.
+use Rattle.std.specs.Prelude.{◌≡◌, ◌⊎◌, ◌≤◌, ◌^◌, ◌-◌, ℕ, Bool, false, IsSome, List, [], ◌∷◌}
+use Rattle.std.specs.Prelude.{length, Some, None}
 use Rattle.tp_value.specs.declared.values.Outcome.{Outcome}
 use Rattle.tpal_syntax.specs.Listing.{Listing}
 use Rattle.tpal_machine.specs.declared.ends.End.{End}
@@ -24,7 +25,8 @@ use Rattle.schedule_core.specs.declared.lanes.Opened.TheVariants.{Waiting, Half}
 use Rattle.schedule_core.specs.declared.lanes.Stage.TheVariants as stage
 use Rattle.schedule_core.specs.declared.lanes.Stage as declared
 use Rattle.schedule_core.specs.declared.lanes.Tally.{Tally}
-use Rattle.schedule_core.specs.Solo.{Lane, Stage, Runs, Over, Lost, runs, asked, forked, arrived, arrived_at}
+use Rattle.schedule_core.specs.Solo.{Lane, Stage, Runs, Over, Lost, runs, asked, forked, arrived}
+use Rattle.schedule_core.specs.Solo.{arrived_at}
 
 -- ---- places
 
@@ -52,14 +54,16 @@ module _ (code : Listing) (heartbeat : ℕ) where
   JoinedOwed (merging.Ends e) opened More = More e
 
   -- what a rest and its sides are joined to owes an ending of which more is so
-  pub record RestOwed (rest : RestState) (p q : Side) (opened : List Opened) (More : Ending → Type 0) : Type 0 where
+  pub record RestOwed (rest : RestState) (p q : Side) (opened : List Opened)
+      (More : Ending → Type 0) : Type 0 where
     pub both : Joined
     pub place : end_of rest.goal ≡ end_at opened
     pub merge : MergeOf code rest p q both
     pub owed : JoinedOwed both opened More
 
   -- the child of a record that waits owes its side
-  pub record ChildOwed (rest : RestState) (child : State) (p : Side) (opened : List Opened) (More : Ending → Type 0) : Type 0 where
+  pub record ChildOwed (rest : RestState) (child : State) (p : Side) (opened : List Opened)
+      (More : Ending → Type 0) : Type 0 where
     pub number : ℕ
     pub q : Side
     pub none : child.pending ≡ None
@@ -78,7 +82,8 @@ module _ (code : Listing) (heartbeat : ℕ) where
   -- where a side arrives at these open records, the run comes to an outcome
   abbrev pub ArrivalOwed : List Opened → Outcome → Side → Type 0
   ArrivalOwed [] out side = ⊥
-  ArrivalOwed (one ∷ opened) out side = SideOwed one side opened (λ e. EndingOwed e out (λ other. ArrivalOwed opened out other))
+  ArrivalOwed (one ∷ opened) out side =
+      SideOwed one side opened (λ e. EndingOwed e out (λ other. ArrivalOwed opened out other))
 
   -- the same of an ending
   abbrev pub EndOwed : List Opened → Outcome → Ending → Type 0
@@ -109,7 +114,8 @@ after_stopped code (turns.Sticks fault block at) opened tally = Lost
 abbrev pub after_turn : Listing → Turn → List Opened → Tally → Stage
 after_turn code (turn.Pause task) opened tally = runs task opened tally
 after_turn code (turn.NeedRecord waits) opened tally = asked waits opened tally
-after_turn code (turn.Forked left rest child rec) opened tally = forked (record { rec = rec; left = left; rest = rest; child = child }) opened tally
+after_turn code (turn.Forked left rest child rec) opened tally =
+    forked (record { rec = rec; left = left; rest = rest; child = child }) opened tally
 after_turn code (turn.Arrived rec side out) opened tally = arrived_at opened code tally out
 after_turn code (turn.Halted outcome) opened tally = Over outcome tally
 after_turn code (turn.Stuck fault block at) opened tally = Lost
@@ -120,7 +126,8 @@ abbrev pub TurnFits : Listing → ℕ → Turn → List Opened → Outcome → T
 TurnFits code heartbeat (turn.Pause task) opened out = Unit {0}
 TurnFits code heartbeat (turn.NeedRecord waits) opened out = IsSome waits.waiting
 TurnFits code heartbeat (turn.Forked left rest child rec) opened out = Unit {0}
-TurnFits code heartbeat (turn.Arrived rec side p) opened out = ArrivalOwed code heartbeat opened out p
+TurnFits code heartbeat (turn.Arrived rec side p) opened out =
+    ArrivalOwed code heartbeat opened out p
 TurnFits code heartbeat (turn.Halted outcome) opened out = Unit {0}
 TurnFits code heartbeat (turn.Stuck fault block at) opened out = ⊥
 TurnFits code heartbeat turn.NoMemory opened out = Unit {0}

@@ -1,5 +1,6 @@
 -- What the core of all interleavings uses of a machine that runs one task.
-use Rattle.std.specs.Prelude.{ℕ, suc, ◌+◌, ◌*◌, ◌≡◌, ◌≢◌, ◌<◌, ◌≤◌, Option, Some, None, Bool, true, false}
+use Rattle.std.specs.Prelude.{ℕ, suc, ◌+◌, ◌*◌, ◌≡◌, ◌≢◌, ◌<◌, ◌≤◌, Option, Some, None, Bool, true}
+use Rattle.std.specs.Prelude.{false}
 
 -- ---- ends
 
@@ -17,8 +18,8 @@ right k = 2 * k + 2
 
 -- ---- what a step and a merge come to
 
--- what a step comes to: the next task, the task that a beat diverted, what the task ends with, for each
--- answer the task that asked for a record and was given it, the parts of a fork, or nothing
+-- what a step comes to: the next task, the task that a beat diverted, what the task ends with, for
+-- each answer the task that asked for a record and was given it, the parts of a fork, or nothing
 pub data Turn (Task Rest Ending : Type 0) : Type 0 where
   Goes : (next : Task) → Turn Task Rest Ending
   Beats : (diverted : Task) → Turn Task Rest Ending
@@ -32,10 +33,11 @@ pub data Merged (Task Ending : Type 0) : Type 0 where
   Runs : (task : Task) → Merged Task Ending
   Over : (e : Ending) → Merged Task Ending
 
--- A machine, for one code and one heartbeat: its step, where a diversion is allowed or not; its merge, which
--- gives nothing where two endings aren't of the rest's record; the end of a task, of what a rest becomes
--- and of an ending; the record that a task was given and hasn't used; the instructions that a task may pay
--- for a fork with; and what a task owes, where a beat came for which no record was asked yet or none came.
+-- A machine, for one code and one heartbeat: its step, where a diversion is allowed or not; its
+-- merge, which gives nothing where two endings aren't of the rest's record; the end of a task, of
+-- what a rest becomes and of an ending; the record that a task was given and hasn't used; the
+-- instructions that a task may pay for a fork with; and what a task owes, where a beat came for
+-- which no record was asked yet or none came.
 pub record Machine (Task Rest Ending : Type 0) : Type 1 where
   pub turn : Bool → Task → Turn Task Rest Ending
   pub merges : Rest → Ending → Ending → Merged Task Ending → Type 0
@@ -76,7 +78,10 @@ module _ {Task Rest Ending : Type 0} (M : Machine Task Rest Ending) where
   TurnOwes K y due e (Goes next) = M.owes due next e
   TurnOwes K y due e (Beats diverted) = (due ≡ false) × M.owes true diverted e
   TurnOwes K y due e (Ends other) = (due ≡ false) × (other ≡ e)
-  TurnOwes K y due e (Asks answered) = (due ≡ true) × M.owes false (answered None) e × ((k : ℕ) → IsOther K y k → M.owes false (answered (Some k)) e)
+  TurnOwes K y due e (Asks answered) =
+      (due ≡ true)
+      × M.owes false (answered None) e
+      × ((k : ℕ) → IsOther K y k → M.owes false (answered (Some k)) e)
   TurnOwes K y due e (Forks k on child rest) = (due ≡ false) × ForkOwes e on child rest
   TurnOwes K y due e Stuck = ⊥
 
@@ -84,24 +89,48 @@ module _ {Task Rest Ending : Type 0} (M : Machine Task Rest Ending) where
 
   -- one step after a task, at the same end and with the same record at hand
   abbrev pub SameTask : Task → Task → Type 0
-  SameTask task next = (M.home next ≡ M.home task) × (M.pending next ≡ M.pending task) × (M.credit next ≤ suc (M.credit task))
+  SameTask task next =
+      (M.home next ≡ M.home task)
+      × (M.pending next ≡ M.pending task)
+      × (M.credit next ≤ suc (M.credit task))
 
   abbrev pub KeepsTurn : ℕ → Bool → Task → Turn Task Rest Ending → Type 0
   KeepsTurn H allowed task (Goes next) = SameTask task next
   KeepsTurn H allowed task (Beats diverted) = (allowed ≡ true) × SameTask task diverted
   KeepsTurn H allowed task (Ends e) = (M.end_of e ≡ M.home task) × (M.pending task ≡ None)
-  KeepsTurn H allowed task (Asks answered) = (M.pending task ≡ None) × ((o : Option ℕ) → (M.home (answered o) ≡ M.home task) × (M.pending (answered o) ≡ o) × (M.credit (answered o) ≤ suc (M.credit task)))
-  KeepsTurn H allowed task (Forks k on child rest) = (M.pending task ≡ Some k) × (M.kept rest ≡ M.home task) × (M.home on ≡ left k) × (M.home child ≡ right k) × (M.pending on ≡ None) × (M.pending child ≡ None) × (H + M.credit on ≤ suc (M.credit task)) × (M.credit child ≡ 0)
+  KeepsTurn H allowed task (Asks answered) =
+      (M.pending task ≡ None)
+      × ((o : Option ℕ)
+      → (M.home (answered o) ≡ M.home task)
+      × (M.pending (answered o) ≡ o)
+      × (M.credit (answered o) ≤ suc (M.credit task)))
+  KeepsTurn H allowed task (Forks k on child rest) =
+      (M.pending task ≡ Some k)
+      × (M.kept rest ≡ M.home task)
+      × (M.home on ≡ left k)
+      × (M.home child ≡ right k)
+      × (M.pending on ≡ None)
+      × (M.pending child ≡ None)
+      × (H + M.credit on ≤ suc (M.credit task))
+      × (M.credit child ≡ 0)
   KeepsTurn H allowed task Stuck = Unit {0}
 
   abbrev pub KeepsMerge : Rest → Merged Task Ending → Type 0
-  KeepsMerge rest (Runs task) = (M.home task ≡ M.kept rest) × (M.pending task ≡ None) × (M.credit task ≡ 0)
+  KeepsMerge rest (Runs task) =
+      (M.home task ≡ M.kept rest) × (M.pending task ≡ None) × (M.credit task ≡ 0)
   KeepsMerge rest (Over e) = M.end_of e ≡ M.kept rest
 
--- The laws of a machine with heartbeat H, for K records: what a task owes shows at its step; what a step of a
--- task that owes an ending keeps, and a merge; and that a merge comes to one thing.
-pub record Lawful {Task Rest Ending : Type 0} (M : Machine Task Rest Ending) (H K : ℕ) : Type 0 where
-  pub invert : (allowed due : Bool) (task : Task) (e : Ending) → M.owes due task e → TurnOwes M K (M.home task) due e (M.turn allowed task)
-  pub keeps : (allowed due : Bool) (task : Task) (e : Ending) → M.owes due task e → KeepsTurn M H allowed task (M.turn allowed task)
-  pub merged : (rest : Rest) (p q : Ending) (both : Merged Task Ending) → M.merges rest p q both → KeepsMerge M rest both
-  pub one_merge : (rest : Rest) (p q : Ending) (both other : Merged Task Ending) → M.merges rest p q both → M.merges rest p q other → both ≡ other
+-- The laws of a machine with heartbeat H, for K records: what a task owes shows at its step; what a
+-- step of a task that owes an ending keeps, and a merge; and that a merge comes to one thing.
+pub record Lawful {Task Rest Ending : Type 0} (M : Machine Task Rest Ending) (H K : ℕ) : Type 0
+  where
+    pub invert : (allowed due : Bool) (task : Task) (e : Ending)
+        → M.owes due task e
+        → TurnOwes M K (M.home task) due e (M.turn allowed task)
+    pub keeps : (allowed due : Bool) (task : Task) (e : Ending)
+        → M.owes due task e
+        → KeepsTurn M H allowed task (M.turn allowed task)
+    pub merged : (rest : Rest) (p q : Ending) (both : Merged Task Ending) → M.merges rest p q both
+        → KeepsMerge M rest both
+    pub one_merge : (rest : Rest) (p q : Ending) (both other : Merged Task Ending)
+        → M.merges rest p q both → M.merges rest p q other → both ≡ other

@@ -1,17 +1,25 @@
 -- Lists of events, and what is said of the configurations that they lead to.
 use Rattle.std.specs.Prelude.{ℕ, suc, ◌+◌, ◌*◌, ◌≡◌, ◌≤◌, List, [], ◌∷◌}
 use Rattle.schedule_core.specs.Machine.{Machine}
-use Rattle.schedule_core.specs.Core.{resting, Config, Event, Choice, CoreStep, goes, beats, ends, asks, forks, opens, claims, arrives_left, arrives_right, frees, finishes, put}
+use Rattle.schedule_core.specs.Core.{resting, Config, Event, Choice, CoreStep, goes, beats, ends}
+use Rattle.schedule_core.specs.Core.{asks, forks, opens, claims, arrives_left, arrives_right, frees}
+use Rattle.schedule_core.specs.Core.{finishes, put}
 use Rattle.schedule_core.specs.Sound.{IsOpen, total}
 
 -- a list of events leads from a configuration to another
-pub data CoreRun {Task Rest Ending : Type 0} (M : Machine Task Rest Ending) (choice : Choice Task Rest Ending) (N K W : ℕ) : Config Task Rest Ending → List Event → Config Task Rest Ending → Type 0 where
+pub data CoreRun {Task Rest Ending : Type 0} (M : Machine Task Rest Ending)
+    (choice : Choice Task Rest Ending) (N K W : ℕ) : Config Task Rest Ending
+    → List Event → Config Task Rest Ending → Type 0 where
   here : (c : Config Task Rest Ending) → CoreRun M choice N K W c [] c
-  on : (c next last : Config Task Rest Ending) (event : Event) (events : List Event) → CoreStep M choice N K W c event next → CoreRun M choice N K W next events last → CoreRun M choice N K W c (event ∷ events) last
+  on : (c next last : Config Task Rest Ending) (event : Event) (events : List Event)
+      → CoreStep M choice N K W c event next
+      → CoreRun M choice N K W next events last
+      → CoreRun M choice N K W c (event ∷ events) last
 
--- where a run has its outcome: it is the one that was owed, no record is open and no worker has anything, each
--- beat made a task or was skipped, and H instructions were executed for each task
-pub record Finished {Task Rest Ending : Type 0} (H W : ℕ) (out e : Ending) (c : Config Task Rest Ending) : Type 0 where
+-- where a run has its outcome: it is the one that was owed, no record is open and no worker has
+-- anything, each beat made a task or was skipped, and H instructions were executed for each task
+pub record Finished {Task Rest Ending : Type 0} (H W : ℕ) (out e : Ending)
+    (c : Config Task Rest Ending) : Type 0 where
   pub owed : e ≡ out
   pub closed : (k : ℕ) → IsOpen (c.cells k) → ⊥
   pub rest : (w : ℕ) → c.seats w ≡ resting
@@ -32,7 +40,10 @@ one_right seen = (seen.0, suc seen.1)
 
 module _ {Task Rest Ending : Type 0} (M : Machine Task Rest Ending) (choice : Choice Task Rest Ending) (N K W : ℕ) where
   -- what one event adds
-  abbrev pub counted : {c next : Config Task Rest Ending} {event : Event} → CoreStep M choice N K W c event next → Arrivals → Arrivals
+  abbrev pub counted : {c next : Config Task Rest Ending} {event : Event}
+      → CoreStep M choice N K W c event next
+      → Arrivals
+      → Arrivals
   counted (goes w task due after lt q st) seen = seen
   counted (beats w task due after lt q st) seen = seen
   counted (ends w task due e lt q st) seen = seen
@@ -46,6 +57,9 @@ module _ {Task Rest Ending : Type 0} (M : Machine Task Rest Ending) (choice : Ch
   counted (finishes w e lt a b) seen = seen
 
   -- what a list of events adds
-  abbrev pub counted_in : {c last : Config Task Rest Ending} {events : List Event} → CoreRun M choice N K W c events last → Arrivals → Arrivals
+  abbrev pub counted_in : {c last : Config Task Rest Ending} {events : List Event}
+      → CoreRun M choice N K W c events last
+      → Arrivals
+      → Arrivals
   counted_in (here c) seen = seen
   counted_in (on c next last event events step run) seen = counted_in run (counted step seen)

@@ -25,7 +25,8 @@ cell_of k (Half rest left) = core.opened rest None (Some (ending.At k Left left)
 -- the records of the core hold what the solo run has open
 abbrev pub CellsAre : List Opened → (ℕ → core.Cell State RestState Ending) → Type 0
 CellsAre [] cells = Unit {0}
-CellsAre (one ∷ opened) cells = (cells (length opened) ≡ cell_of (length opened) one) × CellsAre opened cells
+CellsAre (one ∷ opened) cells =
+    (cells (length opened) ≡ cell_of (length opened) one) × CellsAre opened cells
 
 -- the least free record is free, or taken where the running task was given it
 abbrev pub GivenAt : Option Tie → ℕ → (ℕ → core.Cell State RestState Ending) → Type 0
@@ -39,9 +40,10 @@ pub record CountsAre (tally : Tally) (c : Config State RestState Ending) : Type 
   pub skipped : c.skipped ≡ tally.skipped
   pub instructions : c.instructions ≡ tally.instructions
 
--- the solo run of a code from a task is a list of events of the core: of one worker, with 64 records, of which
--- the least free one is given. It comes to this outcome with these counts
-pub record SharedRun (code : Listing) (heartbeat forks : ℕ) (task : State) (outcome : Outcome) (tally : Tally) : Type 0 where
+-- the solo run of a code from a task is a list of events of the core: of one worker, with 64
+-- records, of which the least free one is given. It comes to this outcome with these counts
+pub record SharedRun (code : Listing) (heartbeat forks : ℕ) (task : State) (outcome : Outcome)
+    (tally : Tally) : Type 0 where
   pub events : List Event
   pub last : Config State RestState Ending
   pub run : CoreRun (tasks code heartbeat) LeastFree forks records 1 (first task) events last

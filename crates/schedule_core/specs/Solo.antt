@@ -1,7 +1,8 @@
--- The solo run: one worker, which claims the child of the record that was opened last as soon as it has
--- nothing else. The open records nest, so they are a list of which only the first is at hand, and the least
--- free record is the one whose number is the length of that list.
-use Rattle.std.specs.Prelude.{ℕ, suc, ◌+◌, ◌-◌, ◌^◌, min, nat_lt, if◌then◌else◌, List, [], ◌∷◌, length, Some, None}
+-- The solo run: one worker, which claims the child of the record that was opened last as soon as it
+-- has nothing else. The open records nest, so they are a list of which only the first is at hand,
+-- and the least free record is the one whose number is the length of that list.
+use Rattle.std.specs.Prelude.{ℕ, suc, ◌+◌, ◌-◌, ◌^◌, min, nat_lt, if◌then◌else◌, List, [], ◌∷◌}
+use Rattle.std.specs.Prelude.{length, Some, None}
 use Rattle.tp_value.specs.declared.values.Outcome.{Outcome}
 use Rattle.tpal_syntax.specs.Listing.{Listing}
 use Rattle.tpal_machine.specs.declared.ends.Ending.{Ending}
@@ -25,8 +26,8 @@ records = 64
 abbrev pub more : ℕ → ℕ → ℕ
 more n m = min (n + m) (2 ^ 64 - 1)
 
--- what the worker has: its running task, the open records from the last one that was opened on, and the
--- counts so far
+-- what the worker has: its running task, the open records from the last one that was opened on, and
+-- the counts so far
 pub record Lane : Type 0 where
   pub task : State
   pub opened : List Opened
@@ -48,7 +49,8 @@ no_tally = record { tasks = 0; beats = 0; skipped = 0; instructions = 0 }
 
 -- so many instructions and beats more
 abbrev pub turned : ℕ → ℕ → Tally → Tally
-turned steps beats tally = record tally { beats = more tally.beats beats; instructions = more tally.instructions steps }
+turned steps beats tally =
+    record tally { beats = more tally.beats beats; instructions = more tally.instructions steps }
 
 abbrev pub one_task : Tally → Tally
 one_task tally = record tally { tasks = more tally.tasks 1 }
@@ -66,18 +68,20 @@ asked waits opened tally =
 
 -- a task that forks opens its record, and goes on as the left side
 abbrev pub forked : Forked → List Opened → Tally → Stage
-forked parts opened tally = runs parts.left (Waiting parts.rest parts.child ∷ opened) (one_task tally)
+forked parts opened tally =
+    runs parts.left (Waiting parts.rest parts.child ∷ opened) (one_task tally)
 
 -- what two sides are joined to goes on, or arrives in its turn
 abbrev pub on_joined : Joined → List Opened → Tally → (Ending → Stage) → Stage
 on_joined (merging.Goes task) opened tally arrive = runs task opened tally
 on_joined (merging.Ends e) opened tally arrive = arrive e
 
--- a side arrives at an open record: at one whose child waits it is the left, and that child runs; else it is
--- the right, and the two are merged
+-- a side arrives at an open record: at one whose child waits it is the left, and that child runs;
+-- else it is the right, and the two are merged
 abbrev pub met : Opened → Listing → Side → List Opened → Tally → (Ending → Stage) → Stage
 met (Waiting rest child) code side opened tally arrive = runs child (Half rest side ∷ opened) tally
-met (Half rest left) code side opened tally arrive = on_joined (joined code rest left side) opened tally arrive
+met (Half rest left) code side opened tally arrive =
+    on_joined (joined code rest left side) opened tally arrive
 
 -- a task has ended: the run is over, or the side that it is arrives
 abbrev pub arrived_with : Ending → Tally → (Side → Stage) → Stage
@@ -87,7 +91,9 @@ arrived_with (ending.At k name side) tally arrive = arrive side
 -- what a side that arrives comes to
 abbrev pub arrived_at : List Opened → Listing → Tally → Side → Stage
 arrived_at [] code tally side = Lost
-arrived_at (one ∷ opened) code tally side = met one code side opened tally (λ e. arrived_with e tally (λ other. arrived_at opened code tally other))
+arrived_at (one ∷ opened) code tally side =
+    met one code side opened tally
+    (λ e. arrived_with e tally (λ other. arrived_at opened code tally other))
 
 -- what an ending comes to
 abbrev pub arrived : Listing → List Opened → Tally → Ending → Stage
@@ -103,20 +109,26 @@ after_step code (Forks parts) opened tally = forked parts opened (turned 1 0 tal
 after_step code (Stuck fault) opened tally = Lost
 after_step code Strays opened tally = Lost
 
--- one instruction, and all that it leads to before the next: with this heartbeat, where so many diversions
--- are allowed
+-- one instruction, and all that it leads to before the next: with this heartbeat, where so many
+-- diversions are allowed
 abbrev pub next : Listing → ℕ → ℕ → Lane → Stage
-next code heartbeat forks lane = after_step code (step code heartbeat (nat_lt lane.tally.beats forks) lane.task) lane.opened lane.tally
+next code heartbeat forks lane =
+    after_step code (step code heartbeat (nat_lt lane.tally.beats forks) lane.task) lane.opened
+    lane.tally
 
 -- a solo run comes to its end by so many instructions
 pub data Comes (code : Listing) (heartbeat forks : ℕ) : ℕ → Stage → Outcome → Tally → Type 0 where
-  over : (outcome : Outcome) (tally : Tally) → Comes code heartbeat forks 0 (Over outcome tally) outcome tally
-  on : (n : ℕ) (lane : Lane) (outcome : Outcome) (tally : Tally) → Comes code heartbeat forks n (next code heartbeat forks lane) outcome tally → Comes code heartbeat forks (suc n) (Runs lane) outcome tally
+  over : (outcome : Outcome) (tally : Tally)
+      → Comes code heartbeat forks 0 (Over outcome tally) outcome tally
+  on : (n : ℕ) (lane : Lane) (outcome : Outcome) (tally : Tally)
+      → Comes code heartbeat forks n (next code heartbeat forks lane) outcome tally
+      → Comes code heartbeat forks (suc n) (Runs lane) outcome tally
 
 abbrev pub first_lane : State → Lane
 first_lane task = record { task = task; opened = []; tally = no_tally }
 
 -- the solo run of a code from a task comes to this
-pub record SoloRun (code : Listing) (heartbeat forks : ℕ) (task : State) (outcome : Outcome) (tally : Tally) : Type 0 where
+pub record SoloRun (code : Listing) (heartbeat forks : ℕ) (task : State) (outcome : Outcome)
+    (tally : Tally) : Type 0 where
   pub instructions : ℕ
   pub comes : Comes code heartbeat forks instructions (Runs (first_lane task)) outcome tally

@@ -1,13 +1,16 @@
--- Sound configurations: who holds each end, what each end comes to, whose each record is, in which order the
--- records were opened, and what the counts have paid for.
-use Rattle.std.specs.Prelude.{ℕ, zero, suc, ◌+◌, ◌*◌, ◌≡◌, ◌≢◌, ◌⊎◌, ◌<◌, ◌≤◌, List, [], ◌∷◌, Option, Some, None, Bool, true, false, nat_eq, if◌then◌else◌}
+-- Sound configurations: who holds each end, what each end comes to, whose each record is, in which
+-- order the records were opened, and what the counts have paid for.
+use Rattle.std.specs.Prelude.{ℕ, zero, suc, ◌+◌, ◌*◌, ◌≡◌, ◌≢◌, ◌⊎◌, ◌<◌, ◌≤◌, List, [], ◌∷◌}
+use Rattle.std.specs.Prelude.{Option, Some, None, Bool, true, false, nat_eq, if◌then◌else◌}
 use Rattle.schedule_core.specs.Machine.{root, left, right, Machine, MergeOwes}
-use Rattle.schedule_core.specs.Core.{Seat, resting, running, forked, ended, holding, Cell, free, taken, opened, met, Config, top}
+use Rattle.schedule_core.specs.Core.{Seat, resting, running, forked, ended, holding, Cell, free}
+use Rattle.schedule_core.specs.Core.{taken, opened, met, Config, top}
 
 -- ---- ends
 
--- Who holds an end. Where a worker has just forked under a record, that record names the worker, and its two
--- ends are in that worker's hand as well; they are told by the record, and have no holder here.
+-- Who holds an end. Where a worker has just forked under a record, that record names the worker,
+-- and its two ends are in that worker's hand as well; they are told by the record, and have no
+-- holder here.
 pub data Holder : Type 0 where
   nobody : Holder
   by_seat : (w : ℕ) → Holder
@@ -18,7 +21,8 @@ IsThere None = ⊥
 IsThere (Some a) = Unit {0}
 
 module _ {Task Rest Ending : Type 0} (M : Machine Task Rest Ending) where
-  -- the end that a worker holds: its running task's, its ended task's, or the one that the rest of a fork keeps
+  -- the end that a worker holds: its running task's, its ended task's, or the one that the rest of
+  -- a fork keeps
   abbrev pub SeatHas : Seat Task Rest Ending → ℕ → Type 0
   SeatHas resting y = ⊥
   SeatHas (running task due) y = y ≡ M.home task
@@ -26,38 +30,52 @@ module _ {Task Rest Ending : Type 0} (M : Machine Task Rest Ending) where
   SeatHas (ended e) y = y ≡ M.end_of e
   SeatHas (holding k) y = ⊥
 
-  -- the ends that a record holds: the one that its rest keeps, its unclaimed child's, and those of its kept sides
+  -- the ends that a record holds: the one that its rest keeps, its unclaimed child's, and those of
+  -- its kept sides
   abbrev pub CellHas : ℕ → Cell Task Rest Ending → ℕ → Type 0
   CellHas k free y = ⊥
   CellHas k (taken w) y = ⊥
-  CellHas k (opened rest child p q) y = (y ≡ M.kept rest) ⊎ (((y ≡ left k) × IsThere p) ⊎ ((y ≡ right k) × (IsThere child ⊎ IsThere q)))
+  CellHas k (opened rest child p q) y =
+      (y ≡ M.kept rest)
+      ⊎ (((y ≡ left k) × IsThere p) ⊎ ((y ≡ right k) × (IsThere child ⊎ IsThere q)))
   CellHas k (met w rest p q) y = (y ≡ M.kept rest) ⊎ ((y ≡ left k) ⊎ (y ≡ right k))
 
 module _ {Task Rest Ending : Type 0} (M : Machine Task Rest Ending) (holder : ℕ → Holder) where
-  -- what a worker has at an end is that end's holder; a fork's two tasks have the ends of its record
+  -- what a worker has at an end is that end's holder; a fork's two tasks have the ends of its
+  -- record
   abbrev pub SeatEnds : ℕ → Seat Task Rest Ending → Type 0
   SeatEnds w resting = Unit {0}
   SeatEnds w (running task due) = holder (M.home task) ≡ by_seat w
-  SeatEnds w (forked k on child rest) = (holder (M.kept rest) ≡ by_seat w) × (M.home on ≡ left k) × (M.home child ≡ right k)
+  SeatEnds w (forked k on child rest) =
+      (holder (M.kept rest) ≡ by_seat w) × (M.home on ≡ left k) × (M.home child ≡ right k)
   SeatEnds w (ended e) = holder (M.end_of e) ≡ by_seat w
   SeatEnds w (holding k) = Unit {0}
 
   -- an unclaimed child has the right end, and its side has not arrived
   abbrev pub ChildEnd : ℕ → Option Task → Option Ending → Type 0
   ChildEnd k None q = Unit {0}
-  ChildEnd k (Some child) q = (q ≡ None) × (holder (right k) ≡ by_record k) × (M.home child ≡ right k)
+  ChildEnd k (Some child) q =
+      (q ≡ None) × (holder (right k) ≡ by_record k) × (M.home child ≡ right k)
 
   -- an end of an open record is held by someone, and by the record where its side has arrived
   abbrev pub SideEnd : ℕ → ℕ → Option Ending → Type 0
   SideEnd k y None = holder y ≢ nobody
   SideEnd k y (Some e) = holder y ≡ by_record k
 
-  -- what a record has at an end is that end's holder; the ends of a record that isn't open are nobody's
+  -- what a record has at an end is that end's holder; the ends of a record that isn't open are
+  -- nobody's
   abbrev pub CellEnds : ℕ → Cell Task Rest Ending → Type 0
   CellEnds k free = (holder (left k) ≡ nobody) × (holder (right k) ≡ nobody)
   CellEnds k (taken w) = (holder (left k) ≡ nobody) × (holder (right k) ≡ nobody)
-  CellEnds k (opened rest child p q) = (holder (M.kept rest) ≡ by_record k) × ChildEnd k child q × SideEnd k (left k) p × SideEnd k (right k) q
-  CellEnds k (met w rest p q) = (holder (M.kept rest) ≡ by_record k) × (holder (left k) ≡ by_record k) × (holder (right k) ≡ by_record k)
+  CellEnds k (opened rest child p q) =
+      (holder (M.kept rest) ≡ by_record k)
+      × ChildEnd k child q
+      × SideEnd k (left k) p
+      × SideEnd k (right k) q
+  CellEnds k (met w rest p q) =
+      (holder (M.kept rest) ≡ by_record k)
+      × (holder (left k) ≡ by_record k)
+      × (holder (right k) ≡ by_record k)
 
   -- the end of the run is live until the finish
   abbrev pub RootEnd : Option Ending → Type 0
@@ -65,7 +83,8 @@ module _ {Task Rest Ending : Type 0} (M : Machine Task Rest Ending) (holder : �
   RootEnd (Some e) = holder root ≡ nobody
 
 -- each live end has exactly one holder, and no other end has one
-pub record Ends {Task Rest Ending : Type 0} (M : Machine Task Rest Ending) (holder : ℕ → Holder) (c : Config Task Rest Ending) : Type 0 where
+pub record Ends {Task Rest Ending : Type 0} (M : Machine Task Rest Ending) (holder : ℕ → Holder)
+    (c : Config Task Rest Ending) : Type 0 where
   pub seats : (w : ℕ) → SeatEnds M holder w (c.seats w)
   pub records : (k : ℕ) → CellEnds M holder k (c.cells k)
   pub of_seat : (y w : ℕ) → holder y ≡ by_seat w → SeatHas M (c.seats w) y
@@ -75,14 +94,16 @@ pub record Ends {Task Rest Ending : Type 0} (M : Machine Task Rest Ending) (hold
 -- ---- what is owed
 
 module _ {Task Rest Ending : Type 0} (M : Machine Task Rest Ending) (ending : ℕ → Ending) where
-  -- a rest, merged with the endings of its record's two ends, owes the ending of the end that it keeps
+  -- a rest, merged with the endings of its record's two ends, owes the ending of the end that it
+  -- keeps
   abbrev pub RestOwes : ℕ → Rest → Type 0
   RestOwes k rest = MergeOwes M (ending (M.kept rest)) rest (ending (left k)) (ending (right k))
 
   abbrev pub SeatOwes : Seat Task Rest Ending → Type 0
   SeatOwes resting = Unit {0}
   SeatOwes (running task due) = M.owes due task (ending (M.home task))
-  SeatOwes (forked k on child rest) = M.owes false on (ending (left k)) × M.owes false child (ending (right k)) × RestOwes k rest
+  SeatOwes (forked k on child rest) =
+      M.owes false on (ending (left k)) × M.owes false child (ending (right k)) × RestOwes k rest
   SeatOwes (ended e) = e ≡ ending (M.end_of e)
   SeatOwes (holding k) = Unit {0}
 
@@ -97,11 +118,14 @@ module _ {Task Rest Ending : Type 0} (M : Machine Task Rest Ending) (ending : �
   abbrev pub CellOwes : ℕ → Cell Task Rest Ending → Type 0
   CellOwes k free = Unit {0}
   CellOwes k (taken w) = Unit {0}
-  CellOwes k (opened rest child p q) = RestOwes k rest × ChildOwes k child × SideIs (left k) p × SideIs (right k) q
+  CellOwes k (opened rest child p q) =
+      RestOwes k rest × ChildOwes k child × SideIs (left k) p × SideIs (right k) q
   CellOwes k (met w rest p q) = RestOwes k rest × (p ≡ ending (left k)) × (q ≡ ending (right k))
 
--- each live end has one ending; who holds it owes that ending or is it, and that of the run is `out`
-pub record Owed {Task Rest Ending : Type 0} (M : Machine Task Rest Ending) (ending : ℕ → Ending) (out : Ending) (c : Config Task Rest Ending) : Type 0 where
+-- each live end has one ending; who holds it owes that ending or is it, and that of the run is
+-- `out`
+pub record Owed {Task Rest Ending : Type 0} (M : Machine Task Rest Ending) (ending : ℕ → Ending)
+    (out : Ending) (c : Config Task Rest Ending) : Type 0 where
   pub seats : (w : ℕ) → SeatOwes M ending (c.seats w)
   pub records : (k : ℕ) → CellOwes M ending k (c.cells k)
   pub run : ending root ≡ out
@@ -122,11 +146,13 @@ module _ {Task Rest Ending : Type 0} (M : Machine Task Rest Ending) where
     pub q : Ending
     pub is : cells k ≡ met w rest p q
 
-  -- the records in a worker's hand: the one that is pending, the one forked under, the one that it has met
+  -- the records in a worker's hand: the one that is pending, the one forked under, the one that it
+  -- has met
   abbrev pub SeatRecord : (ℕ → Cell Task Rest Ending) → ℕ → Seat Task Rest Ending → Type 0
   SeatRecord cells w resting = Unit {0}
   SeatRecord cells w (running task due) = IsPending cells w (M.pending task)
-  SeatRecord cells w (forked k on child rest) = (cells k ≡ taken w) × (M.pending on ≡ None) × (M.pending child ≡ None)
+  SeatRecord cells w (forked k on child rest) =
+      (cells k ≡ taken w) × (M.pending on ≡ None) × (M.pending child ≡ None)
   SeatRecord cells w (ended e) = Unit {0}
   SeatRecord cells w (holding k) = IsMet cells w k
 
@@ -150,7 +176,8 @@ module _ {Task Rest Ending : Type 0} (M : Machine Task Rest Ending) where
   CellRecord seats k (met w rest p q) = seats w ≡ holding k
 
 -- a free record is in no hand; a taken or met one is in exactly one; and there are K records
-pub record Records {Task Rest Ending : Type 0} (M : Machine Task Rest Ending) (K : ℕ) (c : Config Task Rest Ending) : Type 0 where
+pub record Records {Task Rest Ending : Type 0} (M : Machine Task Rest Ending) (K : ℕ)
+    (c : Config Task Rest Ending) : Type 0 where
   pub seats : (w : ℕ) → SeatRecord M c.cells w (c.seats w)
   pub records : (k : ℕ) → CellRecord M c.seats k (c.cells k)
   pub beyond : (k : ℕ) → K ≤ k → c.cells k ≡ free
@@ -189,9 +216,10 @@ module _ {Task Rest Ending : Type 0} where
   abbrev pub KeepsEndOf : Machine Task Rest Ending → Cell Task Rest Ending → ℕ → Type 0
   KeepsEndOf M x j = (kept_of M x ≡ left j) ⊎ (kept_of M x ≡ right j)
 
--- the list of a configuration has the open records, each once; and where a record's rest keeps an end of
--- another, the other was opened before
-pub record Order {Task Rest Ending : Type 0} (M : Machine Task Rest Ending) (cells : ℕ → Cell Task Rest Ending) (order : List ℕ) : Type 0 where
+-- the list of a configuration has the open records, each once; and where a record's rest keeps an
+-- end of another, the other was opened before
+pub record Order {Task Rest Ending : Type 0} (M : Machine Task Rest Ending)
+    (cells : ℕ → Cell Task Rest Ending) (order : List ℕ) : Type 0 where
   pub listed : (k : ℕ) → IsOpen (cells k) → 0 < place order k
   pub is_open : (k : ℕ) → 0 < place order k → IsOpen (cells k)
   pub once : IsOnce order
@@ -248,9 +276,10 @@ module _ {Task Rest Ending : Type 0} (M : Machine Task Rest Ending) where
 abbrev pub Paid : ℕ → ℕ → Type 0
 Paid x n = (x ≤ n) ⊎ (n ≡ top)
 
--- each beat is a task, skipped or still at work; H instructions pay for each task and what isn't used is saved;
--- and no worker has more beats than it is allowed
-pub record Counts {Task Rest Ending : Type 0} (M : Machine Task Rest Ending) (H N W : ℕ) (c : Config Task Rest Ending) : Type 0 where
+-- each beat is a task, skipped or still at work; H instructions pay for each task and what isn't
+-- used is saved; and no worker has more beats than it is allowed
+pub record Counts {Task Rest Ending : Type 0} (M : Machine Task Rest Ending) (H N W : ℕ)
+    (c : Config Task Rest Ending) : Type 0 where
   pub beats : total W c.beats ≡ c.tasks + c.skipped + total W (λ w. owing M H (c.seats w))
   pub paid : Paid (c.tasks * H + total W (λ w. saved M H (c.seats w))) c.instructions
   pub allowed : (w : ℕ) → c.beats w ≤ N
@@ -259,9 +288,10 @@ pub record Counts {Task Rest Ending : Type 0} (M : Machine Task Rest Ending) (H 
 
 -- ---- soundness
 
--- a configuration of W workers and K records, with heartbeat H and N beats allowed to each worker, is sound for
--- what the run will end with
-pub record Sound {Task Rest Ending : Type 0} (M : Machine Task Rest Ending) (H N K W : ℕ) (out : Ending) (c : Config Task Rest Ending) : Type 0 where
+-- a configuration of W workers and K records, with heartbeat H and N beats allowed to each worker,
+-- is sound for what the run will end with
+pub record Sound {Task Rest Ending : Type 0} (M : Machine Task Rest Ending) (H N K W : ℕ)
+    (out : Ending) (c : Config Task Rest Ending) : Type 0 where
   pub holder : ℕ → Holder
   pub ending : ℕ → Ending
   pub ends : Ends M holder c

@@ -1,5 +1,6 @@
 -- How what a configuration holds stands for the workers and records of the core.
-use Rattle.std.specs.Prelude.{ℕ, ◌≡◌, ◌≤◌, ◌<◌, ◌^◌, ◌+◌, List, [], ◌∷◌, length, Option, Some, None, slice_index_or, slice_set}
+use Rattle.std.specs.Prelude.{ℕ, ◌≡◌, ◌≤◌, ◌<◌, ◌^◌, ◌+◌, List, [], ◌∷◌, length, Option, Some, None}
+use Rattle.std.specs.Prelude.{slice_index_or, slice_set}
 use Rattle.tp_value.specs.declared.limits.TheConstants.{MAX_BEAT, MAX_FORKS, MAX_WORKERS}
 use Rattle.tp_value.specs.declared.values.Outcome.{Outcome}
 use Rattle.tpal_machine.specs.declared.ends.Ending.{Ending}
@@ -16,8 +17,9 @@ use Rattle.schedule_core.specs.declared.seats.Worker.{Worker}
 use Rattle.schedule_core.specs.Core as core
 use Rattle.schedule_core.specs.Core.{Config}
 
--- a configuration as it is kept: a list of workers and one of records, the list of open records, the outcome
--- where there is one, the counts, the heartbeat, and how often each worker may be diverted
+-- a configuration as it is kept: a list of workers and one of records, the list of open records,
+-- the outcome where there is one, the counts, the heartbeat, and how often each worker may be
+-- diverted
 pub record Standing : Type 0 where
   pub workers : List Worker
   pub cells : List Cell
@@ -48,7 +50,8 @@ abbrev pub cell_of : ℕ → Cell → core.Cell State RestState Ending
 cell_of k cell.Free = core.free
 cell_of k (cell.Taken worker) = core.taken worker
 cell_of k (cell.Opened rest child p q) = core.opened rest child (left_of k p) (right_of k q)
-cell_of k (cell.Met worker rest p q) = core.met worker rest (ending.At k Left p) (ending.At k Right q)
+cell_of k (cell.Met worker rest p q) =
+    core.met worker rest (ending.At k Left p) (ending.At k Right q)
 
 -- the worker of a number, and what the record of a number holds
 abbrev pub no_worker : Worker
@@ -89,8 +92,8 @@ pub record SameRun (old new : Standing) : Type 0 where
   pub heartbeat : new.heartbeat ≡ old.heartbeat
   pub forks : new.forks ≡ old.forks
 
--- what is true of every configuration: its heartbeat, its workers and its forks are in range, and the numbers of
--- its records fit their type
+-- what is true of every configuration: its heartbeat, its workers and its forks are in range, and
+-- the numbers of its records fit their type
 pub record IsStanding (s : Standing) : Type 0 where
   pub heartbeat : 1 ≤ s.heartbeat
   pub beat : s.heartbeat ≤ MAX_BEAT
@@ -102,7 +105,9 @@ pub record IsStanding (s : Standing) : Type 0 where
 
 -- a worker has something else
 abbrev pub with_seat : Standing → ℕ → Seat → Standing
-with_seat s w x = record s { workers = slice_set s.workers w (record { seat = x; beats = (worker_at s.workers w).beats }) }
+with_seat s w x =
+    record s
+    { workers = slice_set s.workers w (record { seat = x; beats = (worker_at s.workers w).beats }) }
 
 -- a record holds something else
 abbrev pub with_cell : Standing → ℕ → Cell → Standing

@@ -17,7 +17,8 @@ use Rattle.tpal_machine.specs.RestState.{RestState, end_of}
 use Rattle.tpal_machine.specs.State.{State}
 use Rattle.tpal_machine.specs.Step as machine
 use Rattle.tpal_machine.specs.Step.{step}
-use Rattle.schedule_core.specs.Machine.{root, left, right, Machine, Turn, Goes, Beats, Ends, Asks, Forks, Stuck, Merged, Runs, Over}
+use Rattle.schedule_core.specs.Machine.{root, left, right, Machine, Turn, Goes, Beats, Ends, Asks}
+use Rattle.schedule_core.specs.Machine.{Forks, Stuck, Merged, Runs, Over}
 
 -- the number of an end
 abbrev pub side_number : ℕ → SideName → ℕ
@@ -43,7 +44,8 @@ merged_of (merging.Goes task) = Runs task
 merged_of (merging.Ends e) = Over e
 
 -- a rest and two sides of its record merge to this
-pub record MergesSides (code : Listing) (rest : RestState) (p q : Side) (both : Merged State Ending) : Type 0 where
+pub record MergesSides (code : Listing) (rest : RestState) (p q : Side) (both : Merged State Ending)
+    : Type 0 where
   pub joined : Joined
   pub merge : MergeOf code rest p q joined
   pub is : merged_of joined ≡ both

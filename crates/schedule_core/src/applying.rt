@@ -3,7 +3,8 @@
 ghost use Rattle.std.specs.Prelude.{◌≡◌, true, IfOk};
 ghost use Rattle.tpal_syntax.specs.Conditions.{IsCode};
 ghost use Rattle.tpal_machine.specs.declared.ends.Ending.{Ending};
-ghost use Rattle.schedule_core.specs.Apply.{Belongs, SidesFit, IsEnabled, Steps, Gives, WhereNotEnabled, WhereStuck, IsStuckAt, IsSound};
+ghost use Rattle.schedule_core.specs.Apply.{Belongs, SidesFit, IsEnabled, Steps, Gives};
+ghost use Rattle.schedule_core.specs.Apply.{WhereNotEnabled, WhereStuck, IsStuckAt, IsSound};
 ghost use Rattle.schedule_core.specs.Effects.{can};
 ghost use Rattle.schedule_core.specs.Standing.{SameRun, IsStanding, stands};
 
@@ -61,8 +62,8 @@ fn known(config: &Config)
     let _heartbeat = config.heartbeat;
 }
 
-/// What an event makes of a configuration. A worker's task that asks for a record is given the least free
-/// one, or none where none is free. On a sound configuration no instruction is stuck.
+/// What an event makes of a configuration. A worker's task that asks for a record is given the
+/// least free one, or none where none is free. On a sound configuration no instruction is stuck.
 #[tactic(auto, using(crate::proofs::Asked::given_step, crate::proofs::Asked::given_kept, crate::proofs::Asked::given_belongs, crate::proofs::Asked::given_refused, crate::proofs::Asked::given_stuck))]
 pub fn apply(config: Config, code: &Code, event: Event) -> Result<Config, ApplyFault>
     requires belongs { Belongs code.now (stands config) }
@@ -72,7 +73,9 @@ pub fn apply(config: Config, code: &Code, event: Event) -> Result<Config, ApplyF
     ensures belongs { IfOk result (λ after. Belongs code.now (stands after)) }
     ensures not_enabled { WhereNotEnabled result (λ same. (same ≡ config) × (IsEnabled code.now config event → ⊥)) }
     ensures stuck { WhereStuck result (IsStuckAt code.now config event) }
-    ensures sound { (out : Ending) → IsSound code.now config out → IfOk result (λ after. IsSound code.now after out) }
+    ensures sound { (out : Ending)
+        → IsSound code.now config out
+        → IfOk result (λ after. IsSound code.now after out) }
     ensures never_stuck { (out : Ending) → IsSound code.now config out → WhereStuck result (λ fault. ⊥) }
 {
     let _blocks = code.blocks();

@@ -37,9 +37,34 @@ impl Model for Config {
 
     ghost coded = { Prim.hlevel (codes, holding_code) };
 
-    ghost view = { λ config. record { workers = config.workers.items; cells = config.cells.items; order = config.order.items; outcome = config.outcome; tasks = config.tasks; skipped = config.skipped; instructions = config.instructions; heartbeat = config.heartbeat; forks = config.forks } };
+    ghost view = { λ config. record {
+      workers = config.workers.items;
+      cells = config.cells.items;
+      order = config.order.items;
+      outcome = config.outcome;
+      tasks = config.tasks;
+      skipped = config.skipped;
+      instructions =
+          config.instructions;
+      heartbeat = config.heartbeat;
+      forks = config.forks;
+    } };
 
-    ghost invariant = { λ config. IsStanding (record { workers = config.workers.items; cells = config.cells.items; order = config.order.items; outcome = config.outcome; tasks = config.tasks; skipped = config.skipped; instructions = config.instructions; heartbeat = config.heartbeat; forks = config.forks }) };
+    ghost invariant = { λ config. IsStanding
+        (record {
+          workers = config.workers.items;
+          cells = config.cells.items;
+          order =
+              config.order.items;
+          outcome = config.outcome;
+          tasks = config.tasks;
+          skipped =
+              config.skipped;
+          instructions = config.instructions;
+          heartbeat = config.heartbeat;
+          forks =
+              config.forks;
+        }) };
 }
 
 ghost use Rattle.std.specs.Prelude.{◌+◌, min};
@@ -64,15 +89,17 @@ impl Config {
     ghost use Rattle.schedule_core.specs.Core.{first};
     ghost use Rattle.schedule_core.specs.Standing.{stands};
 
-    /// The first configuration of a job: worker 0 runs the first task, the other workers have nothing, and
-    /// each of the 64 records for a worker is free.
+    /// The first configuration of a job: worker 0 runs the first task, the other workers have
+    /// nothing, and each of the 64 records for a worker is free.
     #[tactic(auto, using(crate::proofs::Beginning::first_stands, crate::proofs::Beginning::first_run, crate::proofs::Beginning::first_belongs, crate::proofs::Beginning::first_is_sound, crate::proofs::Beginning::first_is_standing, crate::proofs::Beginning::some_worker))]
     pub fn first(alloc: Global, code: &Code, job: Job) -> Result<Config, NoMemory>
         requires job { IsJob code.now job }
         ensures first { IfOk result (λ config. stands config ≡ first (first_state job.tables job.fuel)) }
         ensures run { IfOk result (IsRunOf job) }
         ensures belongs { IfOk result (λ config. Belongs code.now (stands config)) }
-        ensures sound { (out : Ending) → FirstOwes code.now job out → IfOk result (λ config. IsSound code.now config out) }
+        ensures sound { (out : Ending)
+            → FirstOwes code.now job out
+            → IfOk result (λ config. IsSound code.now config out) }
     {
         let Job {
             tables,
@@ -107,7 +134,8 @@ impl Config {
 
     /// The outcome of the run, once it is finished.
     pub fn outcome(&self) -> Option<&Outcome>
-        ensures { MatchOption result (self.now.outcome ≡ None) (λ outcome. self.now.outcome ≡ Some outcome.now) }
+        ensures { MatchOption result (self.now.outcome ≡ None)
+            (λ outcome. self.now.outcome ≡ Some outcome.now) }
     {
         self.outcome.as_ref()
     }

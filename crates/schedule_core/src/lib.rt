@@ -1,6 +1,7 @@
-//! The core of all interleavings: what the workers of a run may do, one event at a time, as a pure machine.
-//! It stands on `tpal_machine`, which runs one task, and takes from it what a step, an answer and a merge
-//! give. Start with `specs/Core.antt`, the table of events, and `specs/Sound.antt`, what holds between them.
+//! The core of all interleavings: what the workers of a run may do, one event at a time, as a pure
+//! machine. It stands on `tpal_machine`, which runs one task, and takes from it what a step, an
+//! answer and a merge give. Start with `specs/Core.antt`, the table of events, and
+//! `specs/Sound.antt`, what holds between them.
 #![tactic(auto)]
 
 mod applying;

@@ -24,7 +24,8 @@ pub(crate) fn one_more(count: u64) -> u64
 /// The worker, whose task has just forked, opens the record.
 pub(crate) fn open(config: Config, worker: u32) -> Result<Config, AllocError>
     requires worker { worker < length config.workers }
-    ensures { IfOk result (λ after. after ≡ opened config worker (worker_at config.workers worker).seat) }
+    ensures { IfOk result
+        (λ after. after ≡ opened config worker (worker_at config.workers worker).seat) }
 {
     let mut config = config;
     match config.take_seat(worker) {
@@ -116,7 +117,8 @@ fn remove(order: &mut Vec<u32>, rec: u32)
 pub(crate) fn free(config: Config, code: &Code, worker: u32) -> Result<Config, NoMemory>
     requires worker { worker < length config.workers }
     requires fit { CanMerge code.now config (worker_at config.workers worker).seat }
-    ensures { IfOk result (λ after. after ≡ freed config worker code.now (worker_at config.workers worker).seat) }
+    ensures { IfOk result
+        (λ after. after ≡ freed config worker code.now (worker_at config.workers worker).seat) }
 {
     let mut config = config;
     match config.take_seat(worker) {

@@ -57,7 +57,8 @@ pub enum Cell {
 
 impl Seat {
     ghost use Rattle.std.specs.Prelude.{◌≡◌};
-    ghost use Rattle.schedule_core.specs.Effects.{runs, rests, comes_to_record, ends_run, has_forked};
+    ghost use Rattle.schedule_core.specs.Effects.{runs, rests, comes_to_record, ends_run};
+    ghost use Rattle.schedule_core.specs.Effects.{has_forked};
 
     pub(crate) fn runs(&self) -> bool
         ensures { result ≡ runs self.now }
@@ -151,7 +152,8 @@ impl Cell {
 
     ghost use Rattle.schedule_core.specs.Effects.{met_left, met_right};
 
-    /// The left side arrives, brought by a worker: what the record holds then, and what the worker has.
+    /// The left side arrives, brought by a worker: what the record holds then, and what the worker
+    /// has.
     pub(crate) fn met_left(self, worker: u32, rec: u32, out: Side) -> (Cell, Seat)
         ensures { result ≡ met_left worker rec out self }
     {
@@ -200,7 +202,8 @@ impl Cell {
         }
     }
 
-    /// The right side arrives, brought by a worker: what the record holds then, and what the worker has.
+    /// The right side arrives, brought by a worker: what the record holds then, and what the worker
+    /// has.
     pub(crate) fn met_right(self, worker: u32, rec: u32, out: Side) -> (Cell, Seat)
         ensures { result ≡ met_right worker rec out self }
     {

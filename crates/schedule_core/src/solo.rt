@@ -1,6 +1,7 @@
 // The solo run: one worker, turn after turn.
 
-ghost use Rattle.std.specs.Prelude.{◌≡◌, ◌+◌, ◌*◌, ◌≤◌, ℕ, false, None, IfOk, IsSome, length, reverse};
+ghost use Rattle.std.specs.Prelude.{◌≡◌, ◌+◌, ◌*◌, ◌≤◌, ℕ, false, None, IfOk, IsSome, length};
+ghost use Rattle.std.specs.Prelude.{reverse};
 ghost use Rattle.tpal_machine.specs.declared.ends.Goal.TheVariants as goal;
 ghost use Rattle.tp_value.specs.declared.values.Outcome.{Outcome};
 ghost use Rattle.tpal_machine.specs.declared.ends.Ending.{Ending};
@@ -66,7 +67,8 @@ fn in_range(tally: Tally)
 /// A task that asked is given the least free record, which is that above the open ones, or none.
 fn give(task: Task, opened: &[Opened], tally: &mut Tally) -> Task
     requires { IsSome task.waiting }
-    ensures { asked task (reverse opened.now) tally.old ≡ runs result (reverse opened.now) tally.new }
+    ensures { asked task (reverse opened.now) tally.old
+        ≡ runs result (reverse opened.now) tally.new }
 {
     let count = opened.len();
     if count < RECORDS {
@@ -80,8 +82,13 @@ fn give(task: Task, opened: &[Opened], tally: &mut Tally) -> Task
 /// A side arrives at the record that was opened last, and so does what it and its other side are
 /// merged to, until a task runs or the run is over.
 fn arrive(out: Side, code: &Code, opened: &mut Vec<Opened>) -> Result<Stage, NoMemory>
-    requires { (heartbeat : ℕ) × (outcome : Outcome) × ArrivalOwed code.now heartbeat (reverse opened.old.items) outcome out }
-    ensures { IfOk result (λ stage. (tally : Tally) → IsStage (arrived_at (reverse opened.old.items) code.now tally out) stage (reverse opened.new.items) tally) }
+    requires { (heartbeat : ℕ)
+        × (outcome : Outcome)
+        × ArrivalOwed code.now heartbeat (reverse opened.old.items) outcome out }
+    ensures { IfOk result
+        (λ stage. (tally : Tally)
+        → IsStage (arrived_at (reverse opened.old.items) code.now tally out) stage
+        (reverse opened.new.items) tally) }
 {
     let mut out = out;
     while let Some(last) = opened.pop() {
@@ -111,8 +118,12 @@ fn go_on(
     opened: &mut Vec<Opened>,
     tally: &mut Tally,
 ) -> Result<Stage, NoMemory>
-    requires { (heartbeat : ℕ) × (outcome : Outcome) × TurnFits code.now heartbeat turn (reverse opened.old.items) outcome }
-    ensures { IfOk result (λ stage. IsStage (after_turn code.now turn (reverse opened.old.items) tally.old) stage (reverse opened.new.items) tally.new) }
+    requires { (heartbeat : ℕ)
+        × (outcome : Outcome)
+        × TurnFits code.now heartbeat turn (reverse opened.old.items) outcome }
+    ensures { IfOk result
+        (λ stage. IsStage (after_turn code.now turn (reverse opened.old.items) tally.old) stage
+        (reverse opened.new.items) tally.new) }
 {
     match turn {
         Turn::Pause(task) => Ok(Stage::Runs(task)),
@@ -141,10 +152,13 @@ fn go_on(
 /// Turn after turn, to the end.
 fn run_turns(alloc: Global, start: Start) -> Result<(Outcome, Tally), NoMemory>
     requires heartbeat { 1 ≤ start.heartbeat }
-    requires owes { (outcome : Outcome) × Owes start.code.now start.heartbeat false 0 start.task (ending.Root outcome) }
+    requires owes { (outcome : Outcome)
+        × Owes start.code.now start.heartbeat false 0 start.task (ending.Root outcome) }
     requires no_record { start.task.pending ≡ None }
     requires root { start.task.goal ≡ goal.Root }
-    ensures run { IfOk result (λ r. SoloRun start.entry.code.now start.entry.heartbeat start.entry.forks start.entry.task r.0 r.1) }
+    ensures run { IfOk result
+        (λ r. SoloRun start.entry.code.now start.entry.heartbeat start.entry.forks
+        start.entry.task r.0 r.1) }
     ensures owed { (e : Ending) → Owes start.entry.code.now start.entry.heartbeat false 0 start.entry.task e
         → IfOk result (λ r. e ≡ ending.Root r.0) }
 {
@@ -181,10 +195,18 @@ fn run_turns(alloc: Global, start: Start) -> Result<(Outcome, Tally), NoMemory>
 /// last as soon as it has nothing else to do. A turn that finds no memory ends the run.
 pub fn solo_run(alloc: Global, code: &Code, job: Job) -> Result<Report, NoMemory>
     requires job { IsJob code.now job }
-    requires owes { (outcome : Outcome) × Owes code.now job.heartbeat false 0 (first_state job.tables job.fuel) (ending.Root outcome) }
-    ensures run { IfOk result (λ report. SoloRun code.now job.heartbeat job.forks (first_state job.tables job.fuel) report.outcome (tally_of report)) }
-    ensures owed { (e : Ending) → Owes code.now job.heartbeat false 0 (first_state job.tables job.fuel) e → IfOk result (λ report. e ≡ ending.Root report.outcome) }
-    ensures events { IfOk result (λ report. SharedRun code.now job.heartbeat job.forks (first_state job.tables job.fuel) report.outcome (tally_of report)) }
+    requires owes { (outcome : Outcome)
+        × Owes code.now job.heartbeat false 0 (first_state job.tables job.fuel)
+        (ending.Root outcome) }
+    ensures run { IfOk result
+        (λ report. SoloRun code.now job.heartbeat job.forks (first_state job.tables job.fuel)
+        report.outcome (tally_of report)) }
+    ensures owed { (e : Ending)
+        → Owes code.now job.heartbeat false 0 (first_state job.tables job.fuel) e
+        → IfOk result (λ report. e ≡ ending.Root report.outcome) }
+    ensures events { IfOk result
+        (λ report. SharedRun code.now job.heartbeat job.forks (first_state job.tables job.fuel)
+        report.outcome (tally_of report)) }
     ensures beats { IfOk result (λ report. report.tasks + report.skipped ≡ report.beats) }
     ensures paid { IfOk result (λ report. report.tasks * job.heartbeat ≤ report.instructions) }
 {

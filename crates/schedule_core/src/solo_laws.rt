@@ -16,7 +16,11 @@ use tpal_syntax::Code;
 /// A solo run is a list of events of the core: of one worker with 64 records, of which a task that
 /// asks is given the least free one.
 pub fn solo_run_of_events(code: &Code)
-    ensures { (heartbeat forks fuel : ℕ) (held : List Holding) (out outcome : Outcome) (tally : Tally) → Owes code.now heartbeat false 0 (first_state held fuel) (ending.Root out) → SoloRun code.now heartbeat forks (first_state held fuel) outcome tally → SharedRun code.now heartbeat forks (first_state held fuel) outcome tally }
+    ensures { (heartbeat forks fuel : ℕ) (held : List Holding) (out outcome : Outcome)
+        (tally : Tally)
+        → Owes code.now heartbeat false 0 (first_state held fuel) (ending.Root out)
+        → SoloRun code.now heartbeat forks (first_state held fuel) outcome tally
+        → SharedRun code.now heartbeat forks (first_state held fuel) outcome tally }
 {
     let _blocks = code.blocks();
 }
@@ -24,7 +28,14 @@ pub fn solo_run_of_events(code: &Code)
 /// At the end of a solo run each diversion made a task or was skipped, and so many instructions as
 /// the heartbeat were executed for each task.
 pub fn solo_run_counts(code: &Code)
-    ensures { (heartbeat forks fuel : ℕ) (held : List Holding) (out outcome : Outcome) (tally : Tally) → forks * heartbeat ≤ top → forks ≤ top → Owes code.now heartbeat false 0 (first_state held fuel) (ending.Root out) → SharedRun code.now heartbeat forks (first_state held fuel) outcome tally → (tally.tasks + tally.skipped ≡ tally.beats) × (tally.tasks * heartbeat ≤ tally.instructions) }
+    ensures { (heartbeat forks fuel : ℕ) (held : List Holding) (out outcome : Outcome)
+        (tally : Tally)
+        → forks * heartbeat ≤ top
+        → forks ≤ top
+        → Owes code.now heartbeat false 0 (first_state held fuel) (ending.Root out)
+        → SharedRun code.now heartbeat forks (first_state held fuel) outcome tally
+        → (tally.tasks + tally.skipped ≡ tally.beats)
+        × (tally.tasks * heartbeat ≤ tally.instructions) }
 {
     let _blocks = code.blocks();
 }

@@ -5,7 +5,8 @@ ghost use Rattle.tpal_syntax.specs.Conditions.{IsCode};
 ghost use Rattle.tpal_machine.specs.Belonging.{RunsOn};
 ghost use Rattle.tpal_machine.specs.Step.{step};
 ghost use Rattle.schedule_core.specs.Core.{one_more};
-ghost use Rattle.schedule_core.specs.Effects.{least_free, SeatStepped, CanRun, IsStepOnce, WaitsWhereAsked, OnceGives};
+ghost use Rattle.schedule_core.specs.Effects.{least_free, SeatStepped, CanRun, IsStepOnce};
+ghost use Rattle.schedule_core.specs.Effects.{WaitsWhereAsked, OnceGives};
 ghost use Rattle.schedule_core.specs.Standing.{worker_at};
 
 use crate::config::Config;
@@ -95,7 +96,8 @@ fn step_once(task: Task, code: &Code, pace: Pace) -> Once
 fn after_once(config: Config, worker: u32, due: bool, once: Once) -> Result<Config, ApplyFault>
     requires worker { worker < length config.workers }
     requires waits { WaitsWhereAsked once }
-    ensures { OnceGives (record config { instructions = one_more config.instructions }) worker due once result }
+    ensures { OnceGives (record config { instructions = one_more config.instructions }) worker due
+        once result }
 {
     let mut config = config;
     config.count_one();

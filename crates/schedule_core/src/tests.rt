@@ -132,8 +132,8 @@ fn child_body() -> [Instr; 4] {
     ]
 }
 
-// The sum of the numbers below 100, by a loop that may be cut: main 0, loop 1, body 2, end 3, out 4, beat 5,
-// back 6, child 7, comb 8, joined 9.
+// The sum of the numbers below 100, by a loop that may be cut: main 0, loop 1, body 2, end 3, out
+// 4, beat 5, back 6, child 7, comb 8, joined 9.
 fn sum(alloc: Global) -> Result<Option<Code>, NoMemory>
     ensures { IfOk result (λ made. IfSome made (λ code. length code.tables ≡ 0)) }
 {
@@ -174,8 +174,8 @@ fn stepped(config: Config, code: &Code, times: u16) -> Option<Config>
     }
 }
 
-// What a run prints that halts after so many instructions of worker 0, with its instructions and tasks. An event
-// that can't happen comes first, and changes nothing.
+// What a run prints that halts after so many instructions of worker 0, with its instructions and
+// tasks. An event that can't happen comes first, and changes nothing.
 fn printed(
     alloc: Global,
     code: &Code,
