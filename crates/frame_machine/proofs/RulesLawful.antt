@@ -9,6 +9,7 @@ use Rattle.loop_syntax.specs.declared.ParLoop.{ParLoop}
 use Rattle.loop_syntax.specs.declared.Stmt.{Stmt}
 use Rattle.loop_syntax.specs.declared.Program.{Program}
 use Rattle.loop_rules.specs.declared.part.Part.TheVariants.{OfFunc}
+use Rattle.loop_rules.specs.Broken.{C8'}
 use Rattle.loop_rules.specs.Carries.{carries}
 use Rattle.loop_rules.specs.Keeps.{carry_word}
 use Rattle.loop_rules.specs.Names.{is_in, func_of, texts}
@@ -17,7 +18,7 @@ use Rattle.loop_rules.specs.Sites.{Loop, Act, Calls, Declares, Parallel, Spot, S
 use Rattle.loop_meaning.specs.Cells.{Body, body_of, bodies_of, bodies_of_list}
 use Rattle.loop_check.specs.Unbroken.{NoneBroken}
 use Rattle.loop_check.proofs.Lists.{Each, each_at, each_left, each_right, each_of}
-use Rattle.loop_check.proofs.Fine.{Fine, AllFine, fine_at, funcs_fine, func_fine}
+use Rattle.loop_check.proofs.Fine.{Fine, AllFine, funcs_fine, func_fine}
 use Rattle.loop_check.proofs.Bodies.{HasStatements, body_at, each_body, each_list}
 use Rattle.loop_check.proofs.Shapes.{HeadOk}
 use Rattle.frame_machine.specs.Modes.{Modes, demoted, inner_modes, modes_of}
@@ -212,7 +213,7 @@ calls_lawful p none w f n h t k = whole_mode w.rounds t (go (any_loop (carries t
   where
     go : (b : Bool) → any_loop (carries t) w.rounds ≡ b → b ≡ false
     go false e = refl
-    go true e = absurd ((fine_at p none (site w (Calls f n)) h).f8 f n refl t k e)
+    go true e = absurd (none.unbroken C8' f.place (record { where_at = site w (Calls f n); stands = h; breaks = record { callee = f; arguments = n; is_call = refl; table = t; reads = k; carried = e; here = refl } }))
 
 pub all_lawful : (p : Program) → NoneBroken p → AllLawful p
 all_lawful p none = record {
