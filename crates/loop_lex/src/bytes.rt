@@ -1,7 +1,8 @@
 // The bytes of the alphabet.
 
 ghost use Rattle.std.specs.Prelude.{◌≡◌};
-ghost use Rattle.loop_lex.specs.Bytes.{is_blank, starts_word, continues_word, is_single_sign, is_double_sign};
+ghost use Rattle.loop_lex.specs.Bytes.{is_blank, starts_word, continues_word, is_single_sign};
+ghost use Rattle.loop_lex.specs.Bytes.{is_double_sign};
 
 /// Whether the byte separates tokens.
 pub(crate) fn is_blank(byte: u8) -> bool

@@ -1,10 +1,14 @@
 // The lexer.
 
-ghost use Rattle.std.specs.Prelude.{◌≡◌, ◌<◌, ◌≤◌, ◌≢◌, ◌+◌, ◌^◌, ◌∷◌, [], length, slice_index, IfOk, IfErr, OnOk, Ok, Err, ◌++◌, MatchOption, IsTrue, not, ◌==◌, true, false, drop, take, ℕ, List};
+ghost use Rattle.std.specs.Prelude.{◌≡◌, ◌<◌, ◌≤◌, ◌≢◌, ◌+◌, ◌^◌, ◌∷◌, [], length, slice_index};
+ghost use Rattle.std.specs.Prelude.{IfOk, IfErr, OnOk, Ok, Err, ◌++◌, MatchOption, IsTrue, not};
+ghost use Rattle.std.specs.Prelude.{◌==◌, true, false, drop, take, ℕ, List};
 ghost use Rattle.std.specs.List.{prefix_len, AllPass};
 ghost use Rattle.std.specs.Char.{is_ascii_digit};
 ghost use Rattle.loop_lex.specs.Bytes.{is_blank, starts_word, continues_word, begins_double};
-ghost use Rattle.loop_lex.specs.Lexical.{decimal, greatest, IsPiece, place_after, AreTokensOf, AreInOrder, IsOnlyReading, EachIsTokenOf, IsCause, IsReadTo};
+ghost use Rattle.loop_lex.specs.Lexical.{decimal, greatest, IsPiece, place_after, AreTokensOf};
+ghost use Rattle.loop_lex.specs.Lexical.{AreInOrder, IsOnlyReading, EachIsTokenOf, IsCause};
+ghost use Rattle.loop_lex.specs.Lexical.{IsReadTo};
 ghost use Rattle.loop_lex.specs.declared.token.LexFault.TheVariants.{NoMemory};
 
 use crate::bytes::{continues_word, is_blank, is_double_sign, is_single_sign, starts_word};
@@ -190,7 +194,8 @@ fn literal(text: &[u8]) -> Piece
 /// The number that digits write; None where it is above the greatest literal.
 fn decimal(digits: &[u8]) -> Option<u64>
     requires { AllPass is_ascii_digit digits.now }
-    ensures { MatchOption result (greatest < decimal digits.now) (λ n. (n ≡ decimal digits.now) × (n ≤ greatest)) }
+    ensures { MatchOption result (greatest < decimal digits.now)
+        (λ n. (n ≡ decimal digits.now) × (n ≤ greatest)) }
 {
     let mut value: u64 = 0;
     for byte in digits {

@@ -17,6 +17,8 @@ Finishes tree (t ∷ ts) (Err fault) = fault ≡ parsing.Form t.place
 
 -- the fault where reading stopped
 abbrev pub IsPlaced : List ℕ → Halt → ParseFault → Type 0
-IsPlaced source (halts.Form rest) fault = fault ≡ parsing.Form (place_at source (seen source rest.now))
-IsPlaced source (halts.Deep rest) fault = fault ≡ parsing.Deep (place_at source (seen source rest.now))
+IsPlaced source (halts.Form rest) fault =
+    fault ≡ parsing.Form (place_at source (seen source rest.now))
+IsPlaced source (halts.Deep rest) fault =
+    fault ≡ parsing.Deep (place_at source (seen source rest.now))
 IsPlaced source halts.NoMemory fault = fault ≡ parsing.NoMemory

@@ -1,14 +1,30 @@
--- What the parser reads, as functions on lists of tokens. Each answers a value with the tokens after it, or the
--- tokens that are left where reading stops. The number bounds how deep and how often a reading goes on; a number
--- from the length of the list on is enough.
-use Rattle.std.specs.Prelude.{◌≡◌, ℕ, zero, suc, List, [], ◌∷◌, ◌++◌, ◌-◌, ◌&&◌, length, take, drop, nat_le, true, Option, Some, None, Result, Ok, Err, Bool, false, nat_eq, if◌then◌else◌}
+-- What the parser reads, as functions on lists of tokens. Each answers a value with the tokens
+-- after it, or the tokens that are left where reading stops. The number bounds how deep and how
+-- often a reading goes on; a number from the length of the list on is enough.
+use Rattle.std.specs.Prelude.{◌≡◌, ℕ, zero, suc, List, [], ◌∷◌, ◌++◌, ◌-◌, ◌&&◌, length, take, drop}
+use Rattle.std.specs.Prelude.{nat_le, true, Option, Some, None, Result, Ok, Err, Bool, false}
+use Rattle.std.specs.Prelude.{nat_eq, if◌then◌else◌}
 use Rattle.tp_value.specs.declared.values.Place.{Place}
 use Rattle.tp_value.specs.declared.values.Op.{Op}
 use Rattle.tp_value.specs.declared.values.Op.TheVariants as reducers
 use Rattle.loop_syntax.specs.declared.expression.BinOp.{BinOp}
-use Rattle.loop_syntax.specs.Tree.{Spelled, Tree, TInt, TVar, TCell, TRows, TCols, TNeg, TBin, RowTree, RVar, RInt, CarryTree, CRows, CCells, ReduceTree, AppTree, Node, NLet, NSet, NPut, NIf, NWhile, NLoop, NPar, NFold, NCall, NBoth, NPrint, NEmit, Nodes, Last, nodes, TInput, TMade, ProgramTree}
+use Rattle.loop_syntax.specs.Tree.{Spelled, Tree, TInt, TVar, TCell, TRows, TCols, TNeg, TBin}
+use Rattle.loop_syntax.specs.Tree.{RowTree, RVar, RInt, CarryTree, CRows, CCells, ReduceTree}
+use Rattle.loop_syntax.specs.Tree.{AppTree, Node, NLet, NSet, NPut, NIf, NWhile, NLoop, NPar, NFold}
+use Rattle.loop_syntax.specs.Tree.{NCall, NBoth, NPrint, NEmit, Nodes, Last, nodes, TInput, TMade}
+use Rattle.loop_syntax.specs.Tree.{ProgramTree}
 use Rattle.loop_parse.specs.declared.terminal.Fixed.{Fixed}
-use Rattle.loop_parse.specs.declared.terminal.Fixed.TheVariants.{Input, Table, Fn, Return, Main, Let, If, Else, While, Loop, Par, In, Carry, Reduce, By, Fold, With, Call, Both, Print, Emit, Rows, Cols, Add, Mul, Min, Max, Affine, Leave, OpenRound, CloseRound, OpenBrace, CloseBrace, OpenSquare, CloseSquare, Comma, Semi, Assign, Plus, Minus, Star, Slash, Percent, Same, Differs, Less, AtMost, Greater, AtLeast, DotDot}
+use Rattle.loop_parse.specs.declared.terminal.Fixed.TheVariants.{Input, Table, Fn, Return, Main}
+use Rattle.loop_parse.specs.declared.terminal.Fixed.TheVariants.{Let, If, Else, While, Loop, Par}
+use Rattle.loop_parse.specs.declared.terminal.Fixed.TheVariants.{In, Carry, Reduce, By, Fold, With}
+use Rattle.loop_parse.specs.declared.terminal.Fixed.TheVariants.{Call, Both, Print, Emit, Rows}
+use Rattle.loop_parse.specs.declared.terminal.Fixed.TheVariants.{Cols, Add, Mul, Min, Max, Affine}
+use Rattle.loop_parse.specs.declared.terminal.Fixed.TheVariants.{Leave, OpenRound, CloseRound}
+use Rattle.loop_parse.specs.declared.terminal.Fixed.TheVariants.{OpenBrace, CloseBrace, OpenSquare}
+use Rattle.loop_parse.specs.declared.terminal.Fixed.TheVariants.{CloseSquare, Comma, Semi, Assign}
+use Rattle.loop_parse.specs.declared.terminal.Fixed.TheVariants.{Plus, Minus, Star, Slash, Percent}
+use Rattle.loop_parse.specs.declared.terminal.Fixed.TheVariants.{Same, Differs, Less, AtMost}
+use Rattle.loop_parse.specs.declared.terminal.Fixed.TheVariants.{Greater, AtLeast, DotDot}
 use Rattle.loop_parse.specs.declared.reader.Halt.{Halt}
 use Rattle.loop_parse.specs.declared.reader.Halt.TheVariants as halts
 use Rattle.loop_parse.specs.Terms.{Kind, Literal, Name, Spelling, Token, seen}
@@ -187,7 +203,8 @@ primary_of inner (t ∷ ts) = primary_at inner t.kind t ts
 abbrev pub unary_of : Reader Tree → Reader Tree
 unary_of inner [] = Err (Form [])
 unary_of inner (t ∷ ts) =
-    if is_fixed Minus t.kind then (unary_of inner ts >>= λ e. Ok (TNeg e.0 t.place, e.1)) else primary_of inner (t ∷ ts)
+    if is_fixed Minus t.kind then (unary_of inner ts >>= λ e. Ok (TNeg e.0 t.place, e.1))
+    else primary_of inner (t ∷ ts)
 
 abbrev pub expr_of : Reader Tree → ℕ → Reader Tree
 expr_of inner n = chain (chain (chain (unary_of inner) product_op_of n) sum_op_of n) compare_op_of 1
@@ -222,15 +239,20 @@ window = 257
 
 -- what the reading of the window says of the whole
 abbrev pub limited : List Token → Reply Tree → Reply Tree
-limited ts (Ok x) = if nat_le window (length ts) && is_empty x.1 then Err (Deep (drop 256 ts)) else Ok (x.0, drop (length (take window ts) - length x.1) ts)
-limited ts (Err (Form us)) = if nat_le window (length ts) && is_empty us then Err (Deep (drop 256 ts)) else Err (Form (drop (length (take window ts) - length us) ts))
+limited ts (Ok x) =
+    if nat_le window (length ts) && is_empty x.1 then Err (Deep (drop 256 ts))
+    else Ok (x.0, drop (length (take window ts) - length x.1) ts)
+limited ts (Err (Form us)) =
+    if nat_le window (length ts) && is_empty us then Err (Deep (drop 256 ts))
+    else Err (Form (drop (length (take window ts) - length us) ts))
 limited ts (Err (Deep us)) = Err (Deep us)
 
 -- an expression that isn't inside another one
 unfoldable pub outer : ℕ → Reader Tree
 outer n ts = limited ts (expr n (take window ts))
 
--- the limits of a reading: how it reads an outermost expression, and whether a block inside this many is too deep
+-- the limits of a reading: how it reads an outermost expression, and whether a block inside this
+-- many is too deep
 pub record Limits : Type 0 where
   pub outermost : ℕ → Reader Tree
   pub is_deep : ℕ → Bool
@@ -401,7 +423,8 @@ column t k ts = do
 
 -- what stands after the first index of a carry item
 abbrev pub carry_rest_of : Spelled → RowTree → Reader CarryTree
-carry_rest_of t (RVar i) ts = if begins_with OpenSquare ts then column t (RVar i) ts else Ok (CRows t i, ts)
+carry_rest_of t (RVar i) ts =
+    if begins_with OpenSquare ts then column t (RVar i) ts else Ok (CRows t i, ts)
 carry_rest_of t (RInt n) ts = column t (RInt n) ts
 
 unfoldable pub carry_item : Reader CarryTree
@@ -472,7 +495,9 @@ block_of k inner level ts = do
   Ok (nodes ss.0, c.1)
 
 abbrev pub else_of : Limits → (ℕ → Reader (List Node)) → ℕ → Reader Nodes
-else_of k inner level ts = if begins_with Else ts then (expect Else ts >>= λ w. block_of k inner level w.1) else Ok (Last, ts)
+else_of k inner level ts =
+    if begins_with Else ts then (expect Else ts >>= λ w. block_of k inner level w.1)
+    else Ok (Last, ts)
 
 abbrev pub if_of : Limits → (ℕ → Reader (List Node)) → ℕ → ℕ → Reader Node
 if_of k inner level n ts = do
@@ -498,12 +523,26 @@ loop_of k inner level n ts = do
   Ok (NLoop x.0 a.0 b.0 c.0, c.1)
 
 -- the clauses and the body of a `par` over x from a to b
-abbrev pub par_tail_of : Limits → (ℕ → Reader (List Node)) → ℕ → ℕ → Place → Spelled → Tree → Tree → Reader Node
+abbrev pub par_tail_of : Limits → (ℕ → Reader (List Node)) → ℕ → ℕ → Place → Spelled → Tree → Tree →
+    Reader Node
 par_tail_of k inner level n p x a b ts = do
   cs ← carry_list n p ts
   rs ← reduce_list n cs.1
   c ← block_of k inner level rs.1
-  Ok (NPar (record { place = p; var = x; from = a; to = b; carry_place = cs.0.0; carries = cs.0.1; reduces = rs.0 }) c.0, c.1)
+  Ok (
+    NPar
+        (record {
+          place = p;
+          var = x;
+          from = a;
+          to = b;
+          carry_place = cs.0.0;
+          carries = cs.0.1;
+          reduces = rs.0;
+        })
+        c.0,
+    c.1,
+  )
 
 abbrev pub par_of : Limits → (ℕ → Reader (List Node)) → ℕ → ℕ → Place → Reader Node
 par_of k inner level n p ts = do

@@ -1,9 +1,20 @@
 -- How words and signs are spelled.
-use Rattle.std.specs.Prelude.{ℕ, Bool, true, false, ◌&&◌, ◌==◌, if◌then◌else◌, List, [], ◌∷◌, length, codes, Option, Some, None}
+use Rattle.std.specs.Prelude.{ℕ, Bool, true, false, ◌&&◌, ◌==◌, if◌then◌else◌, List, [], ◌∷◌}
+use Rattle.std.specs.Prelude.{length, codes, Option, Some, None}
 use Rattle.loop_lex.specs.declared.token.TokenKind.{TokenKind}
 use Rattle.loop_lex.specs.declared.token.TokenKind.TheVariants as tokens
 use Rattle.loop_parse.specs.declared.terminal.Fixed.{Fixed}
-use Rattle.loop_parse.specs.declared.terminal.Fixed.TheVariants.{Input, Table, Fn, Return, Main, Let, If, Else, While, Loop, Par, In, Carry, Reduce, By, Fold, With, Call, Both, Print, Emit, Rows, Cols, Add, Mul, Min, Max, Affine, Leave, OpenRound, CloseRound, OpenBrace, CloseBrace, OpenSquare, CloseSquare, Comma, Semi, Assign, Plus, Minus, Star, Slash, Percent, Same, Differs, Less, AtMost, Greater, AtLeast, DotDot}
+use Rattle.loop_parse.specs.declared.terminal.Fixed.TheVariants.{Input, Table, Fn, Return, Main}
+use Rattle.loop_parse.specs.declared.terminal.Fixed.TheVariants.{Let, If, Else, While, Loop, Par}
+use Rattle.loop_parse.specs.declared.terminal.Fixed.TheVariants.{In, Carry, Reduce, By, Fold, With}
+use Rattle.loop_parse.specs.declared.terminal.Fixed.TheVariants.{Call, Both, Print, Emit, Rows}
+use Rattle.loop_parse.specs.declared.terminal.Fixed.TheVariants.{Cols, Add, Mul, Min, Max, Affine}
+use Rattle.loop_parse.specs.declared.terminal.Fixed.TheVariants.{Leave, OpenRound, CloseRound}
+use Rattle.loop_parse.specs.declared.terminal.Fixed.TheVariants.{OpenBrace, CloseBrace, OpenSquare}
+use Rattle.loop_parse.specs.declared.terminal.Fixed.TheVariants.{CloseSquare, Comma, Semi, Assign}
+use Rattle.loop_parse.specs.declared.terminal.Fixed.TheVariants.{Plus, Minus, Star, Slash, Percent}
+use Rattle.loop_parse.specs.declared.terminal.Fixed.TheVariants.{Same, Differs, Less, AtMost}
+use Rattle.loop_parse.specs.declared.terminal.Fixed.TheVariants.{Greater, AtLeast, DotDot}
 use Rattle.loop_parse.specs.declared.terminal.Terminal.{Terminal}
 use Rattle.loop_parse.specs.declared.terminal.Terminal.TheVariants as terminals
 

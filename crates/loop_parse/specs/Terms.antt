@@ -27,14 +27,19 @@ kind_of (terminals.Fixed s) text = Spelling s
 
 -- a token of the lexer
 abbrev pub token_of : List ℕ → lexed.Token → Token
-token_of source t = record { kind = kind_of (terminal_of t.kind (text_of source t)) (text_of source t); place = t.place }
+token_of source t =
+    record {
+      kind = kind_of (terminal_of t.kind (text_of source t)) (text_of source t);
+      place = t.place;
+    }
 
 abbrev pub tokens_of : List ℕ → List lexed.Token → List Token
 tokens_of source ts = map (token_of source) ts
 
 -- a token of the parser
 abbrev pub saw : List ℕ → Lexeme → Token
-saw source l = record { kind = kind_of l.terminal (slice_range source l.start l.end); place = l.place }
+saw source l =
+    record { kind = kind_of l.terminal (slice_range source l.start l.end); place = l.place }
 
 abbrev pub seen : List ℕ → List Lexeme → List Token
 seen source ls = map (saw source) ls

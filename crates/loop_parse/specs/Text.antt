@@ -22,7 +22,8 @@ abbrev pub place_at : List ℕ → List Token → Place
 place_at source [] = place_of source
 place_at source (t ∷ ts) = t.place
 
--- the first place where the tokens aren't of the form: whatever is too deep is so later, where fewer tokens are left
+-- the first place where the tokens aren't of the form: whatever is too deep is so later, where
+-- fewer tokens are left
 pub record IsFormPlace (source : List ℕ) (tokens : List Token) (place : Place) : Type 0 where
   pub rest : List Token
   pub fault : FormFault tokens rest
@@ -46,10 +47,14 @@ pub data TextFault : Type 0 where
 
 -- the first fault of a text: of the lexer's, and where there is none of the parser's
 pub data FirstTextFault (source : List ℕ) : TextFault → Type 0 where
-  byte : {place : Place} → IsFirstFault source (lexing.Byte place) → FirstTextFault source (Byte place)
-  range : {place : Place} → IsFirstFault source (lexing.Range place) → FirstTextFault source (Range place)
-  form : {place : Place} (tokens : List lexed.Token) → AreTokensOf source tokens → IsFormPlace source (tokens_of source tokens) place → FirstTextFault source (Form place)
-  deep : {place : Place} (tokens : List lexed.Token) → AreTokensOf source tokens → IsDeepPlace source (tokens_of source tokens) place → FirstTextFault source (Deep place)
+  byte : {place : Place} → IsFirstFault source (lexing.Byte place) →
+      FirstTextFault source (Byte place)
+  range : {place : Place} → IsFirstFault source (lexing.Range place) →
+      FirstTextFault source (Range place)
+  form : {place : Place} (tokens : List lexed.Token) → AreTokensOf source tokens →
+      IsFormPlace source (tokens_of source tokens) place → FirstTextFault source (Form place)
+  deep : {place : Place} (tokens : List lexed.Token) → AreTokensOf source tokens →
+      IsDeepPlace source (tokens_of source tokens) place → FirstTextFault source (Deep place)
 
 -- no other tree
 abbrev pub IsOnlyTree : List ℕ → ProgramTree → Type 0
@@ -57,7 +62,9 @@ IsOnlyTree source program = (other : ProgramTree) → Reads source other → oth
 
 -- no other fault, and no tree
 abbrev pub IsOnlyFault : List ℕ → TextFault → Type 0
-IsOnlyFault source fault = ((other : TextFault) → FirstTextFault source other → other ≡ fault) × ((program : ProgramTree) → Reads source program → ⊥)
+IsOnlyFault source fault =
+    ((other : TextFault) → FirstTextFault source other → other ≡ fault)
+    × ((program : ProgramTree) → Reads source program → ⊥)
 
 -- why there is no tree
 abbrev pub IsCause : List ℕ → ParseFault → Type 0

@@ -1,11 +1,14 @@
 // Declarations and programs.
 
-ghost use Rattle.std.specs.Prelude.{◌≡◌, ℕ, ◌+◌, ◌<◌, ◌≤◌, length, IfOk, OnOk, [], ◌∷◌, ◌++◌, map, suc, Some, None};
-ghost use Rattle.loop_syntax.specs.Tree.{spelled, tree_of, node_of, nodes_of, table_of, func_of, program_of};
+ghost use Rattle.std.specs.Prelude.{◌≡◌, ℕ, ◌+◌, ◌<◌, ◌≤◌, length, IfOk, OnOk, [], ◌∷◌, ◌++◌, map};
+ghost use Rattle.std.specs.Prelude.{suc, Some, None};
+ghost use Rattle.loop_syntax.specs.Tree.{spelled, tree_of, node_of, nodes_of, table_of, func_of};
+ghost use Rattle.loop_syntax.specs.Tree.{program_of};
 ghost use Rattle.loop_parse.specs.Grammar.{tables_in, funcs_in};
 ghost use Rattle.loop_parse.specs.Heads.{decl_of};
 ghost use Rattle.loop_parse.specs.Terms.{saw, seen};
-ghost use Rattle.loop_parse.specs.Reading.{Gives, starts, begins_decl, input_rest, table_rest, fn_rest, decl, decls, program, within};
+ghost use Rattle.loop_parse.specs.Reading.{Gives, starts, begins_decl, input_rest, table_rest};
+ghost use Rattle.loop_parse.specs.Reading.{fn_rest, decl, decls, program, within};
 
 use crate::expression::outer;
 use crate::lists::params;
@@ -29,7 +32,9 @@ pub(crate) fn program<'a>(
     source: &[u8],
     tokens: &'a [Lexeme],
 ) -> Result<(Program, &'a [Lexeme]), Halt<'a>>
-    ensures reads { (n : ℕ) → length (seen source.now tokens.now) ≤ n → Gives source.now (λ x. (program_of x.0, seen source.now x.1.now)) result (program within n (seen source.now tokens.now)) }
+    ensures reads { (n : ℕ) → length (seen source.now tokens.now) ≤ n →
+        Gives source.now (λ x. (program_of x.0, seen source.now x.1.now)) result
+        (program within n (seen source.now tokens.now)) }
 {
     let (found, rest) = decls(alloc, source, tokens)?;
     let (_main, rest) = expect(source, rest, Fixed::Main)?;
@@ -39,7 +44,14 @@ pub(crate) fn program<'a>(
 
 /// The program of these declarations and this main.
 fn assembled(alloc: Global, decls: Vec<Decl>, main: Vec<Stmt>) -> Result<Program, AllocError>
-    ensures { IfOk result (λ p. program_of p ≡ record { tables = tables_in (map decl_of decls.items); funcs = funcs_in (map decl_of decls.items); main = nodes_of main.items }) }
+    ensures { IfOk result (λ p.
+        program_of p
+        ≡
+        record {
+          tables = tables_in (map decl_of decls.items);
+          funcs = funcs_in (map decl_of decls.items);
+          main = nodes_of main.items;
+        }) }
 {
     let mut tables = Vec::new(alloc);
     let mut funcs = Vec::new(alloc);
@@ -63,8 +75,11 @@ fn decls<'a>(
     source: &[u8],
     tokens: &'a [Lexeme],
 ) -> Result<(Vec<Decl>, &'a [Lexeme]), Halt<'a>>
-    ensures reads { (n : ℕ) → length (seen source.now tokens.now) ≤ n → Gives source.now (λ x. (map decl_of x.0.items, seen source.now x.1.now)) result (decls within n (seen source.now tokens.now)) }
-    ensures no_longer { IfOk result (λ x. length (seen source.now x.1.now) ≤ length (seen source.now tokens.now)) }
+    ensures reads { (n : ℕ) → length (seen source.now tokens.now) ≤ n →
+        Gives source.now (λ x. (map decl_of x.0.items, seen source.now x.1.now)) result
+        (decls within n (seen source.now tokens.now)) }
+    ensures no_longer { IfOk result (λ x.
+        length (seen source.now x.1.now) ≤ length (seen source.now tokens.now)) }
 {
     let mut list = Vec::new(alloc);
     let mut rest = tokens;
@@ -109,8 +124,11 @@ fn declaration<'a>(
     source: &[u8],
     tokens: &'a [Lexeme],
 ) -> Result<(Decl, &'a [Lexeme]), Halt<'a>>
-    ensures reads { (n : ℕ) → length (seen source.now tokens.now) ≤ n → Gives source.now (λ x. (decl_of x.0, seen source.now x.1.now)) result (decl within n (seen source.now tokens.now)) }
-    ensures shorter { IfOk result (λ x. length (seen source.now x.1.now) < length (seen source.now tokens.now)) }
+    ensures reads { (n : ℕ) → length (seen source.now tokens.now) ≤ n →
+        Gives source.now (λ x. (decl_of x.0, seen source.now x.1.now)) result
+        (decl within n (seen source.now tokens.now)) }
+    ensures shorter { IfOk result (λ x.
+        length (seen source.now x.1.now) < length (seen source.now tokens.now)) }
 {
     let Some((first, after)) = next(source, tokens) else {
         return Err(Halt::Form(tokens));
@@ -130,8 +148,10 @@ fn input_rest<'a>(
     source: &[u8],
     tokens: &'a [Lexeme],
 ) -> Result<(Decl, &'a [Lexeme]), Halt<'a>>
-    ensures reads { Gives source.now (λ x. (decl_of x.0, seen source.now x.1.now)) result (input_rest (seen source.now tokens.now)) }
-    ensures shorter { IfOk result (λ x. length (seen source.now x.1.now) < length (seen source.now tokens.now)) }
+    ensures reads { Gives source.now (λ x. (decl_of x.0, seen source.now x.1.now)) result
+        (input_rest (seen source.now tokens.now)) }
+    ensures shorter { IfOk result (λ x.
+        length (seen source.now x.1.now) < length (seen source.now tokens.now)) }
 {
     let (table, rest) = name(alloc, source, tokens)?;
     let (_semi, rest) = expect(source, rest, Fixed::Semi)?;
@@ -145,8 +165,11 @@ fn table_rest<'a>(
     source: &[u8],
     tokens: &'a [Lexeme],
 ) -> Result<(Decl, &'a [Lexeme]), Halt<'a>>
-    ensures reads { (n : ℕ) → length (seen source.now tokens.now) ≤ n → Gives source.now (λ x. (decl_of x.0, seen source.now x.1.now)) result (table_rest within n (seen source.now tokens.now)) }
-    ensures shorter { IfOk result (λ x. length (seen source.now x.1.now) < length (seen source.now tokens.now)) }
+    ensures reads { (n : ℕ) → length (seen source.now tokens.now) ≤ n →
+        Gives source.now (λ x. (decl_of x.0, seen source.now x.1.now)) result
+        (table_rest within n (seen source.now tokens.now)) }
+    ensures shorter { IfOk result (λ x.
+        length (seen source.now x.1.now) < length (seen source.now tokens.now)) }
 {
     let (table, rest) = name(alloc, source, tokens)?;
     let (_opensquare, rest) = expect(source, rest, Fixed::OpenSquare)?;
@@ -166,8 +189,11 @@ fn fn_rest<'a>(
     source: &[u8],
     tokens: &'a [Lexeme],
 ) -> Result<(Decl, &'a [Lexeme]), Halt<'a>>
-    ensures reads { (n : ℕ) → length (seen source.now tokens.now) ≤ n → Gives source.now (λ x. (decl_of x.0, seen source.now x.1.now)) result (fn_rest within n (seen source.now tokens.now)) }
-    ensures shorter { IfOk result (λ x. length (seen source.now x.1.now) < length (seen source.now tokens.now)) }
+    ensures reads { (n : ℕ) → length (seen source.now tokens.now) ≤ n →
+        Gives source.now (λ x. (decl_of x.0, seen source.now x.1.now)) result
+        (fn_rest within n (seen source.now tokens.now)) }
+    ensures shorter { IfOk result (λ x.
+        length (seen source.now x.1.now) < length (seen source.now tokens.now)) }
 {
     let (name, rest) = crate::reader::name(alloc, source, tokens)?;
     let (_openround, rest) = expect(source, rest, Fixed::OpenRound)?;

@@ -1,9 +1,13 @@
 // Expressions.
 
-ghost use Rattle.std.specs.Prelude.{◌≡◌, ℕ, ◌+◌, ◌<◌, ◌≤◌, length, IfOk, OnOk, [], ◌∷◌, ◌++◌, take, drop, ◌-◌, ◌&&◌, nat_le};
+ghost use Rattle.std.specs.Prelude.{◌≡◌, ℕ, ◌+◌, ◌<◌, ◌≤◌, length, IfOk, OnOk, [], ◌∷◌, ◌++◌, take};
+ghost use Rattle.std.specs.Prelude.{drop, ◌-◌, ◌&&◌, nat_le};
 ghost use Rattle.loop_syntax.specs.Tree.{spelled, tree_of, TBin, TNeg, TCell};
 ghost use Rattle.loop_parse.specs.Terms.{saw, seen};
-ghost use Rattle.loop_parse.specs.Reading.{Gives, is_fixed, expect, name, primary, unary, product, sum, expr, sum_op_of, product_op_of, compare_op_of, nested, name_rest, name_cell, sized, outer, window, is_empty};
+ghost use Rattle.loop_parse.specs.Reading.{Gives, is_fixed, expect, name, primary, unary, product};
+ghost use Rattle.loop_parse.specs.Reading.{sum, expr, sum_op_of, product_op_of, compare_op_of};
+ghost use Rattle.loop_parse.specs.Reading.{nested, name_rest, name_cell, sized, outer, window};
+ghost use Rattle.loop_parse.specs.Reading.{is_empty};
 
 use crate::reader::{Halt, expect, is, name, next};
 use crate::terminal::{Fixed, Lexeme, Terminal};
@@ -11,15 +15,19 @@ use loop_syntax::{BinOp, Expr, Name};
 use std::alloc::{AllocError, Global};
 use tp_value::{MAX_EXPRESSION_TOKENS, Place};
 
-/// An expression that isn't inside another one. Its 257th token is too deep, where that continues it.
+/// An expression that isn't inside another one. Its 257th token is too deep, where that continues
+/// it.
 #[tactic(auto, unfolding(crate::specs::Reading::outer))]
 pub(crate) fn outer<'a>(
     alloc: Global,
     source: &[u8],
     tokens: &'a [Lexeme],
 ) -> Result<(Expr, &'a [Lexeme]), Halt<'a>>
-    ensures reads { (n : ℕ) → length (seen source.now tokens.now) ≤ n → Gives source.now (λ x. (tree_of x.0, seen source.now x.1.now)) result (outer n (seen source.now tokens.now)) }
-    ensures shorter { IfOk result (λ x. length (seen source.now x.1.now) < length (seen source.now tokens.now)) }
+    ensures reads { (n : ℕ) → length (seen source.now tokens.now) ≤ n →
+        Gives source.now (λ x. (tree_of x.0, seen source.now x.1.now)) result
+        (outer n (seen source.now tokens.now)) }
+    ensures shorter { IfOk result (λ x.
+        length (seen source.now x.1.now) < length (seen source.now tokens.now)) }
 {
     match expr(alloc, source, looked_at(source, tokens)) {
         Ok((found, left)) => {
@@ -44,7 +52,9 @@ const WINDOW: usize = MAX_EXPRESSION_TOKENS + 1;
 
 /// Whether all tokens of a full window are taken.
 fn is_beyond(source: &[u8], tokens: &[Lexeme], left: &[Lexeme]) -> bool
-    ensures { result ≡ (nat_le window (length (seen source.now tokens.now)) && is_empty (seen source.now left.now)) }
+    ensures { result
+        ≡ (nat_le window (length (seen source.now tokens.now))
+        && is_empty (seen source.now left.now)) }
 {
     tokens.len() >= WINDOW && is_none_left(source, left)
 }
@@ -71,7 +81,10 @@ fn looked_at<'a>(source: &[u8], tokens: &'a [Lexeme]) -> &'a [Lexeme]
 
 /// The tokens that are left, where these are left of those looked at.
 fn widened<'a>(source: &[u8], tokens: &'a [Lexeme], left: &[Lexeme]) -> &'a [Lexeme]
-    ensures { seen source.now result.now ≡ drop (length (take window (seen source.now tokens.now)) - length (seen source.now left.now)) (seen source.now tokens.now) }
+    ensures { seen source.now result.now
+        ≡ drop
+        (length (take window (seen source.now tokens.now)) - length (seen source.now left.now))
+        (seen source.now tokens.now) }
 {
     let skipped = looked_at(source, tokens).len().saturating_sub(left.len());
     skip(source, tokens, skipped)
@@ -101,8 +114,11 @@ fn expr<'a>(
     source: &[u8],
     tokens: &'a [Lexeme],
 ) -> Result<(Expr, &'a [Lexeme]), Halt<'a>>
-    ensures reads { (n : ℕ) → length (seen source.now tokens.now) ≤ n → Gives source.now (λ x. (tree_of x.0, seen source.now x.1.now)) result (expr n (seen source.now tokens.now)) }
-    ensures shorter { IfOk result (λ x. length (seen source.now x.1.now) < length (seen source.now tokens.now)) }
+    ensures reads { (n : ℕ) → length (seen source.now tokens.now) ≤ n →
+        Gives source.now (λ x. (tree_of x.0, seen source.now x.1.now)) result
+        (expr n (seen source.now tokens.now)) }
+    ensures shorter { IfOk result (λ x.
+        length (seen source.now x.1.now) < length (seen source.now tokens.now)) }
 {
     let (left, rest) = sum(alloc, source, tokens)?;
     let Some((first, after)) = next(source, rest) else {
@@ -122,8 +138,11 @@ fn inner<'a>(
     source: &[u8],
     tokens: &'a [Lexeme],
 ) -> Result<(Expr, &'a [Lexeme]), Halt<'a>>
-    ensures reads { (n : ℕ) → length (seen source.now tokens.now) < n → Gives source.now (λ x. (tree_of x.0, seen source.now x.1.now)) result (nested n (seen source.now tokens.now)) }
-    ensures shorter { IfOk result (λ x. length (seen source.now x.1.now) < length (seen source.now tokens.now)) }
+    ensures reads { (n : ℕ) → length (seen source.now tokens.now) < n →
+        Gives source.now (λ x. (tree_of x.0, seen source.now x.1.now)) result
+        (nested n (seen source.now tokens.now)) }
+    ensures shorter { IfOk result (λ x.
+        length (seen source.now x.1.now) < length (seen source.now tokens.now)) }
 {
     expr(alloc, source, tokens)
 }
@@ -136,8 +155,11 @@ fn sum<'a>(
     source: &[u8],
     tokens: &'a [Lexeme],
 ) -> Result<(Expr, &'a [Lexeme]), Halt<'a>>
-    ensures reads { (n : ℕ) → length (seen source.now tokens.now) ≤ n → Gives source.now (λ x. (tree_of x.0, seen source.now x.1.now)) result (sum n (seen source.now tokens.now)) }
-    ensures shorter { IfOk result (λ x. length (seen source.now x.1.now) < length (seen source.now tokens.now)) }
+    ensures reads { (n : ℕ) → length (seen source.now tokens.now) ≤ n →
+        Gives source.now (λ x. (tree_of x.0, seen source.now x.1.now)) result
+        (sum n (seen source.now tokens.now)) }
+    ensures shorter { IfOk result (λ x.
+        length (seen source.now x.1.now) < length (seen source.now tokens.now)) }
 {
     let (mut left, mut rest) = product(alloc, source, tokens)?;
     while let Some((first, after)) = next(source, rest) {
@@ -159,8 +181,11 @@ fn product<'a>(
     source: &[u8],
     tokens: &'a [Lexeme],
 ) -> Result<(Expr, &'a [Lexeme]), Halt<'a>>
-    ensures reads { (n : ℕ) → length (seen source.now tokens.now) ≤ n → Gives source.now (λ x. (tree_of x.0, seen source.now x.1.now)) result (product n (seen source.now tokens.now)) }
-    ensures shorter { IfOk result (λ x. length (seen source.now x.1.now) < length (seen source.now tokens.now)) }
+    ensures reads { (n : ℕ) → length (seen source.now tokens.now) ≤ n →
+        Gives source.now (λ x. (tree_of x.0, seen source.now x.1.now)) result
+        (product n (seen source.now tokens.now)) }
+    ensures shorter { IfOk result (λ x.
+        length (seen source.now x.1.now) < length (seen source.now tokens.now)) }
 {
     let (mut left, mut rest) = unary(alloc, source, tokens)?;
     while let Some((first, after)) = next(source, rest) {
@@ -182,8 +207,11 @@ fn unary<'a>(
     source: &[u8],
     tokens: &'a [Lexeme],
 ) -> Result<(Expr, &'a [Lexeme]), Halt<'a>>
-    ensures reads { (n : ℕ) → length (seen source.now tokens.now) ≤ n → Gives source.now (λ x. (tree_of x.0, seen source.now x.1.now)) result (unary n (seen source.now tokens.now)) }
-    ensures shorter { IfOk result (λ x. length (seen source.now x.1.now) < length (seen source.now tokens.now)) }
+    ensures reads { (n : ℕ) → length (seen source.now tokens.now) ≤ n →
+        Gives source.now (λ x. (tree_of x.0, seen source.now x.1.now)) result
+        (unary n (seen source.now tokens.now)) }
+    ensures shorter { IfOk result (λ x.
+        length (seen source.now x.1.now) < length (seen source.now tokens.now)) }
 {
     let Some((first, after)) = next(source, tokens) else {
         return Err(Halt::Form(tokens));
@@ -203,8 +231,11 @@ fn primary<'a>(
     source: &[u8],
     tokens: &'a [Lexeme],
 ) -> Result<(Expr, &'a [Lexeme]), Halt<'a>>
-    ensures reads { (n : ℕ) → length (seen source.now tokens.now) ≤ n → Gives source.now (λ x. (tree_of x.0, seen source.now x.1.now)) result (primary n (seen source.now tokens.now)) }
-    ensures shorter { IfOk result (λ x. length (seen source.now x.1.now) < length (seen source.now tokens.now)) }
+    ensures reads { (n : ℕ) → length (seen source.now tokens.now) ≤ n →
+        Gives source.now (λ x. (tree_of x.0, seen source.now x.1.now)) result
+        (primary n (seen source.now tokens.now)) }
+    ensures shorter { IfOk result (λ x.
+        length (seen source.now x.1.now) < length (seen source.now tokens.now)) }
 {
     let Some((first, after)) = next(source, tokens) else {
         return Err(Halt::Form(tokens));
@@ -236,8 +267,11 @@ fn cell_or_variable<'a>(
     source: &[u8],
     tokens: &'a [Lexeme],
 ) -> Result<(Expr, &'a [Lexeme]), Halt<'a>>
-    ensures reads { (n : ℕ) → length (seen source.now tokens.now) ≤ n → Gives source.now (λ x. (tree_of x.0, seen source.now x.1.now)) result (name_cell (nested n) (seen source.now tokens.now)) }
-    ensures shorter { IfOk result (λ x. length (seen source.now x.1.now) < length (seen source.now tokens.now)) }
+    ensures reads { (n : ℕ) → length (seen source.now tokens.now) ≤ n →
+        Gives source.now (λ x. (tree_of x.0, seen source.now x.1.now)) result
+        (name_cell (nested n) (seen source.now tokens.now)) }
+    ensures shorter { IfOk result (λ x.
+        length (seen source.now x.1.now) < length (seen source.now tokens.now)) }
 {
     let (name, rest) = name(alloc, source, tokens)?;
     name_rest(alloc, source, name, rest)
@@ -251,8 +285,11 @@ fn name_rest<'a>(
     name: Name,
     tokens: &'a [Lexeme],
 ) -> Result<(Expr, &'a [Lexeme]), Halt<'a>>
-    ensures reads { (n : ℕ) → length (seen source.now tokens.now) < n → Gives source.now (λ x. (tree_of x.0, seen source.now x.1.now)) result (name_rest (nested n) (spelled name) (seen source.now tokens.now)) }
-    ensures shorter { IfOk result (λ x. length (seen source.now x.1.now) ≤ length (seen source.now tokens.now)) }
+    ensures reads { (n : ℕ) → length (seen source.now tokens.now) < n →
+        Gives source.now (λ x. (tree_of x.0, seen source.now x.1.now)) result
+        (name_rest (nested n) (spelled name) (seen source.now tokens.now)) }
+    ensures shorter { IfOk result (λ x.
+        length (seen source.now x.1.now) ≤ length (seen source.now tokens.now)) }
 {
     let Some((first, after)) = next(source, tokens) else {
         return Ok((Expr::Var(name), tokens));
@@ -275,8 +312,10 @@ fn sized<'a>(
     source: &[u8],
     tokens: &'a [Lexeme],
 ) -> Result<(Name, &'a [Lexeme]), Halt<'a>>
-    ensures reads { Gives source.now (λ x. (spelled x.0, seen source.now x.1.now)) result (sized (seen source.now tokens.now)) }
-    ensures shorter { IfOk result (λ x. length (seen source.now x.1.now) < length (seen source.now tokens.now)) }
+    ensures reads { Gives source.now (λ x. (spelled x.0, seen source.now x.1.now)) result
+        (sized (seen source.now tokens.now)) }
+    ensures shorter { IfOk result (λ x.
+        length (seen source.now x.1.now) < length (seen source.now tokens.now)) }
 {
     let (_open, rest) = expect(source, tokens, Fixed::OpenRound)?;
     let (table, rest) = name(alloc, source, rest)?;

@@ -1,9 +1,11 @@
 // Lists with commas between their items, and functions with their arguments.
 
-ghost use Rattle.std.specs.Prelude.{◌≡◌, ℕ, ◌+◌, ◌<◌, ◌≤◌, length, IfOk, OnOk, [], ◌∷◌, ◌++◌, map, suc, Some, None};
+ghost use Rattle.std.specs.Prelude.{◌≡◌, ℕ, ◌+◌, ◌<◌, ◌≤◌, length, IfOk, OnOk, [], ◌∷◌, ◌++◌, map};
+ghost use Rattle.std.specs.Prelude.{suc, Some, None};
 ghost use Rattle.loop_syntax.specs.Tree.{spelled, tree_of, app_of};
 ghost use Rattle.loop_parse.specs.Terms.{saw, seen};
-ghost use Rattle.loop_parse.specs.Reading.{Gives, after_comma, with_front, name, more_names, params, more_args, args, app, outer, within};
+ghost use Rattle.loop_parse.specs.Reading.{Gives, after_comma, with_front, name, more_names};
+ghost use Rattle.loop_parse.specs.Reading.{params, more_args, args, app, outer, within};
 
 use crate::expression::outer;
 use crate::reader::{Halt, begins_with, expect, name};
@@ -18,8 +20,11 @@ pub(crate) fn params<'a>(
     source: &[u8],
     tokens: &'a [Lexeme],
 ) -> Result<(Vec<Name>, &'a [Lexeme]), Halt<'a>>
-    ensures reads { (n : ℕ) → length (seen source.now tokens.now) ≤ n → Gives source.now (λ x. (map spelled x.0.items, seen source.now x.1.now)) result (params n (seen source.now tokens.now)) }
-    ensures no_longer { IfOk result (λ x. length (seen source.now x.1.now) ≤ length (seen source.now tokens.now)) }
+    ensures reads { (n : ℕ) → length (seen source.now tokens.now) ≤ n →
+        Gives source.now (λ x. (map spelled x.0.items, seen source.now x.1.now)) result
+        (params n (seen source.now tokens.now)) }
+    ensures no_longer { IfOk result (λ x.
+        length (seen source.now x.1.now) ≤ length (seen source.now tokens.now)) }
 {
     let mut list = Vec::new(alloc);
     if begins_with(source, tokens, Fixed::CloseRound) {
@@ -38,8 +43,11 @@ fn more_names<'a>(
     given: Vec<Name>,
     tokens: &'a [Lexeme],
 ) -> Result<(Vec<Name>, &'a [Lexeme]), Halt<'a>>
-    ensures reads { (n : ℕ) → length (seen source.now tokens.now) ≤ n → Gives source.now (λ x. (map spelled x.0.items, seen source.now x.1.now)) result (with_front (map spelled given.items) (more_names n (seen source.now tokens.now))) }
-    ensures no_longer { IfOk result (λ x. length (seen source.now x.1.now) ≤ length (seen source.now tokens.now)) }
+    ensures reads { (n : ℕ) → length (seen source.now tokens.now) ≤ n →
+        Gives source.now (λ x. (map spelled x.0.items, seen source.now x.1.now)) result
+        (with_front (map spelled given.items) (more_names n (seen source.now tokens.now))) }
+    ensures no_longer { IfOk result (λ x.
+        length (seen source.now x.1.now) ≤ length (seen source.now tokens.now)) }
 {
     let mut list = given;
     let mut rest = tokens;
@@ -57,8 +65,10 @@ fn next_name<'a>(
     source: &[u8],
     tokens: &'a [Lexeme],
 ) -> Result<(Name, &'a [Lexeme]), Halt<'a>>
-    ensures reads { Gives source.now (λ x. (spelled x.0, seen source.now x.1.now)) result (after_comma (name) (seen source.now tokens.now)) }
-    ensures shorter { IfOk result (λ x. length (seen source.now x.1.now) < length (seen source.now tokens.now)) }
+    ensures reads { Gives source.now (λ x. (spelled x.0, seen source.now x.1.now)) result
+        (after_comma (name) (seen source.now tokens.now)) }
+    ensures shorter { IfOk result (λ x.
+        length (seen source.now x.1.now) < length (seen source.now tokens.now)) }
 {
     let (_comma, rest) = expect(source, tokens, Fixed::Comma)?;
     name(alloc, source, rest)
@@ -78,8 +88,11 @@ pub(crate) fn app<'a>(
     source: &[u8],
     tokens: &'a [Lexeme],
 ) -> Result<(App, &'a [Lexeme]), Halt<'a>>
-    ensures reads { (n : ℕ) → length (seen source.now tokens.now) ≤ n → Gives source.now (λ x. (app_of x.0, seen source.now x.1.now)) result (app within n (seen source.now tokens.now)) }
-    ensures shorter { IfOk result (λ x. length (seen source.now x.1.now) < length (seen source.now tokens.now)) }
+    ensures reads { (n : ℕ) → length (seen source.now tokens.now) ≤ n →
+        Gives source.now (λ x. (app_of x.0, seen source.now x.1.now)) result
+        (app within n (seen source.now tokens.now)) }
+    ensures shorter { IfOk result (λ x.
+        length (seen source.now x.1.now) < length (seen source.now tokens.now)) }
 {
     let (callee, rest) = name(alloc, source, tokens)?;
     let (_open, rest) = expect(source, rest, Fixed::OpenRound)?;
@@ -95,8 +108,11 @@ fn args<'a>(
     source: &[u8],
     tokens: &'a [Lexeme],
 ) -> Result<(Vec<Expr>, &'a [Lexeme]), Halt<'a>>
-    ensures reads { (n : ℕ) → length (seen source.now tokens.now) ≤ n → Gives source.now (λ x. (map tree_of x.0.items, seen source.now x.1.now)) result (args within n (seen source.now tokens.now)) }
-    ensures no_longer { IfOk result (λ x. length (seen source.now x.1.now) ≤ length (seen source.now tokens.now)) }
+    ensures reads { (n : ℕ) → length (seen source.now tokens.now) ≤ n →
+        Gives source.now (λ x. (map tree_of x.0.items, seen source.now x.1.now)) result
+        (args within n (seen source.now tokens.now)) }
+    ensures no_longer { IfOk result (λ x.
+        length (seen source.now x.1.now) ≤ length (seen source.now tokens.now)) }
 {
     let mut list = Vec::new(alloc);
     if begins_with(source, tokens, Fixed::CloseRound) {
@@ -115,8 +131,11 @@ fn more_args<'a>(
     given: Vec<Expr>,
     tokens: &'a [Lexeme],
 ) -> Result<(Vec<Expr>, &'a [Lexeme]), Halt<'a>>
-    ensures reads { (n : ℕ) → length (seen source.now tokens.now) ≤ n → Gives source.now (λ x. (map tree_of x.0.items, seen source.now x.1.now)) result (with_front (map tree_of given.items) (more_args within n (seen source.now tokens.now))) }
-    ensures no_longer { IfOk result (λ x. length (seen source.now x.1.now) ≤ length (seen source.now tokens.now)) }
+    ensures reads { (n : ℕ) → length (seen source.now tokens.now) ≤ n →
+        Gives source.now (λ x. (map tree_of x.0.items, seen source.now x.1.now)) result
+        (with_front (map tree_of given.items) (more_args within n (seen source.now tokens.now))) }
+    ensures no_longer { IfOk result (λ x.
+        length (seen source.now x.1.now) ≤ length (seen source.now tokens.now)) }
 {
     let mut list = given;
     let mut rest = tokens;
@@ -134,8 +153,11 @@ fn next_argument<'a>(
     source: &[u8],
     tokens: &'a [Lexeme],
 ) -> Result<(Expr, &'a [Lexeme]), Halt<'a>>
-    ensures reads { (n : ℕ) → length (seen source.now tokens.now) ≤ n → Gives source.now (λ x. (tree_of x.0, seen source.now x.1.now)) result (after_comma (outer n) (seen source.now tokens.now)) }
-    ensures shorter { IfOk result (λ x. length (seen source.now x.1.now) < length (seen source.now tokens.now)) }
+    ensures reads { (n : ℕ) → length (seen source.now tokens.now) ≤ n →
+        Gives source.now (λ x. (tree_of x.0, seen source.now x.1.now)) result
+        (after_comma (outer n) (seen source.now tokens.now)) }
+    ensures shorter { IfOk result (λ x.
+        length (seen source.now x.1.now) < length (seen source.now tokens.now)) }
 {
     let (_comma, rest) = expect(source, tokens, Fixed::Comma)?;
     outer(alloc, source, rest)

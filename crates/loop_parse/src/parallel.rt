@@ -1,9 +1,13 @@
 // The carry list and the reduce list of a parallel loop.
 
-ghost use Rattle.std.specs.Prelude.{◌≡◌, ℕ, ◌+◌, ◌<◌, ◌≤◌, length, IfOk, OnOk, [], ◌∷◌, ◌++◌, map, suc, Some, None};
+ghost use Rattle.std.specs.Prelude.{◌≡◌, ℕ, ◌+◌, ◌<◌, ◌≤◌, length, IfOk, OnOk, [], ◌∷◌, ◌++◌, map};
+ghost use Rattle.std.specs.Prelude.{suc, Some, None};
 ghost use Rattle.loop_syntax.specs.Tree.{spelled, tree_of, row_of, carry_of, reduce_of};
 ghost use Rattle.loop_parse.specs.Terms.{saw, seen};
-ghost use Rattle.loop_parse.specs.Reading.{Gives, after_comma, with_front, begins_with, row, column, carry_rest_of, carry_item, reducer_of, reducer, reduce_item, more_carries, more_reduces, carry_list, reduce_list, within};
+ghost use Rattle.loop_parse.specs.Reading.{Gives, after_comma, with_front, begins_with, row};
+ghost use Rattle.loop_parse.specs.Reading.{column, carry_rest_of, carry_item, reducer_of, reducer};
+ghost use Rattle.loop_parse.specs.Reading.{reduce_item, more_carries, more_reduces, carry_list};
+ghost use Rattle.loop_parse.specs.Reading.{reduce_list, within};
 
 use crate::reader::{Halt, begins_with, expect, name, name_of, next};
 use crate::terminal::{Fixed, Lexeme, Terminal};
@@ -19,8 +23,11 @@ pub(crate) fn carry_list<'a>(
     place: Place,
     tokens: &'a [Lexeme],
 ) -> Result<((Place, Vec<Carry>), &'a [Lexeme]), Halt<'a>>
-    ensures reads { (n : ℕ) → length (seen source.now tokens.now) ≤ n → Gives source.now (λ x. ((x.0.0, map carry_of x.0.1.items), seen source.now x.1.now)) result (carry_list n place (seen source.now tokens.now)) }
-    ensures no_longer { IfOk result (λ x. length (seen source.now x.1.now) ≤ length (seen source.now tokens.now)) }
+    ensures reads { (n : ℕ) → length (seen source.now tokens.now) ≤ n →
+        Gives source.now (λ x. ((x.0.0, map carry_of x.0.1.items), seen source.now x.1.now)) result
+        (carry_list n place (seen source.now tokens.now)) }
+    ensures no_longer { IfOk result (λ x.
+        length (seen source.now x.1.now) ≤ length (seen source.now tokens.now)) }
 {
     let mut list = Vec::new(alloc);
     if !begins_with(source, tokens, Fixed::Carry) {
@@ -41,8 +48,11 @@ fn more_carries<'a>(
     given: Vec<Carry>,
     tokens: &'a [Lexeme],
 ) -> Result<(Vec<Carry>, &'a [Lexeme]), Halt<'a>>
-    ensures reads { (n : ℕ) → length (seen source.now tokens.now) ≤ n → Gives source.now (λ x. (map carry_of x.0.items, seen source.now x.1.now)) result (with_front (map carry_of given.items) (more_carries n (seen source.now tokens.now))) }
-    ensures no_longer { IfOk result (λ x. length (seen source.now x.1.now) ≤ length (seen source.now tokens.now)) }
+    ensures reads { (n : ℕ) → length (seen source.now tokens.now) ≤ n →
+        Gives source.now (λ x. (map carry_of x.0.items, seen source.now x.1.now)) result
+        (with_front (map carry_of given.items) (more_carries n (seen source.now tokens.now))) }
+    ensures no_longer { IfOk result (λ x.
+        length (seen source.now x.1.now) ≤ length (seen source.now tokens.now)) }
 {
     let mut list = given;
     let mut rest = tokens;
@@ -60,8 +70,10 @@ fn next_carry<'a>(
     source: &[u8],
     tokens: &'a [Lexeme],
 ) -> Result<(Carry, &'a [Lexeme]), Halt<'a>>
-    ensures reads { Gives source.now (λ x. (carry_of x.0, seen source.now x.1.now)) result (after_comma (carry_item) (seen source.now tokens.now)) }
-    ensures shorter { IfOk result (λ x. length (seen source.now x.1.now) < length (seen source.now tokens.now)) }
+    ensures reads { Gives source.now (λ x. (carry_of x.0, seen source.now x.1.now)) result
+        (after_comma (carry_item) (seen source.now tokens.now)) }
+    ensures shorter { IfOk result (λ x.
+        length (seen source.now x.1.now) < length (seen source.now tokens.now)) }
 {
     let (_comma, rest) = expect(source, tokens, Fixed::Comma)?;
     carry_item(alloc, source, rest)
@@ -81,8 +93,10 @@ fn carry_item<'a>(
     source: &[u8],
     tokens: &'a [Lexeme],
 ) -> Result<(Carry, &'a [Lexeme]), Halt<'a>>
-    ensures reads { Gives source.now (λ x. (carry_of x.0, seen source.now x.1.now)) result (carry_item (seen source.now tokens.now)) }
-    ensures shorter { IfOk result (λ x. length (seen source.now x.1.now) < length (seen source.now tokens.now)) }
+    ensures reads { Gives source.now (λ x. (carry_of x.0, seen source.now x.1.now)) result
+        (carry_item (seen source.now tokens.now)) }
+    ensures shorter { IfOk result (λ x.
+        length (seen source.now x.1.now) < length (seen source.now tokens.now)) }
 {
     let (table, rest) = name(alloc, source, tokens)?;
     let (_opensquare, rest) = expect(source, rest, Fixed::OpenSquare)?;
@@ -98,8 +112,10 @@ fn row<'a>(
     source: &[u8],
     tokens: &'a [Lexeme],
 ) -> Result<(RowAt, &'a [Lexeme]), Halt<'a>>
-    ensures reads { Gives source.now (λ x. (row_of x.0, seen source.now x.1.now)) result (row (seen source.now tokens.now)) }
-    ensures shorter { IfOk result (λ x. length (seen source.now x.1.now) < length (seen source.now tokens.now)) }
+    ensures reads { Gives source.now (λ x. (row_of x.0, seen source.now x.1.now)) result
+        (row (seen source.now tokens.now)) }
+    ensures shorter { IfOk result (λ x.
+        length (seen source.now x.1.now) < length (seen source.now tokens.now)) }
 {
     let Some((first, after)) = next(source, tokens) else {
         return Err(Halt::Form(tokens));
@@ -119,8 +135,10 @@ fn carry_rest<'a>(
     row: RowAt,
     tokens: &'a [Lexeme],
 ) -> Result<(Carry, &'a [Lexeme]), Halt<'a>>
-    ensures reads { Gives source.now (λ x. (carry_of x.0, seen source.now x.1.now)) result (carry_rest_of (spelled table) (row_of row) (seen source.now tokens.now)) }
-    ensures no_longer { IfOk result (λ x. length (seen source.now x.1.now) ≤ length (seen source.now tokens.now)) }
+    ensures reads { Gives source.now (λ x. (carry_of x.0, seen source.now x.1.now)) result
+        (carry_rest_of (spelled table) (row_of row) (seen source.now tokens.now)) }
+    ensures no_longer { IfOk result (λ x.
+        length (seen source.now x.1.now) ≤ length (seen source.now tokens.now)) }
 {
     match row {
         RowAt::Var(var) => {
@@ -143,8 +161,10 @@ fn column<'a>(
     row: RowAt,
     tokens: &'a [Lexeme],
 ) -> Result<(Carry, &'a [Lexeme]), Halt<'a>>
-    ensures reads { Gives source.now (λ x. (carry_of x.0, seen source.now x.1.now)) result (column (spelled table) (row_of row) (seen source.now tokens.now)) }
-    ensures shorter { IfOk result (λ x. length (seen source.now x.1.now) < length (seen source.now tokens.now)) }
+    ensures reads { Gives source.now (λ x. (carry_of x.0, seen source.now x.1.now)) result
+        (column (spelled table) (row_of row) (seen source.now tokens.now)) }
+    ensures shorter { IfOk result (λ x.
+        length (seen source.now x.1.now) < length (seen source.now tokens.now)) }
 {
     let (_opensquare, rest) = expect(source, tokens, Fixed::OpenSquare)?;
     let (var, rest) = name(alloc, source, rest)?;
@@ -159,8 +179,11 @@ pub(crate) fn reduce_list<'a>(
     source: &[u8],
     tokens: &'a [Lexeme],
 ) -> Result<(Vec<Reduce>, &'a [Lexeme]), Halt<'a>>
-    ensures reads { (n : ℕ) → length (seen source.now tokens.now) ≤ n → Gives source.now (λ x. (map reduce_of x.0.items, seen source.now x.1.now)) result (reduce_list n (seen source.now tokens.now)) }
-    ensures no_longer { IfOk result (λ x. length (seen source.now x.1.now) ≤ length (seen source.now tokens.now)) }
+    ensures reads { (n : ℕ) → length (seen source.now tokens.now) ≤ n →
+        Gives source.now (λ x. (map reduce_of x.0.items, seen source.now x.1.now)) result
+        (reduce_list n (seen source.now tokens.now)) }
+    ensures no_longer { IfOk result (λ x.
+        length (seen source.now x.1.now) ≤ length (seen source.now tokens.now)) }
 {
     let mut list = Vec::new(alloc);
     if !begins_with(source, tokens, Fixed::Reduce) {
@@ -180,8 +203,11 @@ fn more_reduces<'a>(
     given: Vec<Reduce>,
     tokens: &'a [Lexeme],
 ) -> Result<(Vec<Reduce>, &'a [Lexeme]), Halt<'a>>
-    ensures reads { (n : ℕ) → length (seen source.now tokens.now) ≤ n → Gives source.now (λ x. (map reduce_of x.0.items, seen source.now x.1.now)) result (with_front (map reduce_of given.items) (more_reduces n (seen source.now tokens.now))) }
-    ensures no_longer { IfOk result (λ x. length (seen source.now x.1.now) ≤ length (seen source.now tokens.now)) }
+    ensures reads { (n : ℕ) → length (seen source.now tokens.now) ≤ n →
+        Gives source.now (λ x. (map reduce_of x.0.items, seen source.now x.1.now)) result
+        (with_front (map reduce_of given.items) (more_reduces n (seen source.now tokens.now))) }
+    ensures no_longer { IfOk result (λ x.
+        length (seen source.now x.1.now) ≤ length (seen source.now tokens.now)) }
 {
     let mut list = given;
     let mut rest = tokens;
@@ -199,8 +225,10 @@ fn next_reduce<'a>(
     source: &[u8],
     tokens: &'a [Lexeme],
 ) -> Result<(Reduce, &'a [Lexeme]), Halt<'a>>
-    ensures reads { Gives source.now (λ x. (reduce_of x.0, seen source.now x.1.now)) result (after_comma (reduce_item) (seen source.now tokens.now)) }
-    ensures shorter { IfOk result (λ x. length (seen source.now x.1.now) < length (seen source.now tokens.now)) }
+    ensures reads { Gives source.now (λ x. (reduce_of x.0, seen source.now x.1.now)) result
+        (after_comma (reduce_item) (seen source.now tokens.now)) }
+    ensures shorter { IfOk result (λ x.
+        length (seen source.now x.1.now) < length (seen source.now tokens.now)) }
 {
     let (_comma, rest) = expect(source, tokens, Fixed::Comma)?;
     reduce_item(alloc, source, rest)
@@ -220,8 +248,10 @@ fn reduce_item<'a>(
     source: &[u8],
     tokens: &'a [Lexeme],
 ) -> Result<(Reduce, &'a [Lexeme]), Halt<'a>>
-    ensures reads { Gives source.now (λ x. (reduce_of x.0, seen source.now x.1.now)) result (reduce_item (seen source.now tokens.now)) }
-    ensures shorter { IfOk result (λ x. length (seen source.now x.1.now) < length (seen source.now tokens.now)) }
+    ensures reads { Gives source.now (λ x. (reduce_of x.0, seen source.now x.1.now)) result
+        (reduce_item (seen source.now tokens.now)) }
+    ensures shorter { IfOk result (λ x.
+        length (seen source.now x.1.now) < length (seen source.now tokens.now)) }
 {
     let (target, rest) = name(alloc, source, tokens)?;
     let (_by, rest) = expect(source, rest, Fixed::By)?;
@@ -232,8 +262,10 @@ fn reduce_item<'a>(
 /// The name of an operator.
 #[tactic(auto, unfolding(crate::specs::Reading::reducer))]
 fn reducer<'a>(source: &[u8], tokens: &'a [Lexeme]) -> Result<(Op, &'a [Lexeme]), Halt<'a>>
-    ensures reads { Gives source.now (λ x. (x.0, seen source.now x.1.now)) result (reducer (seen source.now tokens.now)) }
-    ensures shorter { IfOk result (λ x. length (seen source.now x.1.now) < length (seen source.now tokens.now)) }
+    ensures reads { Gives source.now (λ x. (x.0, seen source.now x.1.now)) result
+        (reducer (seen source.now tokens.now)) }
+    ensures shorter { IfOk result (λ x.
+        length (seen source.now x.1.now) < length (seen source.now tokens.now)) }
 {
     let Some((first, after)) = next(source, tokens) else {
         return Err(Halt::Form(tokens));

@@ -4,7 +4,8 @@ ghost use Rattle.std.specs.Prelude.{◌≡◌, ◌≤◌, ℕ, length, IfOk, IfE
 ghost use Rattle.loop_lex.specs.Lexical.{AreTokensOf, EachIsTokenOf, place_of, place_after};
 ghost use Rattle.loop_syntax.specs.Tree.{program_of};
 ghost use Rattle.loop_parse.specs.Terms.{seen, tokens_of};
-ghost use Rattle.loop_parse.specs.Text.{Reads, TextFault, FirstTextFault, IsOnlyTree, IsCause, IsOnlyCause, place_at};
+ghost use Rattle.loop_parse.specs.Text.{Reads, TextFault, FirstTextFault, IsOnlyTree, IsCause};
+ghost use Rattle.loop_parse.specs.Text.{IsOnlyCause, place_at};
 ghost use Rattle.loop_parse.specs.Parsing.{Finishes, IsPlaced};
 
 use crate::declaration::program;
@@ -58,7 +59,8 @@ pub fn parse(alloc: Global, source: &[u8], tokens: &[Token]) -> Result<Program, 
     requires lexed { AreTokensOf source.now tokens.now }
     ensures tree { IfOk result (λ p. Reads source.now (program_of p)) }
     ensures no_other { IfOk result (λ p. IsOnlyTree source.now (program_of p)) }
-    ensures no_fault { IfOk result (λ p. (fault : TextFault) → FirstTextFault source.now fault → ⊥) }
+    ensures no_fault { IfOk result (λ p.
+        (fault : TextFault) → FirstTextFault source.now fault → ⊥) }
     ensures cause { IfErr result (IsCause source.now) }
     ensures no_other_cause { IfErr result (IsOnlyCause source.now) }
 {

@@ -1,6 +1,7 @@
 // Reading from the front of a list of tokens.
 
-ghost use Rattle.std.specs.Prelude.{◌≡◌, ℕ, ◌+◌, ◌<◌, ◌≤◌, length, take, drop, slice_range, IfOk, MatchOption, OnOk, [], ◌∷◌, ◌++◌};
+ghost use Rattle.std.specs.Prelude.{◌≡◌, ℕ, ◌+◌, ◌<◌, ◌≤◌, length, take, drop, slice_range, IfOk};
+ghost use Rattle.std.specs.Prelude.{MatchOption, OnOk, [], ◌∷◌, ◌++◌};
 ghost use Rattle.loop_syntax.specs.Tree.{spelled};
 ghost use Rattle.loop_parse.specs.Terms.{saw, seen};
 ghost use Rattle.loop_parse.specs.Reading.{Gives, is_fixed, expect, name, begins_with};
@@ -35,7 +36,8 @@ impl<'a> From<AllocError> for Halt<'a> {
 
 /// The first token and those after it.
 pub(crate) fn next<'a>(source: &[u8], tokens: &'a [Lexeme]) -> Option<(Lexeme, &'a [Lexeme])>
-    ensures { MatchOption result (seen source.now tokens.now ≡ []) (λ x. seen source.now tokens.now ≡ saw source.now x.0 ∷ seen source.now x.1.now) }
+    ensures { MatchOption result (seen source.now tokens.now ≡ [])
+        (λ x. seen source.now tokens.now ≡ saw source.now x.0 ∷ seen source.now x.1.now) }
 {
     let (first, rest) = tokens.split_first()?;
     Some((*first, rest))
@@ -69,8 +71,10 @@ pub(crate) fn expect<'a>(
     tokens: &'a [Lexeme],
     fixed: Fixed,
 ) -> Result<(Place, &'a [Lexeme]), Halt<'a>>
-    ensures reads { Gives source.now (λ x. (x.0, seen source.now x.1.now)) result (expect fixed (seen source.now tokens.now)) }
-    ensures shorter { IfOk result (λ x. length (seen source.now x.1.now) < length (seen source.now tokens.now)) }
+    ensures reads { Gives source.now (λ x. (x.0, seen source.now x.1.now)) result
+        (expect fixed (seen source.now tokens.now)) }
+    ensures shorter { IfOk result (λ x.
+        length (seen source.now x.1.now) < length (seen source.now tokens.now)) }
 {
     let Some((first, rest)) = next(source, tokens) else {
         return Err(Halt::Form(tokens));
@@ -112,7 +116,13 @@ fn text_of(source: &[u8], token: Lexeme) -> &[u8]
 
 /// The name of a token.
 pub(crate) fn name_of(alloc: Global, source: &[u8], token: Lexeme) -> Result<Name, AllocError>
-    ensures { IfOk result (λ x. spelled x ≡ record { text = slice_range source.now token.start token.end; place = token.place }) }
+    ensures { IfOk result (λ x.
+        spelled x
+        ≡
+        record {
+          text = slice_range source.now token.start token.end;
+          place = token.place;
+        }) }
 {
     let text = text_of(source, token);
     Ok(Name {
@@ -128,8 +138,10 @@ pub(crate) fn name<'a>(
     source: &[u8],
     tokens: &'a [Lexeme],
 ) -> Result<(Name, &'a [Lexeme]), Halt<'a>>
-    ensures reads { Gives source.now (λ x. (spelled x.0, seen source.now x.1.now)) result (name (seen source.now tokens.now)) }
-    ensures shorter { IfOk result (λ x. length (seen source.now x.1.now) < length (seen source.now tokens.now)) }
+    ensures reads { Gives source.now (λ x. (spelled x.0, seen source.now x.1.now)) result
+        (name (seen source.now tokens.now)) }
+    ensures shorter { IfOk result (λ x.
+        length (seen source.now x.1.now) < length (seen source.now tokens.now)) }
 {
     let Some((first, rest)) = next(source, tokens) else {
         return Err(Halt::Form(tokens));

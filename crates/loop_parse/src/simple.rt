@@ -1,9 +1,12 @@
 // Statements without blocks.
 
-ghost use Rattle.std.specs.Prelude.{◌≡◌, ℕ, ◌+◌, ◌<◌, ◌≤◌, length, IfOk, OnOk, [], ◌∷◌, ◌++◌, map, suc, Some, None};
+ghost use Rattle.std.specs.Prelude.{◌≡◌, ℕ, ◌+◌, ◌<◌, ◌≤◌, length, IfOk, OnOk, [], ◌∷◌, ◌++◌, map};
+ghost use Rattle.std.specs.Prelude.{suc, Some, None};
 ghost use Rattle.loop_syntax.specs.Tree.{spelled, tree_of, app_of, node_of, NSet, NPut};
 ghost use Rattle.loop_parse.specs.Terms.{saw, seen};
-ghost use Rattle.loop_parse.specs.Reading.{Gives, let_rest, set_rest, put_rest, assign_rest, fold_rest, call_rest, both_rest, print_rest, emit_rest, within};
+ghost use Rattle.loop_parse.specs.Reading.{Gives, let_rest, set_rest, put_rest, assign_rest};
+ghost use Rattle.loop_parse.specs.Reading.{fold_rest, call_rest, both_rest, print_rest, emit_rest};
+ghost use Rattle.loop_parse.specs.Reading.{within};
 
 use crate::expression::outer;
 use crate::lists::app;
@@ -20,8 +23,11 @@ pub(crate) fn let_rest<'a>(
     source: &[u8],
     tokens: &'a [Lexeme],
 ) -> Result<(Stmt, &'a [Lexeme]), Halt<'a>>
-    ensures reads { (n : ℕ) → length (seen source.now tokens.now) ≤ n → Gives source.now (λ x. (node_of x.0, seen source.now x.1.now)) result (let_rest within n (seen source.now tokens.now)) }
-    ensures shorter { IfOk result (λ x. length (seen source.now x.1.now) < length (seen source.now tokens.now)) }
+    ensures reads { (n : ℕ) → length (seen source.now tokens.now) ≤ n →
+        Gives source.now (λ x. (node_of x.0, seen source.now x.1.now)) result
+        (let_rest within n (seen source.now tokens.now)) }
+    ensures shorter { IfOk result (λ x.
+        length (seen source.now x.1.now) < length (seen source.now tokens.now)) }
 {
     let (target, rest) = name(alloc, source, tokens)?;
     let (_assign, rest) = expect(source, rest, Fixed::Assign)?;
@@ -38,8 +44,11 @@ pub(crate) fn assign_rest<'a>(
     target: Name,
     tokens: &'a [Lexeme],
 ) -> Result<(Stmt, &'a [Lexeme]), Halt<'a>>
-    ensures reads { (n : ℕ) → length (seen source.now tokens.now) ≤ n → Gives source.now (λ x. (node_of x.0, seen source.now x.1.now)) result (assign_rest within n (spelled target) (seen source.now tokens.now)) }
-    ensures shorter { IfOk result (λ x. length (seen source.now x.1.now) < length (seen source.now tokens.now)) }
+    ensures reads { (n : ℕ) → length (seen source.now tokens.now) ≤ n →
+        Gives source.now (λ x. (node_of x.0, seen source.now x.1.now)) result
+        (assign_rest within n (spelled target) (seen source.now tokens.now)) }
+    ensures shorter { IfOk result (λ x.
+        length (seen source.now x.1.now) < length (seen source.now tokens.now)) }
 {
     let Some((first, after)) = next(source, tokens) else {
         return Err(Halt::Form(tokens));
@@ -59,8 +68,11 @@ fn set_rest<'a>(
     target: Name,
     tokens: &'a [Lexeme],
 ) -> Result<(Stmt, &'a [Lexeme]), Halt<'a>>
-    ensures reads { (n : ℕ) → length (seen source.now tokens.now) ≤ n → Gives source.now (λ x. (node_of x.0, seen source.now x.1.now)) result (set_rest within n (spelled target) (seen source.now tokens.now)) }
-    ensures shorter { IfOk result (λ x. length (seen source.now x.1.now) < length (seen source.now tokens.now)) }
+    ensures reads { (n : ℕ) → length (seen source.now tokens.now) ≤ n →
+        Gives source.now (λ x. (node_of x.0, seen source.now x.1.now)) result
+        (set_rest within n (spelled target) (seen source.now tokens.now)) }
+    ensures shorter { IfOk result (λ x.
+        length (seen source.now x.1.now) < length (seen source.now tokens.now)) }
 {
     let (value, rest) = outer(alloc, source, tokens)?;
     let (_semi, rest) = expect(source, rest, Fixed::Semi)?;
@@ -75,8 +87,11 @@ fn put_rest<'a>(
     table: Name,
     tokens: &'a [Lexeme],
 ) -> Result<(Stmt, &'a [Lexeme]), Halt<'a>>
-    ensures reads { (n : ℕ) → length (seen source.now tokens.now) ≤ n → Gives source.now (λ x. (node_of x.0, seen source.now x.1.now)) result (put_rest within n (spelled table) (seen source.now tokens.now)) }
-    ensures shorter { IfOk result (λ x. length (seen source.now x.1.now) < length (seen source.now tokens.now)) }
+    ensures reads { (n : ℕ) → length (seen source.now tokens.now) ≤ n →
+        Gives source.now (λ x. (node_of x.0, seen source.now x.1.now)) result
+        (put_rest within n (spelled table) (seen source.now tokens.now)) }
+    ensures shorter { IfOk result (λ x.
+        length (seen source.now x.1.now) < length (seen source.now tokens.now)) }
 {
     let (row, rest) = outer(alloc, source, tokens)?;
     let (_closesquare, rest) = expect(source, rest, Fixed::CloseSquare)?;
@@ -96,8 +111,11 @@ pub(crate) fn fold_rest<'a>(
     source: &[u8],
     tokens: &'a [Lexeme],
 ) -> Result<(Stmt, &'a [Lexeme]), Halt<'a>>
-    ensures reads { (n : ℕ) → length (seen source.now tokens.now) ≤ n → Gives source.now (λ x. (node_of x.0, seen source.now x.1.now)) result (fold_rest within n (seen source.now tokens.now)) }
-    ensures shorter { IfOk result (λ x. length (seen source.now x.1.now) < length (seen source.now tokens.now)) }
+    ensures reads { (n : ℕ) → length (seen source.now tokens.now) ≤ n →
+        Gives source.now (λ x. (node_of x.0, seen source.now x.1.now)) result
+        (fold_rest within n (seen source.now tokens.now)) }
+    ensures shorter { IfOk result (λ x.
+        length (seen source.now x.1.now) < length (seen source.now tokens.now)) }
 {
     let (target, rest) = name(alloc, source, tokens)?;
     let (_with, rest) = expect(source, rest, Fixed::With)?;
@@ -113,8 +131,11 @@ pub(crate) fn call_rest<'a>(
     source: &[u8],
     tokens: &'a [Lexeme],
 ) -> Result<(Stmt, &'a [Lexeme]), Halt<'a>>
-    ensures reads { (n : ℕ) → length (seen source.now tokens.now) ≤ n → Gives source.now (λ x. (node_of x.0, seen source.now x.1.now)) result (call_rest within n (seen source.now tokens.now)) }
-    ensures shorter { IfOk result (λ x. length (seen source.now x.1.now) < length (seen source.now tokens.now)) }
+    ensures reads { (n : ℕ) → length (seen source.now tokens.now) ≤ n →
+        Gives source.now (λ x. (node_of x.0, seen source.now x.1.now)) result
+        (call_rest within n (seen source.now tokens.now)) }
+    ensures shorter { IfOk result (λ x.
+        length (seen source.now x.1.now) < length (seen source.now tokens.now)) }
 {
     let (target, rest) = name(alloc, source, tokens)?;
     let (_assign, rest) = expect(source, rest, Fixed::Assign)?;
@@ -130,8 +151,11 @@ pub(crate) fn both_rest<'a>(
     source: &[u8],
     tokens: &'a [Lexeme],
 ) -> Result<(Stmt, &'a [Lexeme]), Halt<'a>>
-    ensures reads { (n : ℕ) → length (seen source.now tokens.now) ≤ n → Gives source.now (λ x. (node_of x.0, seen source.now x.1.now)) result (both_rest within n (seen source.now tokens.now)) }
-    ensures shorter { IfOk result (λ x. length (seen source.now x.1.now) < length (seen source.now tokens.now)) }
+    ensures reads { (n : ℕ) → length (seen source.now tokens.now) ≤ n →
+        Gives source.now (λ x. (node_of x.0, seen source.now x.1.now)) result
+        (both_rest within n (seen source.now tokens.now)) }
+    ensures shorter { IfOk result (λ x.
+        length (seen source.now x.1.now) < length (seen source.now tokens.now)) }
 {
     let (first, rest) = name(alloc, source, tokens)?;
     let (_assign, rest) = expect(source, rest, Fixed::Assign)?;
@@ -152,8 +176,11 @@ pub(crate) fn print_rest<'a>(
     place: Place,
     tokens: &'a [Lexeme],
 ) -> Result<(Stmt, &'a [Lexeme]), Halt<'a>>
-    ensures reads { (n : ℕ) → length (seen source.now tokens.now) ≤ n → Gives source.now (λ x. (node_of x.0, seen source.now x.1.now)) result (print_rest within n place (seen source.now tokens.now)) }
-    ensures shorter { IfOk result (λ x. length (seen source.now x.1.now) < length (seen source.now tokens.now)) }
+    ensures reads { (n : ℕ) → length (seen source.now tokens.now) ≤ n →
+        Gives source.now (λ x. (node_of x.0, seen source.now x.1.now)) result
+        (print_rest within n place (seen source.now tokens.now)) }
+    ensures shorter { IfOk result (λ x.
+        length (seen source.now x.1.now) < length (seen source.now tokens.now)) }
 {
     let (value, rest) = outer(alloc, source, tokens)?;
     let (_semi, rest) = expect(source, rest, Fixed::Semi)?;
@@ -168,8 +195,10 @@ pub(crate) fn emit_rest<'a>(
     place: Place,
     tokens: &'a [Lexeme],
 ) -> Result<(Stmt, &'a [Lexeme]), Halt<'a>>
-    ensures reads { Gives source.now (λ x. (node_of x.0, seen source.now x.1.now)) result (emit_rest place (seen source.now tokens.now)) }
-    ensures shorter { IfOk result (λ x. length (seen source.now x.1.now) < length (seen source.now tokens.now)) }
+    ensures reads { Gives source.now (λ x. (node_of x.0, seen source.now x.1.now)) result
+        (emit_rest place (seen source.now tokens.now)) }
+    ensures shorter { IfOk result (λ x.
+        length (seen source.now x.1.now) < length (seen source.now tokens.now)) }
 {
     let (table, rest) = name(alloc, source, tokens)?;
     let (_semi, rest) = expect(source, rest, Fixed::Semi)?;

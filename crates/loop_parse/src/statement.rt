@@ -1,9 +1,13 @@
 // Statements and blocks. A level is the number of blocks round a form.
 
-ghost use Rattle.std.specs.Prelude.{◌≡◌, ℕ, ◌+◌, ◌<◌, ◌≤◌, length, IfOk, OnOk, [], ◌∷◌, ◌++◌, map, suc, Some, None};
-ghost use Rattle.loop_syntax.specs.Tree.{spelled, tree_of, node_of, nodes_of, NPar, NIf, NWhile, NLoop};
+ghost use Rattle.std.specs.Prelude.{◌≡◌, ℕ, ◌+◌, ◌<◌, ◌≤◌, length, IfOk, OnOk, [], ◌∷◌, ◌++◌, map};
+ghost use Rattle.std.specs.Prelude.{suc, Some, None};
+ghost use Rattle.loop_syntax.specs.Tree.{spelled, tree_of, node_of, nodes_of, NPar, NIf, NWhile};
+ghost use Rattle.loop_syntax.specs.Tree.{NLoop};
 ghost use Rattle.loop_parse.specs.Terms.{saw, seen};
-ghost use Rattle.loop_parse.specs.Reading.{Gives, starts, begins_stmt, open_brace, stmt, if_rest, while_rest, loop_rest, par_rest, par_tail, block, else_block, inner_stmts, stmts, within};
+ghost use Rattle.loop_parse.specs.Reading.{Gives, starts, begins_stmt, open_brace, stmt, if_rest};
+ghost use Rattle.loop_parse.specs.Reading.{while_rest, loop_rest, par_rest, par_tail, block};
+ghost use Rattle.loop_parse.specs.Reading.{else_block, inner_stmts, stmts, within};
 
 use crate::expression::outer;
 use crate::parallel::{carry_list, reduce_list};
@@ -26,8 +30,11 @@ pub(crate) fn block<'a>(
     tokens: &'a [Lexeme],
 ) -> Result<(Vec<Stmt>, &'a [Lexeme]), Halt<'a>>
     requires { level ≤ 32 }
-    ensures reads { (n : ℕ) → length (seen source.now tokens.now) ≤ n → Gives source.now (λ x. (nodes_of x.0.items, seen source.now x.1.now)) result (block within n level (seen source.now tokens.now)) }
-    ensures shorter { IfOk result (λ x. length (seen source.now x.1.now) < length (seen source.now tokens.now)) }
+    ensures reads { (n : ℕ) → length (seen source.now tokens.now) ≤ n →
+        Gives source.now (λ x. (nodes_of x.0.items, seen source.now x.1.now)) result
+        (block within n level (seen source.now tokens.now)) }
+    ensures shorter { IfOk result (λ x.
+        length (seen source.now x.1.now) < length (seen source.now tokens.now)) }
 {
     let (_open, rest) = open_brace(source, level, tokens)?;
     let (inside, rest) = inner_statements(alloc, source, level + 1, rest)?;
@@ -42,8 +49,10 @@ pub(crate) fn open_brace<'a>(
     level: u32,
     tokens: &'a [Lexeme],
 ) -> Result<(Place, &'a [Lexeme]), Halt<'a>>
-    ensures reads { Gives source.now (λ x. (x.0, seen source.now x.1.now)) result (open_brace within level (seen source.now tokens.now)) }
-    ensures shorter { IfOk result (λ x. length (seen source.now x.1.now) < length (seen source.now tokens.now)) }
+    ensures reads { Gives source.now (λ x. (x.0, seen source.now x.1.now)) result
+        (open_brace within level (seen source.now tokens.now)) }
+    ensures shorter { IfOk result (λ x.
+        length (seen source.now x.1.now) < length (seen source.now tokens.now)) }
     ensures room { OnOk result (level < 32) }
 {
     let (open, rest) = expect(source, tokens, Fixed::OpenBrace)?;
@@ -62,8 +71,11 @@ fn inner_statements<'a>(
     tokens: &'a [Lexeme],
 ) -> Result<(Vec<Stmt>, &'a [Lexeme]), Halt<'a>>
     requires { level ≤ 32 }
-    ensures reads { (n : ℕ) → length (seen source.now tokens.now) < n → Gives source.now (λ x. (map node_of x.0.items, seen source.now x.1.now)) result (inner_stmts within n level (seen source.now tokens.now)) }
-    ensures no_longer { IfOk result (λ x. length (seen source.now x.1.now) ≤ length (seen source.now tokens.now)) }
+    ensures reads { (n : ℕ) → length (seen source.now tokens.now) < n →
+        Gives source.now (λ x. (map node_of x.0.items, seen source.now x.1.now)) result
+        (inner_stmts within n level (seen source.now tokens.now)) }
+    ensures no_longer { IfOk result (λ x.
+        length (seen source.now x.1.now) ≤ length (seen source.now tokens.now)) }
 {
     statements(alloc, source, level, tokens)
 }
@@ -78,8 +90,11 @@ pub(crate) fn statements<'a>(
     tokens: &'a [Lexeme],
 ) -> Result<(Vec<Stmt>, &'a [Lexeme]), Halt<'a>>
     requires { level ≤ 32 }
-    ensures reads { (n : ℕ) → length (seen source.now tokens.now) ≤ n → Gives source.now (λ x. (map node_of x.0.items, seen source.now x.1.now)) result (stmts within n level (seen source.now tokens.now)) }
-    ensures no_longer { IfOk result (λ x. length (seen source.now x.1.now) ≤ length (seen source.now tokens.now)) }
+    ensures reads { (n : ℕ) → length (seen source.now tokens.now) ≤ n →
+        Gives source.now (λ x. (map node_of x.0.items, seen source.now x.1.now)) result
+        (stmts within n level (seen source.now tokens.now)) }
+    ensures no_longer { IfOk result (λ x.
+        length (seen source.now x.1.now) ≤ length (seen source.now tokens.now)) }
 {
     let mut list = Vec::new(alloc);
     let mut rest = tokens;
@@ -139,8 +154,11 @@ fn statement<'a>(
     tokens: &'a [Lexeme],
 ) -> Result<(Stmt, &'a [Lexeme]), Halt<'a>>
     requires { level ≤ 32 }
-    ensures reads { (n : ℕ) → length (seen source.now tokens.now) ≤ n → Gives source.now (λ x. (node_of x.0, seen source.now x.1.now)) result (stmt within n level (seen source.now tokens.now)) }
-    ensures shorter { IfOk result (λ x. length (seen source.now x.1.now) < length (seen source.now tokens.now)) }
+    ensures reads { (n : ℕ) → length (seen source.now tokens.now) ≤ n →
+        Gives source.now (λ x. (node_of x.0, seen source.now x.1.now)) result
+        (stmt within n level (seen source.now tokens.now)) }
+    ensures shorter { IfOk result (λ x.
+        length (seen source.now x.1.now) < length (seen source.now tokens.now)) }
 {
     let Some((first, after)) = next(source, tokens) else {
         return Err(Halt::Form(tokens));
@@ -171,8 +189,11 @@ fn if_rest<'a>(
     tokens: &'a [Lexeme],
 ) -> Result<(Stmt, &'a [Lexeme]), Halt<'a>>
     requires { level ≤ 32 }
-    ensures reads { (n : ℕ) → length (seen source.now tokens.now) ≤ n → Gives source.now (λ x. (node_of x.0, seen source.now x.1.now)) result (if_rest within n level (seen source.now tokens.now)) }
-    ensures shorter { IfOk result (λ x. length (seen source.now x.1.now) < length (seen source.now tokens.now)) }
+    ensures reads { (n : ℕ) → length (seen source.now tokens.now) ≤ n →
+        Gives source.now (λ x. (node_of x.0, seen source.now x.1.now)) result
+        (if_rest within n level (seen source.now tokens.now)) }
+    ensures shorter { IfOk result (λ x.
+        length (seen source.now x.1.now) < length (seen source.now tokens.now)) }
 {
     let (test, rest) = outer(alloc, source, tokens)?;
     let (taken, rest) = block(alloc, source, level, rest)?;
@@ -190,8 +211,11 @@ fn else_block<'a>(
     tokens: &'a [Lexeme],
 ) -> Result<(Vec<Stmt>, &'a [Lexeme]), Halt<'a>>
     requires { level ≤ 32 }
-    ensures reads { (n : ℕ) → length (seen source.now tokens.now) ≤ n → Gives source.now (λ x. (nodes_of x.0.items, seen source.now x.1.now)) result (else_block within n level (seen source.now tokens.now)) }
-    ensures no_longer { IfOk result (λ x. length (seen source.now x.1.now) ≤ length (seen source.now tokens.now)) }
+    ensures reads { (n : ℕ) → length (seen source.now tokens.now) ≤ n →
+        Gives source.now (λ x. (nodes_of x.0.items, seen source.now x.1.now)) result
+        (else_block within n level (seen source.now tokens.now)) }
+    ensures no_longer { IfOk result (λ x.
+        length (seen source.now x.1.now) ≤ length (seen source.now tokens.now)) }
 {
     if !begins_with(source, tokens, Fixed::Else) {
         return Ok((Vec::new(alloc), tokens));
@@ -210,8 +234,11 @@ fn while_rest<'a>(
     tokens: &'a [Lexeme],
 ) -> Result<(Stmt, &'a [Lexeme]), Halt<'a>>
     requires { level ≤ 32 }
-    ensures reads { (n : ℕ) → length (seen source.now tokens.now) ≤ n → Gives source.now (λ x. (node_of x.0, seen source.now x.1.now)) result (while_rest within n level (seen source.now tokens.now)) }
-    ensures shorter { IfOk result (λ x. length (seen source.now x.1.now) < length (seen source.now tokens.now)) }
+    ensures reads { (n : ℕ) → length (seen source.now tokens.now) ≤ n →
+        Gives source.now (λ x. (node_of x.0, seen source.now x.1.now)) result
+        (while_rest within n level (seen source.now tokens.now)) }
+    ensures shorter { IfOk result (λ x.
+        length (seen source.now x.1.now) < length (seen source.now tokens.now)) }
 {
     let (test, rest) = outer(alloc, source, tokens)?;
     let (inside, rest) = block(alloc, source, level, rest)?;
@@ -228,8 +255,11 @@ fn loop_rest<'a>(
     tokens: &'a [Lexeme],
 ) -> Result<(Stmt, &'a [Lexeme]), Halt<'a>>
     requires { level ≤ 32 }
-    ensures reads { (n : ℕ) → length (seen source.now tokens.now) ≤ n → Gives source.now (λ x. (node_of x.0, seen source.now x.1.now)) result (loop_rest within n level (seen source.now tokens.now)) }
-    ensures shorter { IfOk result (λ x. length (seen source.now x.1.now) < length (seen source.now tokens.now)) }
+    ensures reads { (n : ℕ) → length (seen source.now tokens.now) ≤ n →
+        Gives source.now (λ x. (node_of x.0, seen source.now x.1.now)) result
+        (loop_rest within n level (seen source.now tokens.now)) }
+    ensures shorter { IfOk result (λ x.
+        length (seen source.now x.1.now) < length (seen source.now tokens.now)) }
 {
     let (var, rest) = name(alloc, source, tokens)?;
     let (_in, rest) = expect(source, rest, Fixed::In)?;
@@ -251,8 +281,11 @@ fn par_rest<'a>(
     tokens: &'a [Lexeme],
 ) -> Result<(Stmt, &'a [Lexeme]), Halt<'a>>
     requires { level ≤ 32 }
-    ensures reads { (n : ℕ) → length (seen source.now tokens.now) ≤ n → Gives source.now (λ x. (node_of x.0, seen source.now x.1.now)) result (par_rest within n level place (seen source.now tokens.now)) }
-    ensures shorter { IfOk result (λ x. length (seen source.now x.1.now) < length (seen source.now tokens.now)) }
+    ensures reads { (n : ℕ) → length (seen source.now tokens.now) ≤ n →
+        Gives source.now (λ x. (node_of x.0, seen source.now x.1.now)) result
+        (par_rest within n level place (seen source.now tokens.now)) }
+    ensures shorter { IfOk result (λ x.
+        length (seen source.now x.1.now) < length (seen source.now tokens.now)) }
 {
     let (var, rest) = name(alloc, source, tokens)?;
     let (_in, rest) = expect(source, rest, Fixed::In)?;
@@ -276,8 +309,12 @@ fn par_tail<'a>(
     tokens: &'a [Lexeme],
 ) -> Result<(Stmt, &'a [Lexeme]), Halt<'a>>
     requires { level ≤ 32 }
-    ensures reads { (n : ℕ) → length (seen source.now tokens.now) ≤ n → Gives source.now (λ x. (node_of x.0, seen source.now x.1.now)) result (par_tail within n level place (spelled var) (tree_of from) (tree_of to) (seen source.now tokens.now)) }
-    ensures shorter { IfOk result (λ x. length (seen source.now x.1.now) < length (seen source.now tokens.now)) }
+    ensures reads { (n : ℕ) → length (seen source.now tokens.now) ≤ n →
+        Gives source.now (λ x. (node_of x.0, seen source.now x.1.now)) result
+        (par_tail within n level place (spelled var) (tree_of from) (tree_of to)
+        (seen source.now tokens.now)) }
+    ensures shorter { IfOk result (λ x.
+        length (seen source.now x.1.now) < length (seen source.now tokens.now)) }
 {
     let ((carry_place, carries), rest) = carry_list(alloc, source, place, tokens)?;
     let (reduces, rest) = reduce_list(alloc, source, rest)?;

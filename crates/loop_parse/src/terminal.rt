@@ -1,7 +1,9 @@
 // Terminals: what the grammar makes of a token.
 
 ghost use Rattle.std.specs.Prelude.{◌≡◌, slice_range, length, ◌≤◌, ◌<◌};
-ghost use Rattle.loop_parse.specs.Spelling.{reserved, two_letters, three_letters, four_letters, five_letters, six_letters, sign_of, single_sign, terminal_of, spells};
+ghost use Rattle.loop_parse.specs.Spelling.{reserved, two_letters, three_letters, four_letters};
+ghost use Rattle.loop_parse.specs.Spelling.{five_letters, six_letters, sign_of, single_sign};
+ghost use Rattle.loop_parse.specs.Spelling.{terminal_of, spells};
 ghost use Rattle.loop_lex.specs.Lexical.{text_of};
 
 use loop_lex::{Token, TokenKind};

@@ -1,5 +1,6 @@
 -- The rules on tables inside `par` loops: C4 on writes, C5 on reads, C6 on carry lists.
-use Rattle.std.specs.Prelude.{ℕ, ℤ, Bool, true, false, ◌&&◌, ◌||◌, not, List, [], ◌∷◌, ◌++◌, Option, Some, None, bytes_eq}
+use Rattle.std.specs.Prelude.{ℕ, ℤ, Bool, true, false, ◌&&◌, ◌||◌, not, List, [], ◌∷◌, ◌++◌, Option}
+use Rattle.std.specs.Prelude.{Some, None, bytes_eq}
 use Rattle.std.specs.Ordering.{int_eq}
 use Rattle.tp_value.specs.declared.Place.{Place}
 use Rattle.loop_syntax.specs.declared.Expr.{Expr}
@@ -97,15 +98,17 @@ outside_nearest [] c = false
 outside_nearest (r ∷ rs) c = not (is_within r c)
 
 abbrev pub bad_item : List Loop → Loop → Carry → Bool
-bad_item rounds r c = not (bytes_eq (last_index c) r.var) || row_reduced r c || outside_nearest rounds c
+bad_item rounds r c =
+    not (bytes_eq (last_index c) r.var) || row_reduced r c || outside_nearest rounds c
 
 abbrev pub bad_items : List (List ℕ) → List Carry → Loop → List Loop → List Place
 bad_items before [] r rounds = []
 bad_items before (c ∷ cs) r rounds =
-    at (table_name c) (bad_item rounds r c || is_in before (table_name c).text.items) ++ bad_items ((table_name c).text.items ∷ before) cs r rounds
+    at (table_name c) (bad_item rounds r c || is_in before (table_name c).text.items)
+    ++ bad_items ((table_name c).text.items ∷ before) cs r rounds
 
--- an item whose last index isn't the loop's variable, whose row the loop reduces, or that isn't `t[i][j]`
--- inside a `par` that carries `t[i]`; a table twice in one list
+-- an item whose last index isn't the loop's variable, whose row the loop reduces, or that isn't
+-- `t[i][j]` inside a `par` that carries `t[i]`; a table twice in one list
 abbrev pub c6 : Act → Spot → List Place
 c6 (Parallel p q r) w = bad_items [] r.carries r w.rounds
 c6 _ w = []

@@ -1,12 +1,17 @@
 -- The rule on limits, C11.
-use Rattle.std.specs.Prelude.{ℕ, suc, cond, List, [], ◌∷◌, ◌++◌, length, drop, map, max, nat_lt, nat_le, nat_eq}
+use Rattle.std.specs.Prelude.{ℕ, suc, cond, List, [], ◌∷◌, ◌++◌, length, drop, map, max, nat_lt}
+use Rattle.std.specs.Prelude.{nat_le, nat_eq}
 use Rattle.tp_value.specs.declared.Place.{Place}
-use Rattle.tp_value.specs.declared.limits.TheConstants.{MAX_TABLES, MAX_FUNCTIONS, MAX_PARAMETERS, MAX_DECLARED_VARIABLES, MAX_EXPRESSION_HEIGHT, MAX_PAR_NESTING, MAX_REDUCTIONS, MAX_CARRIES}
+use Rattle.tp_value.specs.declared.limits.TheConstants.{MAX_TABLES, MAX_FUNCTIONS, MAX_PARAMETERS}
+use Rattle.tp_value.specs.declared.limits.TheConstants.{MAX_DECLARED_VARIABLES}
+use Rattle.tp_value.specs.declared.limits.TheConstants.{MAX_EXPRESSION_HEIGHT, MAX_PAR_NESTING}
+use Rattle.tp_value.specs.declared.limits.TheConstants.{MAX_REDUCTIONS, MAX_CARRIES}
 use Rattle.loop_syntax.specs.declared.Name.{Name}
 use Rattle.loop_syntax.specs.declared.Expr.{Expr}
 use Rattle.loop_syntax.specs.declared.Expr.TheVariants.{Int, Var, Cell', Rows, Cols, Neg', Bin'}
 use Rattle.loop_rules.specs.Names.{table_name}
-use Rattle.loop_rules.specs.Sites.{Act, DeclaresTable, DeclaresFunc, DeclaresAll, Evaluates, Parallel, Spot}
+use Rattle.loop_rules.specs.Sites.{Act, DeclaresTable, DeclaresFunc, DeclaresAll, Evaluates}
+use Rattle.loop_rules.specs.Sites.{Parallel, Spot}
 use Rattle.loop_rules.specs.Scopes.{at, is_before}
 
 -- how many nodes stand above one another in an expression
@@ -41,13 +46,16 @@ first_name (x ∷ xs) = x.place ∷ []
 abbrev pub past : ℕ → List Name → List Place
 past n xs = first_name (drop n xs)
 
--- the first table, function, parameter, variable, reduction or carry past its limit; an expression that is too high; a `par` too deep
+-- the first table, function, parameter, variable, reduction or carry past its limit; an expression
+-- that is too high; a `par` too deep
 abbrev pub c11 : Act → Spot → List Place
 c11 (DeclaresTable t) w = at t (nat_eq (length w.tables) MAX_TABLES)
-c11 (DeclaresFunc f) w = at f.name (nat_eq (length w.funcs) MAX_FUNCTIONS) ++ past MAX_PARAMETERS f.params.items
+c11 (DeclaresFunc f) w =
+    at f.name (nat_eq (length w.funcs) MAX_FUNCTIONS) ++ past MAX_PARAMETERS f.params.items
 c11 (DeclaresAll xs) w = past MAX_DECLARED_VARIABLES xs
 c11 (Evaluates e) w = cond (nat_lt MAX_EXPRESSION_HEIGHT (height e)) (first_place e ∷ []) []
 c11 (Parallel p q r) w =
     cond (nat_le MAX_PAR_NESTING w.depth) (p ∷ []) []
-    ++ (past MAX_REDUCTIONS (map (λ d. d.target) r.reduces) ++ past MAX_CARRIES (map table_name r.carries))
+    ++ (past MAX_REDUCTIONS (map (λ d. d.target) r.reduces)
+    ++ past MAX_CARRIES (map table_name r.carries))
 c11 _ w = []

@@ -1,5 +1,6 @@
 -- Which declaration a name stands for, and what a loop does with it.
-use Rattle.std.specs.Prelude.{ℕ, Bool, false, cond, ◌||◌, List, [], ◌∷◌, Option, Some, None, bytes_eq, map}
+use Rattle.std.specs.Prelude.{ℕ, Bool, false, cond, ◌||◌, List, [], ◌∷◌, Option, Some, None}
+use Rattle.std.specs.Prelude.{bytes_eq, map}
 use Rattle.tp_value.specs.declared.Op.{Op}
 use Rattle.loop_syntax.specs.declared.Name.{Name}
 use Rattle.loop_syntax.specs.declared.Carry.{Carry}

@@ -12,8 +12,14 @@ use Rattle.loop_rules.specs.Carries.{carries}
 
 -- a function reads a cell of a table, itself or through calls
 pub data ReadsTable (p : Program) : List ℕ → List ℕ → Type 0 where
-  itself : (f : List ℕ) (g : Func) (w : Spot) (t : Name) (a b : Expr) → func_of p.funcs.items f ≡ Some g → Contains (in_func p g) (record { act = ReadsCell t a b; spot = w }) → ReadsTable p f t.text.items
-  through : (f : List ℕ) (g : Func) (w : Spot) (h : Name) (n : ℕ) (t : List ℕ) → func_of p.funcs.items f ≡ Some g → Contains (in_func p g) (record { act = Calls h n; spot = w }) → ReadsTable p h.text.items t → ReadsTable p f t
+  itself : (f : List ℕ) (g : Func) (w : Spot) (t : Name) (a b : Expr) →
+      func_of p.funcs.items f ≡ Some g →
+      Contains (in_func p g) (record { act = ReadsCell t a b; spot = w }) →
+      ReadsTable p f t.text.items
+  through : (f : List ℕ) (g : Func) (w : Spot) (h : Name) (n : ℕ) (t : List ℕ) →
+      func_of p.funcs.items f ≡ Some g →
+      Contains (in_func p g) (record { act = Calls h n; spot = w }) → ReadsTable p h.text.items t →
+      ReadsTable p f t
 
 -- a call inside a `par` to a function that reads a table which a `par` round the call carries
 pub record C8 (p : Program) (s : Site) (place : Place) : Type 0 where

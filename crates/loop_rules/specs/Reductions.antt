@@ -1,5 +1,7 @@
--- The rules on variables round a `par`: C2 on those that its body may not set, C3 on those that it reduces.
-use Rattle.std.specs.Prelude.{ℕ, Bool, true, false, ◌||◌, ◌&&◌, not, List, [], ◌∷◌, ◌++◌, Option, Some, None}
+-- The rules on variables round a `par`: C2 on those that its body may not set, C3 on those that it
+-- reduces.
+use Rattle.std.specs.Prelude.{ℕ, Bool, true, false, ◌||◌, ◌&&◌, not, List, [], ◌∷◌, ◌++◌, Option}
+use Rattle.std.specs.Prelude.{Some, None}
 use Rattle.tp_value.specs.declared.Place.{Place}
 use Rattle.tp_value.specs.declared.Op.{Op}
 use Rattle.tp_value.specs.declared.Op.TheVariants.{Add, Mul, Min, Max, Affine}
@@ -43,20 +45,26 @@ nearest_reduces (r ∷ rs) x = reduced x r
 
 -- whether a `par` round reduces the variable with another operator
 abbrev pub other_operator : Reduce → Loop → Bool
-other_operator q r = reduced q.target.text.items r && not (is_op q.op (operator_of r.reduces q.target.text.items))
+other_operator q r =
+    reduced q.target.text.items r && not (is_op q.op (operator_of r.reduces q.target.text.items))
 
--- whether the variable is declared outside the body of a `par` round that doesn't reduce it with that operator
+-- whether the variable is declared outside the body of a `par` round that doesn't reduce it with
+-- that operator
 abbrev pub reduced_otherwise : Reduce → Loop → Bool
-reduced_otherwise q r = is_in r.outside q.target.text.items && not (is_op q.op (operator_of r.reduces q.target.text.items))
+reduced_otherwise q r =
+    is_in r.outside q.target.text.items
+    && not (is_op q.op (operator_of r.reduces q.target.text.items))
 
 abbrev pub bad_targets : List (List ℕ) → List Reduce → List Loop → List Place
 bad_targets before [] rounds = []
 bad_targets before (q ∷ qs) rounds =
-    at q.target (any_loop (other_operator q) rounds || any_loop (reduced_otherwise q) rounds || is_in before q.target.text.items)
+    at q.target (any_loop (other_operator q) rounds || any_loop (reduced_otherwise q) rounds
+    || is_in before q.target.text.items)
     ++ bad_targets (q.target.text.items ∷ before) qs rounds
 
--- a reduced variable inside the body other than in `fold` or in a `reduce` list with its operator; a `fold`
--- whose nearest `par` doesn't reduce its target, or that has none; a `reduce` list that doesn't agree with those round or names a variable twice
+-- a reduced variable inside the body other than in `fold` or in a `reduce` list with its operator;
+-- a `fold` whose nearest `par` doesn't reduce its target, or that has none; a `reduce` list that
+-- doesn't agree with those round or names a variable twice
 abbrev pub c3 : Act → Spot → List Place
 c3 (Uses x) w = at x (any_loop (reduced x.text.items) w.rounds)
 c3 (Assigns x) w = at x (any_loop (reduced x.text.items) w.rounds)

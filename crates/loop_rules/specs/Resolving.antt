@@ -1,4 +1,5 @@
--- What `resolve` answers: the first broken rule on names, limits, output and variables of loops, or that none is broken.
+-- What `resolve` answers: the first broken rule on names, limits, output and variables of loops, or
+-- that none is broken.
 use Rattle.std.specs.Prelude.{◌≡◌, ◌≤◌, ◌⊎◌, ℕ, IsTrue}
 use Rattle.tp_value.specs.declared.Place.{Place}
 use Rattle.loop_syntax.specs.declared.Program.{Program}
@@ -8,7 +9,8 @@ use Rattle.loop_rules.specs.Scopes.{is_before}
 use Rattle.loop_rules.specs.Unbroken.{IsOfResolve}
 use Rattle.loop_rules.specs.Broken.{Rule, number_of, Broken}
 
--- a rule that is broken at a place comes before another one, or is the same: by place, and at one place by its number
+-- a rule that is broken at a place comes before another one, or is the same: by place, and at one
+-- place by its number
 abbrev pub IsNoLater : Rule → Place → Rule → Place → Type 0
 IsNoLater r p q place = IsTrue (is_before p place) ⊎ ((p ≡ place) × (number_of r ≤ number_of q))
 
@@ -18,7 +20,8 @@ pub record IsFirstBroken (program : Program) (number : ℕ) (place : Place) : Ty
   pub of_resolve : IsOfResolve rule
   pub numbered : number ≡ number_of rule
   pub broken : Broken program rule place
-  pub first : (other : Rule) (elsewhere : Place) → IsOfResolve other → Broken program other elsewhere → IsNoLater rule place other elsewhere
+  pub first : (other : Rule) (elsewhere : Place) → IsOfResolve other →
+      Broken program other elsewhere → IsNoLater rule place other elsewhere
 
 -- why a program is not resolved
 abbrev pub IsCause : Program → RuleFault → Type 0

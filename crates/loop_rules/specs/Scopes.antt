@@ -1,11 +1,14 @@
--- The rules on names: C1, what they stand for and that calls fit, and C10, that nothing sets a loop's variable.
-use Rattle.std.specs.Prelude.{ℕ, Bool, true, false, cond, ◌||◌, ◌&&◌, not, List, [], ◌∷◌, ◌++◌, length, nat_lt, nat_eq, bytes_eq, Option, Some, None}
+-- The rules on names: C1, what they stand for and that calls fit, and C10, that nothing sets a
+-- loop's variable.
+use Rattle.std.specs.Prelude.{ℕ, Bool, true, false, cond, ◌||◌, ◌&&◌, not, List, [], ◌∷◌, ◌++◌}
+use Rattle.std.specs.Prelude.{length, nat_lt, nat_eq, bytes_eq, Option, Some, None}
 use Rattle.tp_value.specs.declared.Place.{Place}
 use Rattle.loop_syntax.specs.declared.Name.{Name}
 use Rattle.loop_syntax.specs.declared.Reduce.{Reduce}
 use Rattle.loop_syntax.specs.declared.Func.{Func}
 use Rattle.loop_rules.specs.Names.{is_in, texts, func_names, first_named, func_of}
-use Rattle.loop_rules.specs.Sites.{Act, DeclaresTable, DeclaresFunc, Declares, Uses, Assigns, Folds, AssignsBoth, NamesTable, Calls, Parallel, Spot}
+use Rattle.loop_rules.specs.Sites.{Act, DeclaresTable, DeclaresFunc, Declares, Uses, Assigns, Folds}
+use Rattle.loop_rules.specs.Sites.{AssignsBoth, NamesTable, Calls, Parallel, Spot}
 
 -- the place of a name, where the test holds
 abbrev pub at : Name → Bool → List Place
@@ -36,13 +39,18 @@ misfits (Some f) n = not (nat_eq (length f.params.items) n)
 
 abbrev pub unseen_targets : List (List ℕ) → List Reduce → List Place
 unseen_targets vs [] = []
-unseen_targets vs (r ∷ rs) = at r.target (not (is_in vs r.target.text.items)) ++ unseen_targets vs rs
+unseen_targets vs (r ∷ rs) =
+    at r.target (not (is_in vs r.target.text.items)) ++ unseen_targets vs rs
 
--- a name that is used and isn't visible as what it is used for; one that is declared while it is visible, or
--- as a table or a function after another one of that name; a call that misfits; one target twice in a `both`
+-- a name that is used and isn't visible as what it is used for; one that is declared while it is
+-- visible, or as a table or a function after another one of that name; a call that misfits; one
+-- target twice in a `both`
 abbrev pub c1 : Act → Spot → List Place
-c1 (DeclaresTable t) w = at t (is_in (texts w.tables) t.text.items || is_func_before (func_of w.funcs t.text.items) t)
-c1 (DeclaresFunc f) w = at f.name (is_in (func_names w.funcs) f.name.text.items || is_table_by (first_named w.tables f.name.text.items) f.name)
+c1 (DeclaresTable t) w =
+    at t (is_in (texts w.tables) t.text.items || is_func_before (func_of w.funcs t.text.items) t)
+c1 (DeclaresFunc f) w =
+    at f.name (is_in (func_names w.funcs) f.name.text.items
+    || is_table_by (first_named w.tables f.name.text.items) f.name)
 c1 (Declares x) w = at x (is_visible w x.text.items)
 c1 (Uses x) w = at x (not (is_in w.scope x.text.items))
 c1 (Assigns x) w = at x (not (is_in w.scope x.text.items))

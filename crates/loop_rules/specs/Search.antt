@@ -1,5 +1,7 @@
--- The search for the first broken rule of names, limits and loop variables: the words of its contracts.
-use Rattle.std.specs.Prelude.{ℕ, suc, Bool, cond, ◌||◌, ◌&&◌, List, [], ◌∷◌, nat_lt, nat_eq, bytes_eq, Option, Some, None}
+-- The search for the first broken rule of names, limits and loop variables: the words of its
+-- contracts.
+use Rattle.std.specs.Prelude.{ℕ, suc, Bool, cond, ◌||◌, ◌&&◌, List, [], ◌∷◌, nat_lt, nat_eq}
+use Rattle.std.specs.Prelude.{bytes_eq, Option, Some, None}
 use Rattle.tp_value.specs.declared.Place.{Place}
 use Rattle.loop_rules.specs.declared.fault.Fault.{Fault}
 use Rattle.loop_rules.specs.Sites.{Site}
@@ -37,7 +39,10 @@ lowest b n (p ∷ ps) = lowest (lower b (record { rule = n; place = p })) n ps
 -- the first of what was found and what a site breaks
 abbrev pub lowest_at : Option Fault → Site → Option Fault
 lowest_at b s =
-    lowest (lowest (lowest (lowest (lowest b 1 (c1 s.act s.spot)) 7 (c7 s.act s.spot)) 9 (c9 s.act s.spot)) 10 (c10 s.act s.spot)) 11 (c11 s.act s.spot)
+    lowest
+    (lowest (lowest (lowest (lowest b 1 (c1 s.act s.spot)) 7 (c7 s.act s.spot)) 9 (c9 s.act s.spot))
+    10 (c10 s.act s.spot))
+    11 (c11 s.act s.spot)
 
 abbrev pub lowest_in : Option Fault → List Site → Option Fault
 lowest_in b [] = b

@@ -1,7 +1,8 @@
 -- Programs that break no rule on names, limits, output and variables of loops.
 use Rattle.tp_value.specs.declared.Place.{Place}
 use Rattle.loop_syntax.specs.declared.Program.{Program}
-use Rattle.loop_rules.specs.Broken.{Rule, C1', C2', C3', C4', C5', C6', C7', C8', C9', C10', C11', Broken}
+use Rattle.loop_rules.specs.Broken.{Rule, C1', C2', C3', C4', C5', C6', C7', C8', C9', C10', C11'}
+use Rattle.loop_rules.specs.Broken.{Broken}
 
 -- whether `resolve` looks at a rule
 abbrev pub IsOfResolve : Rule → Type 0

@@ -21,7 +21,8 @@ spot_of w = record {
 }
 
 -- the walk went over these sites, and stands at that spot
-pub record Walked (before after : Option Fault) (ss : List Site) (new : state.Spot.Spot) (spot : Spot) : Type 0 where
+pub record Walked (before after : Option Fault) (ss : List Site) (new : state.Spot.Spot)
+    (spot : Spot) : Type 0 where
   pub found : after ≡ lowest_in before ss
   pub stands : spot_of new ≡ spot
 

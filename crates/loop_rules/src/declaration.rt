@@ -10,7 +10,8 @@ use tp_value::NoMemory;
 /// Adds the variables that a statement declares, in order.
 #[cycle(declared)]
 fn push_declared<'a>(names: &mut Vec<&'a Name>, s: &'a Stmt) -> Result<(), NoMemory>
-    ensures { IfOk result (λ u. named names.new.items ≡ named names.old.items ++ declared_in s.now) }
+    ensures { IfOk result (λ u.
+        named names.new.items ≡ named names.old.items ++ declared_in s.now) }
 {
     match s {
         Stmt::Let(x, _) => {
@@ -43,7 +44,8 @@ fn push_declared<'a>(names: &mut Vec<&'a Name>, s: &'a Stmt) -> Result<(), NoMem
 /// Adds the variables that the statements of a list declare, in order.
 #[cycle(declared)]
 pub fn push_all<'a>(names: &mut Vec<&'a Name>, body: &'a [Stmt]) -> Result<(), NoMemory>
-    ensures { IfOk result (λ u. named names.new.items ≡ named names.old.items ++ declared_list body.now) }
+    ensures { IfOk result (λ u.
+        named names.new.items ≡ named names.old.items ++ declared_list body.now) }
 {
     for s in body {
         push_declared(names, s)?;

@@ -1,10 +1,12 @@
 // The walk over expressions and calls.
 
-ghost use Rattle.std.specs.Prelude.{◌≡◌, ◌∷◌, [], length, min, IsTrue, MatchOption, Option, Some, None};
+ghost use Rattle.std.specs.Prelude.{◌≡◌, ◌∷◌, [], length, min, IsTrue, MatchOption, Option, Some};
+ghost use Rattle.std.specs.Prelude.{None};
 ghost use Rattle.loop_rules.specs.Names.{func_of};
 ghost use Rattle.loop_rules.specs.Limits.{height, first_place, earlier};
 ghost use Rattle.loop_rules.specs.Scopes.{misfits};
-ghost use Rattle.loop_rules.specs.Sites.{site, in_expr, in_whole, in_args, in_app, in_carries, Uses, NamesTable, Calls, Evaluates};
+ghost use Rattle.loop_rules.specs.Sites.{site, in_expr, in_whole, in_args, in_app, in_carries};
+ghost use Rattle.loop_rules.specs.Sites.{Uses, NamesTable, Calls, Evaluates};
 ghost use Rattle.loop_rules.specs.Search.{lowest_at, lowest_in};
 ghost use Rattle.loop_rules.specs.Walk.{spot_of};
 
@@ -122,7 +124,8 @@ fn in_args(w: &Spot, found: &mut Option<Fault>, es: &[Expr])
 
 /// The function of that name.
 pub fn func_of<'a>(w: &Spot<'a, '_>, x: &[u8]) -> Option<&'a Func>
-    ensures { MatchOption result (func_of w.now.all.now x.now ≡ None) (λ f. func_of w.now.all.now x.now ≡ Some f.now) }
+    ensures { MatchOption result (func_of w.now.all.now x.now ≡ None)
+        (λ f. func_of w.now.all.now x.now ≡ Some f.now) }
 {
     match w.funcs.position(x) {
         Some(k) => {

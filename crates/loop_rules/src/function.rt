@@ -3,7 +3,8 @@
 ghost use Rattle.std.specs.Prelude.{◌≡◌, ◌∷◌, ◌++◌, IfOk};
 ghost use Rattle.loop_rules.specs.Declarations.{declared_list};
 ghost use Rattle.loop_rules.specs.Limits.{past};
-ghost use Rattle.loop_rules.specs.Sites.{site, in_params, in_list, in_whole, spot_of_list, DeclaresAll};
+ghost use Rattle.loop_rules.specs.Sites.{site, in_params, in_list, in_whole, spot_of_list};
+ghost use Rattle.loop_rules.specs.Sites.{DeclaresAll};
 ghost use Rattle.loop_rules.specs.Search.{lowest, lowest_in};
 ghost use Rattle.loop_rules.specs.Walk.{named, spot_of, spot_of_params, Walked};
 
@@ -22,7 +23,9 @@ fn in_params<'a>(
     found: &mut Option<Fault>,
     xs: &'a [Name],
 ) -> Result<(), NoMemory>
-    ensures { IfOk result (λ u. Walked found.old found.new (in_params (spot_of w.old) xs.now) w.new (spot_of_params (spot_of w.old) xs.now)) }
+    ensures { IfOk result (λ u.
+        Walked found.old found.new (in_params (spot_of w.old) xs.now) w.new
+        (spot_of_params (spot_of w.old) xs.now)) }
 {
     for x in xs {
         declares(w, found, x);
@@ -56,7 +59,10 @@ pub fn declares_all(
     params: &[Name],
     body: &[Stmt],
 ) -> Result<(), NoMemory>
-    ensures { IfOk result (λ u. found.new ≡ lowest found.old 11 (past MAX_DECLARED_VARIABLES (params.now ++ declared_list body.now))) }
+    ensures { IfOk result (λ u.
+        found.new
+        ≡ lowest found.old 11 (past MAX_DECLARED_VARIABLES (params.now
+        ++ declared_list body.now))) }
 {
     let mut names = Vec::new(alloc);
     for x in params {
@@ -73,7 +79,11 @@ pub fn in_func<'a>(
     found: &mut Option<Fault>,
     f: &'a Func,
 ) -> Result<(), NoMemory>
-    ensures { IfOk result (λ u. let s = spot_of_params (spot_of w.old) f.now.params.items in found.new ≡ lowest_in found.old (in_params (spot_of w.old) f.now.params.items ++ (in_list s f.now.body.items ++ in_whole (spot_of_list s f.now.body.items) f.now.result))) }
+    ensures { IfOk result (λ u.
+        let s = spot_of_params (spot_of w.old) f.now.params.items in found.new
+        ≡ lowest_in found.old (in_params (spot_of w.old) f.now.params.items
+        ++ (in_list s f.now.body.items
+        ++ in_whole (spot_of_list s f.now.body.items) f.now.result))) }
 {
     in_params(w, found, &f.params)?;
     in_list(w, found, &f.body)?;

@@ -69,8 +69,8 @@ impl From<NoMemory> for RuleFault {
 }
 
 /// Looks at the rules C1, C7, C9, C10 and C11. Where one of them is broken the answer is the one at
-/// the least place, and among those there the one with the least number. Names are found by hashing,
-/// so that the time is about linear in the program.
+/// the least place, and among those there the one with the least number. Names are found by
+/// hashing, so that the time is about linear in the program.
 pub fn resolve(alloc: Global, program: Program) -> Result<Resolved, RuleFault>
     ensures program { IfOk result (λ resolved. resolved ≡ program) }
     ensures resolved { IfOk result (λ resolved. IsResolved program) }

@@ -1,11 +1,14 @@
 // The walk over statements.
 
-ghost use Rattle.std.specs.Prelude.{◌≡◌, ◌∷◌, ◌++◌, [], IfOk, IsTrue, cond, bytes_eq, nat_eq, nat_le, length, map};
+ghost use Rattle.std.specs.Prelude.{◌≡◌, ◌∷◌, ◌++◌, [], IfOk, IsTrue, cond, bytes_eq, nat_eq};
+ghost use Rattle.std.specs.Prelude.{nat_le, length, map};
 ghost use Rattle.loop_rules.specs.Names.{is_in, table_name};
 ghost use Rattle.loop_rules.specs.Scopes.{is_visible, unseen_targets, loop_targets};
 ghost use Rattle.loop_rules.specs.Keeps.{in_function, carry_word, in_par_of_main};
 ghost use Rattle.loop_rules.specs.Limits.{past};
-ghost use Rattle.loop_rules.specs.Sites.{site, spot_after, spot_of_list, in_stmt, in_list, in_loop, in_whole, the_loop, Declares, Assigns, Folds, AssignsBoth, WritesCell, Shows, Parallel};
+ghost use Rattle.loop_rules.specs.Sites.{site, spot_after, spot_of_list, in_stmt, in_list, in_loop};
+ghost use Rattle.loop_rules.specs.Sites.{in_whole, the_loop, Declares, Assigns, Folds, AssignsBoth};
+ghost use Rattle.loop_rules.specs.Sites.{WritesCell, Shows, Parallel};
 ghost use Rattle.loop_rules.specs.Search.{lowest, lowest_at, lowest_in};
 ghost use Rattle.loop_rules.specs.Walk.{spot_of, Walked};
 
@@ -156,7 +159,8 @@ fn fifth_carry(found: &mut Option<Fault>, cs: &[Carry])
 }
 
 fn too_deep(rounds: &[Place], found: &mut Option<Fault>, place: Place)
-    ensures { found.new ≡ lowest found.old 11 (cond (nat_le MAX_PAR_NESTING (length rounds.now)) (place ∷ []) []) }
+    ensures { found.new
+        ≡ lowest found.old 11 (cond (nat_le MAX_PAR_NESTING (length rounds.now)) (place ∷ []) []) }
 {
     note_if(
         found,
@@ -167,7 +171,9 @@ fn too_deep(rounds: &[Place], found: &mut Option<Fault>, place: Place)
 }
 
 fn parallel(w: &Spot, found: &mut Option<Fault>, l: &ParLoop)
-    ensures { let s = spot_of w.now in found.new ≡ lowest_at found.old (site s (Parallel l.now.place l.now.carry_place (the_loop s l.now.var l.now.carries.items l.now.reduces.items))) }
+    ensures { let s = spot_of w.now in found.new
+        ≡ lowest_at found.old (site s (Parallel l.now.place l.now.carry_place (the_loop s l.now.var
+        l.now.carries.items l.now.reduces.items))) }
 {
     unseen_targets(w, found, &l.reduces);
     not_carried(w.part, found, l.carry_place, &l.carries);
@@ -178,7 +184,8 @@ fn parallel(w: &Spot, found: &mut Option<Fault>, l: &ParLoop)
 }
 
 fn writes(w: &Spot, found: &mut Option<Fault>, t: &Name, a: &Expr, b: &Expr)
-    ensures { found.new ≡ lowest_at found.old (site (spot_of w.now) (WritesCell t.now a.now b.now)) }
+    ensures { found.new
+        ≡ lowest_at found.old (site (spot_of w.now) (WritesCell t.now a.now b.now)) }
 {
     not_in_function(w.part, found, t.place);
 }
@@ -186,7 +193,8 @@ fn writes(w: &Spot, found: &mut Option<Fault>, t: &Name, a: &Expr, b: &Expr)
 // Statements without blocks.
 
 fn in_put(w: &Spot, found: &mut Option<Fault>, t: &Name, a: &Expr, b: &Expr, e: &Expr)
-    ensures { found.new ≡ lowest_in found.old (in_stmt (spot_of w.now) (Stmt.Put t.now a.now b.now e.now)) }
+    ensures { found.new
+        ≡ lowest_in found.old (in_stmt (spot_of w.now) (Stmt.Put t.now a.now b.now e.now)) }
 {
     names_table(w, found, t);
     writes(w, found, t, a, b);
@@ -196,7 +204,8 @@ fn in_put(w: &Spot, found: &mut Option<Fault>, t: &Name, a: &Expr, b: &Expr, e: 
 }
 
 fn in_both(w: &Spot, found: &mut Option<Fault>, x: &Name, f: &App, y: &Name, g: &App)
-    ensures { found.new ≡ lowest_in found.old (in_stmt (spot_of w.now) (Stmt.Both x.now f.now y.now g.now)) }
+    ensures { found.new
+        ≡ lowest_in found.old (in_stmt (spot_of w.now) (Stmt.Both x.now f.now y.now g.now)) }
 {
     assigns(w, found, x);
     in_app(w, found, f);
@@ -207,7 +216,8 @@ fn in_both(w: &Spot, found: &mut Option<Fault>, x: &Name, f: &App, y: &Name, g: 
 
 /// The two bounds of a loop over x.
 fn in_bounds(w: &Spot, found: &mut Option<Fault>, x: &Name, a: &Expr, b: &Expr)
-    ensures { let s = spot_of w.now in found.new ≡ lowest_in found.old (site s (Declares x.now) ∷ in_whole s a.now ++ in_whole s b.now) }
+    ensures { let s = spot_of w.now in found.new
+        ≡ lowest_in found.old (site s (Declares x.now) ∷ in_whole s a.now ++ in_whole s b.now) }
 {
     declares(w, found, x);
     in_whole(w, found, a);
@@ -216,7 +226,9 @@ fn in_bounds(w: &Spot, found: &mut Option<Fault>, x: &Name, a: &Expr, b: &Expr)
 
 #[cycle(walk)]
 fn in_stmt<'a>(w: &mut Spot<'a, '_>, found: &mut Option<Fault>, s: &'a Stmt) -> Result<(), NoMemory>
-    ensures { IfOk result (λ u. Walked found.old found.new (in_stmt (spot_of w.old) s.now) w.new (spot_after (spot_of w.old) s.now)) }
+    ensures { IfOk result (λ u.
+        Walked found.old found.new (in_stmt (spot_of w.old) s.now) w.new
+        (spot_after (spot_of w.old) s.now)) }
 {
     match s {
         Stmt::Let(x, e) => {
@@ -281,7 +293,9 @@ pub fn in_list<'a>(
     found: &mut Option<Fault>,
     body: &'a [Stmt],
 ) -> Result<(), NoMemory>
-    ensures { IfOk result (λ u. Walked found.old found.new (in_list (spot_of w.old) body.now) w.new (spot_of_list (spot_of w.old) body.now)) }
+    ensures { IfOk result (λ u.
+        Walked found.old found.new (in_list (spot_of w.old) body.now) w.new
+        (spot_of_list (spot_of w.old) body.now)) }
 {
     for s in body {
         in_stmt(w, found, s)?;
@@ -296,7 +310,9 @@ fn in_block<'a>(
     found: &mut Option<Fault>,
     body: &'a [Stmt],
 ) -> Result<(), NoMemory>
-    ensures { IfOk result (λ u. Walked found.old found.new (in_list (spot_of w.old) body.now) w.new (spot_of w.old)) }
+    ensures { IfOk result (λ u.
+        Walked found.old found.new (in_list (spot_of w.old) body.now) w.new
+        (spot_of w.old)) }
 {
     let n = w.scope.len();
     in_list(w, found, body)?;
@@ -312,7 +328,9 @@ fn in_loop<'a>(
     body: &'a [Stmt],
     x: &'a Name,
 ) -> Result<(), NoMemory>
-    ensures { IfOk result (λ u. Walked found.old found.new (in_list (in_loop (spot_of w.old) x.now) body.now) w.new (spot_of w.old)) }
+    ensures { IfOk result (λ u.
+        Walked found.old found.new (in_list (in_loop (spot_of w.old) x.now) body.now) w.new
+        (spot_of w.old)) }
 {
     let (n, m) = (w.scope.len(), w.loops.len());
     w.scope.declare(&x.text)?;
@@ -330,7 +348,9 @@ fn in_par<'a>(
     found: &mut Option<Fault>,
     l: &'a ParLoop,
 ) -> Result<(), NoMemory>
-    ensures { IfOk result (λ u. Walked found.old found.new (in_stmt (spot_of w.old) (Stmt.Par l.now)) w.new (spot_of w.old)) }
+    ensures { IfOk result (λ u.
+        Walked found.old found.new (in_stmt (spot_of w.old) (Stmt.Par l.now)) w.new
+        (spot_of w.old)) }
 {
     parallel(w, found, l);
     in_bounds(w, found, &l.var, &l.from, &l.to);

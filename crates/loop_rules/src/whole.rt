@@ -4,7 +4,8 @@ ghost use Rattle.std.specs.Prelude.{◌≡◌, ◌∷◌, [], IfOk, MatchOption,
 ghost use Rattle.loop_rules.specs.Names.{texts, func_names, func_of, first_named};
 ghost use Rattle.loop_rules.specs.Declarations.{table_of_decl, tables_of_decls};
 ghost use Rattle.loop_rules.specs.Scopes.{is_func_before, is_table_by};
-ghost use Rattle.loop_rules.specs.Sites.{site, sites, top, tables_of, in_decl, in_decls, in_func, in_funcs, in_main, DeclaresTable, DeclaresFunc};
+ghost use Rattle.loop_rules.specs.Sites.{site, sites, top, tables_of, in_decl, in_decls, in_func};
+ghost use Rattle.loop_rules.specs.Sites.{in_funcs, in_main, DeclaresTable, DeclaresFunc};
 ghost use Rattle.loop_rules.specs.Search.{lowest_at, lowest_in};
 ghost use Rattle.loop_rules.specs.Walk.{spot_of};
 
@@ -70,7 +71,8 @@ fn declares_table(w: &Spot, found: &mut Option<Fault>, t: &Name)
 /// A declared table, and its size where it has one.
 fn in_decl(w: &Spot, found: &mut Option<Fault>, d: &TableDecl)
     requires { spot_of w.now ≡ top Part.OfSize (tables_of_decls w.now.decls.now) w.now.all.now }
-    ensures { found.new ≡ lowest_in found.old (in_decl w.now.all.now (tables_of_decls w.now.decls.now) d.now) }
+    ensures { found.new
+        ≡ lowest_in found.old (in_decl w.now.all.now (tables_of_decls w.now.decls.now) d.now) }
 {
     match d {
         TableDecl::Input(t) => declares_table(w, found, t),
@@ -94,7 +96,8 @@ fn in_declared_table<'a>(
 )
     requires known { funcs.now ≡ func_names p.now.funcs.items }
     requires named { before.now ≡ texts (tables_of_decls earlier.now) }
-    ensures { found.new ≡ lowest_in found.old (in_decl p.now.funcs.items (tables_of_decls earlier.now) d.now) }
+    ensures { found.new
+        ≡ lowest_in found.old (in_decl p.now.funcs.items (tables_of_decls earlier.now) d.now) }
 {
     let spot = top(alloc, Part::OfSize, earlier, before, &p.funcs, funcs);
     in_decl(&spot, found, d);
@@ -117,7 +120,9 @@ fn in_decls<'a>(
     funcs: &Scope<'a>,
 ) -> Result<Scope<'a>, NoMemory>
     requires { funcs.now ≡ func_names p.now.funcs.items }
-    ensures found { IfOk result (λ tables. found.new ≡ lowest_in found.old (in_decls p.now.funcs.items [] p.now.tables.items)) }
+    ensures found { IfOk result (λ tables.
+        found.new
+        ≡ lowest_in found.old (in_decls p.now.funcs.items [] p.now.tables.items)) }
     ensures names { IfOk result (λ tables. tables ≡ texts (tables_of p.now)) }
 {
     let decls = p.tables.as_slice();
@@ -134,7 +139,8 @@ fn in_decls<'a>(
 
 /// The declared table of that name, the first where two have it.
 fn first_table<'a>(w: &Spot<'a, '_>, x: &[u8]) -> Option<&'a Name>
-    ensures { MatchOption result (first_named (tables_of_decls w.now.decls.now) x.now ≡ None) (λ t. first_named (tables_of_decls w.now.decls.now) x.now ≡ Some t.now) }
+    ensures { MatchOption result (first_named (tables_of_decls w.now.decls.now) x.now ≡ None)
+        (λ t. first_named (tables_of_decls w.now.decls.now) x.now ≡ Some t.now) }
 {
     match w.tables.position(x) {
         Some(k) => {
@@ -150,7 +156,8 @@ fn first_table<'a>(w: &Spot<'a, '_>, x: &[u8]) -> Option<&'a Name>
 
 /// Whether the table of that name is declared, and not after it.
 fn is_table_by(w: &Spot, x: &Name) -> bool
-    ensures { result ≡ is_table_by (first_named (tables_of_decls w.now.decls.now) x.now.text.items) x.now }
+    ensures { result
+        ≡ is_table_by (first_named (tables_of_decls w.now.decls.now) x.now.text.items) x.now }
 {
     match first_table(w, &x.text) {
         Some(t) => !is_before(x.place, t.place),
@@ -178,7 +185,12 @@ fn in_declared_func<'a>(
     f: &'a Func,
 ) -> Result<(), NoMemory>
     requires { before.now ≡ func_names earlier.now }
-    ensures { let p = d.now.program.now in IfOk result (λ u. found.new ≡ lowest_in found.old (site (top Part.OfFunc (tables_of p) earlier.now) (DeclaresFunc f.now) ∷ in_func p f.now)) }
+    ensures { let p = d.now.program.now in
+        IfOk result (λ u.
+        found.new
+        ≡ lowest_in found.old (site (top Part.OfFunc (tables_of p) earlier.now)
+        (DeclaresFunc f.now)
+        ∷ in_func p f.now)) }
 {
     let declared = top(
         alloc,
@@ -203,7 +215,8 @@ fn in_declared_func<'a>(
 
 /// The functions in order.
 fn in_funcs(alloc: Global, found: &mut Option<Fault>, d: &Declared) -> Result<(), NoMemory>
-    ensures { let p = d.now.program.now in IfOk result (λ u. found.new ≡ lowest_in found.old (in_funcs p [] p.funcs.items)) }
+    ensures { let p = d.now.program.now in
+        IfOk result (λ u. found.new ≡ lowest_in found.old (in_funcs p [] p.funcs.items)) }
 {
     let funcs = d.program.funcs.as_slice();
     let mut before = Scope::new(alloc);

@@ -5,7 +5,8 @@ use Rattle.tp_value.specs.declared.values.Op.{Op}
 use Rattle.tp_value.specs.declared.values.Op.TheVariants.{Add, Mul, Min, Max, Affine}
 use Rattle.tp_value.specs.Number.{wrapped}
 
--- the multiplier of the map that a number stands for: its bits are multiplier * 2 ^ 32 + addend, unsigned
+-- the multiplier of the map that a number stands for: its bits are multiplier * 2 ^ 32 + addend,
+-- unsigned
 abbrev pub multiplier : ℤ → ℕ
 multiplier a = cast_unsigned w64 a / 2 ^ 32
 

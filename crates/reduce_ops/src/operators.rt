@@ -4,7 +4,8 @@ ghost use Rattle.std.specs.Prelude.{◌≡◌, ℤ, FitsSigned};
 ghost use Rattle.std.specs.Int.{w64};
 ghost use Rattle.tp_value.specs.declared.values.Op.TheVariants.{Add, Mul, Min, Max, Affine};
 ghost use Rattle.reduce_ops.specs.Reduction.{combine, unit};
-ghost use Rattle.reduce_ops.specs.Laws.{combine-assoc, combine-unit_left, combine-unit_right, combine_fits, unit_fits};
+ghost use Rattle.reduce_ops.specs.Laws.{combine-assoc, combine-unit_left, combine-unit_right};
+ghost use Rattle.reduce_ops.specs.Laws.{combine_fits, unit_fits};
 
 /// An operator that a loop may reduce by. Its laws speak of numbers of 64 bits.
 pub trait Reducer {
@@ -29,7 +30,8 @@ pub trait Reducer {
 
     ghost unit_in_range: { FitsSigned w64 neutral };
 
-    ghost in_range: { (a b : ℤ) → FitsSigned w64 a → FitsSigned w64 b → FitsSigned w64 (combined a b) };
+    ghost in_range: { (a b : ℤ) → FitsSigned w64 a → FitsSigned w64 b →
+        FitsSigned w64 (combined a b) };
 }
 
 /// Reduces to the wrapped sum.

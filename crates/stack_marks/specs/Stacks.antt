@@ -1,7 +1,7 @@
 -- What a stack is seen as, and what each call makes of it.
 use Rattle.std.specs.Prelude.{◌≡◌, ℕ, suc, ◌+◌, ◌-◌, ◌<◌, ◌≤◌, ◌^◌, ℤ, pos, negsuc, not, nat_le}
 use Rattle.std.specs.Prelude.{if◌then◌else◌, Option, None, List, [], ◌∷◌, ◌++◌, length, take, drop}
-use Rattle.std.specs.Prelude.{slice_get, slice_index_or, slice_set, filter, replicate}
+use Rattle.std.specs.Prelude.{slice_get, slice_set, filter, replicate}
 use Rattle.std.specs.Ordering.{int_eq}
 use Rattle.tpal_syntax.specs.declared.words.Word.{Word}
 use Rattle.tpal_syntax.specs.declared.words.Word.TheVariants.{Nil}
@@ -28,10 +28,6 @@ word_at s (negsuc at) = None
 abbrev pub InOrder : ℕ → ℕ → List Mark → Type 0
 InOrder low high [] = Unit {0}
 InOrder low high (m ∷ ms) = (low ≤ m.at) × (m.at < high) × InOrder (suc m.at) high ms
-
--- the mark at a place of a list stands at a position
-abbrev pub IsAt : List Mark → ℕ → ℕ → Type 0
-IsAt marks k at = (d : Mark) → (slice_index_or marks k d).at ≡ at
 
 -- what is true of every stack: it lies below 2 ^ 62, and each mark lies on a cell above the last
 pub record IsSound (s : StackValue) : Type 0 where

@@ -3,7 +3,6 @@
 ghost use Rattle.std.specs.Prelude.{◌≡◌, ◌≢◌, ℕ, pos, ◌<◌, ◌^◌, length, All, Any, IsSome, IfSome};
 ghost use Rattle.std.specs.Prelude.{IfNone, IfErr, OnOk, OnErr, slice_get};
 ghost use Rattle.stack_marks.specs.Stacks.{word_at, marked, unmarked, without_oldest, InOrder};
-ghost use Rattle.stack_marks.specs.Stacks.{IsAt};
 ghost use Rattle.stack_marks.specs.Causes.{HoldsMark, MarkCause, UnmarkCause};
 
 use crate::cells::{Stack, index_of, stands_from};

@@ -1,5 +1,6 @@
 -- The reader's own words: what it holds between two tokens, and what the tokens from there on give.
-use Rattle.std.specs.Prelude.{◌≡◌, Bool, ℕ, zero, suc, ◌*◌, ℤ, List, [], ◌∷◌, ◌++◌, drop, Option, Some, None, Result, Ok, Err}
+use Rattle.std.specs.Prelude.{◌≡◌, Bool, ℕ, zero, suc, ◌*◌, ℤ, List, [], ◌∷◌, ◌++◌, drop, Option}
+use Rattle.std.specs.Prelude.{Some, None, Result, Ok, Err}
 use Rattle.std.specs.Borrow.{Bor}
 use Rattle.std.specs.BTreeSet.{BTreeSet, contains_by}
 use Rattle.std.specs.Cmp.Lexicographic.{slice_cmp}
@@ -8,7 +9,8 @@ use Rattle.tp_value.specs.declared.values.Table.{Table}
 use Rattle.table_text.specs.declared.fault.TableFault.{TableFault}
 use Rattle.table_text.specs.declared.fault.TableFault.TheVariants.{Form, Cells, Repeated, NoMemory}
 use Rattle.table_text.specs.Token.{Token, tokens_from, run_value, number_value}
-use Rattle.table_text.specs.Wanted.{is_known, name_misfit, size_misfit, Wanted, ATable, AName, RowCount, ColCount, ANumber, misfit}
+use Rattle.table_text.specs.Wanted.{is_known, name_misfit, size_misfit, Wanted, ATable, AName}
+use Rattle.table_text.specs.Wanted.{RowCount, ColCount, ANumber, misfit}
 
 -- the tokens of a text from byte `at` on
 abbrev pub tokens_at : List ℕ → ℕ → List Token
@@ -21,24 +23,28 @@ Takes test tokens token rest = (tokens ≡ token ∷ rest) × (test token ≡ No
 -- it is a number of this value
 abbrev pub TakesNumber : List Token → ℤ → List Token → Type 0
 TakesNumber tokens value rest =
-    (token : Token) × (Takes (misfit ANumber) tokens token rest × (value ≡ number_value token.bytes))
+    (token : Token)
+    × (Takes (misfit ANumber) tokens token rest × (value ≡ number_value token.bytes))
 
 -- it is a name that is none of those known
 abbrev pub TakesName : (List ℕ → Bool) → List Token → List ℕ → List Token → Type 0
 TakesName known tokens name rest =
-    (token : Token) × (Takes (λ t. name_misfit (known t.bytes) t) tokens token rest × (name ≡ token.bytes))
+    (token : Token)
+    × (Takes (λ t. name_misfit (known t.bytes) t) tokens token rest × (name ≡ token.bytes))
 
 -- it is a number of rows or columns of so many cells each, where some cells are there already
 abbrev pub TakesSize : ℕ → ℕ → List Token → ℕ → List Token → Type 0
 TakesSize cells each tokens value rest =
-    (token : Token) × (Takes (size_misfit cells each) tokens token rest × (value ≡ run_value token.bytes))
+    (token : Token)
+    × (Takes (size_misfit cells each) tokens token rest × (value ≡ run_value token.bytes))
 
 -- the first token has this fault by that test, or there is no token in a text of that length
 abbrev pub TokenMisfits : ℕ → (Token → Option TableFault) → List Token → TableFault → Type 0
 TokenMisfits len test [] fault = fault ≡ Form len
 TokenMisfits len test (token ∷ tokens) fault = test token ≡ Some fault
 
--- the whole tables so far, and what is known of the next one; inside its cells, one number and `more` others are missing
+-- the whole tables so far, and what is known of the next one; inside its cells, one number and
+-- `more` others are missing
 pub data Progress : Type 0 where
   Between : List Table → Progress
   Opened : List Table → Progress
@@ -78,14 +84,16 @@ ended len (Tall before name rows) = Err (Form len)
 ended len (Filling before name rows cols cells more) = Err (Form len)
 
 -- the fault, or else the rest
-abbrev pub unless : Option TableFault → Result (List Table) TableFault → Result (List Table) TableFault
+abbrev pub unless : Option TableFault → Result (List Table) TableFault →
+    Result (List Table) TableFault
 unless None rest = rest
 unless (Some fault) rest = Err fault
 
 -- what the tokens give from there on, in a text of that length
 unfoldable pub read : ℕ → List Token → Progress → Result (List Table) TableFault
 read len [] at = ended len at
-read len (token ∷ tokens) at = unless (misfit (wanted_at at) token) (read len tokens (progress at token))
+read len (token ∷ tokens) at =
+    unless (misfit (wanted_at at) token) (read len tokens (progress at token))
 
 -- what a fault says, but for want of memory
 abbrev pub OnFault : TableFault → Type 0 → Type 0

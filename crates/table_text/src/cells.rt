@@ -25,11 +25,14 @@ pub fn read_cells(
     requires { from ≤ length text.now }
     ensures cells { IfOk result (λ cells. (before : List Table) (name : List ℕ) (rows cols : ℕ) →
         read (length text.now) (tokens_at text.now from) (filled before name rows cols [] count)
-        ≡ read (length text.now) (tokens_at text.now cells.end) (filled before name rows cols cells.values.items 0)) }
+        ≡ read (length text.now) (tokens_at text.now cells.end)
+        (filled before name rows cols cells.values.items 0)) }
     ensures behind { IfOk result (λ cells. from ≤ cells.end) }
     ensures within { IfOk result (λ cells. cells.end ≤ length text.now) }
-    ensures fault { IfErr result (λ fault. OnFault fault ((before : List Table) (name : List ℕ) (rows cols : ℕ) →
-        read (length text.now) (tokens_at text.now from) (filled before name rows cols [] count) ≡ Err fault)) }
+    ensures fault { IfErr result (λ fault.
+        OnFault fault ((before : List Table) (name : List ℕ) (rows cols : ℕ) →
+        read (length text.now) (tokens_at text.now from) (filled before name rows cols [] count)
+        ≡ Err fault)) }
 {
     let mut values = Vec::with_capacity(alloc, count)?;
     let mut at = from;

@@ -1,9 +1,11 @@
 // The first tokens of a table: the word, the name, the rows and the columns.
 
-ghost use Rattle.std.specs.Prelude.{◌≡◌, ◌≤◌, ◌+◌, ◌*◌, ◌<◌, ◌||◌, ◌∷◌, [], ℕ, List, IfOk, IfErr, Ok, Err, None, length, bytes_eq, codes};
+ghost use Rattle.std.specs.Prelude.{◌≡◌, ◌≤◌, ◌+◌, ◌*◌, ◌<◌, ◌||◌, ◌∷◌, [], ℕ, List, IfOk, IfErr};
+ghost use Rattle.std.specs.Prelude.{Ok, Err, None, length, bytes_eq, codes};
 ghost use Rattle.tp_value.specs.declared.values.Table.{Table};
 ghost use Rattle.table_text.specs.Wanted.{name_misfit, size_misfit, cells_of};
-ghost use Rattle.table_text.specs.Reading.{tokens_at, read, filled, Between, OnFault, HoldsNames, has_name, TakesName, TakesSize, TokenMisfits};
+ghost use Rattle.table_text.specs.Reading.{tokens_at, read, filled, Between, OnFault, HoldsNames};
+ghost use Rattle.table_text.specs.Reading.{has_name, TakesName, TakesSize, TokenMisfits};
 
 use crate::fault::TableFault;
 use crate::names::add_name;
@@ -27,10 +29,13 @@ fn is_table_word(bytes: &[u8]) -> bool
 // The next token, which the text must have.
 fn wanted_word(text: &[u8], from: usize) -> Result<Word<'_>, TableFault>
     requires { from ≤ length text.now }
-    ensures word { IfOk result (λ word. tokens_at text.now from ≡ record { at = word.at; bytes = word.bytes.now } ∷ tokens_at text.now word.end) }
+    ensures word { IfOk result (λ word.
+        tokens_at text.now from
+        ≡ record { at = word.at; bytes = word.bytes.now } ∷ tokens_at text.now word.end) }
     ensures behind { IfOk result (λ word. from < word.end) }
     ensures within { IfOk result (λ word. word.end ≤ length text.now) }
-    ensures fault { IfErr result (λ fault. TokenMisfits (length text.now) (λ token. None) (tokens_at text.now from) fault) }
+    ensures fault { IfErr result (λ fault.
+        TokenMisfits (length text.now) (λ token. None) (tokens_at text.now from) fault) }
 {
     match next_word(text, from) {
         Some(word) => Ok(word),
@@ -45,11 +50,19 @@ fn read_name<'a>(
     names: &mut BTreeSet<&'a [u8]>,
 ) -> Result<Word<'a>, TableFault>
     requires { from ≤ length text.now }
-    ensures name { IfOk result (λ name. TakesName (has_name names.old) (tokens_at text.now from) name.bytes.now (tokens_at text.now name.end)) }
+    ensures name { IfOk result (λ name.
+        TakesName (has_name names.old) (tokens_at text.now from) name.bytes.now
+        (tokens_at text.now name.end)) }
     ensures behind { IfOk result (λ name. from < name.end) }
     ensures within { IfOk result (λ name. name.end ≤ length text.now) }
-    ensures names { IfOk result (λ name. (other : List ℕ) → has_name names.new other ≡ (bytes_eq name.bytes.now other || has_name names.old other)) }
-    ensures fault { IfErr result (λ fault. OnFault fault (TokenMisfits (length text.now) (λ token. name_misfit (has_name names.old token.bytes) token) (tokens_at text.now from) fault)) }
+    ensures names { IfOk result (λ name.
+        (other : List ℕ) →
+        has_name names.new other
+        ≡ (bytes_eq name.bytes.now other || has_name names.old other)) }
+    ensures fault { IfErr result (λ fault.
+        OnFault fault (TokenMisfits (length text.now)
+        (λ token. name_misfit (has_name names.old token.bytes) token)
+        (tokens_at text.now from) fault)) }
 {
     let word = wanted_word(text, from)?;
     if !is_word(word.bytes) {
@@ -66,12 +79,16 @@ fn read_size(text: &[u8], from: usize, cells: u32, each: u32) -> Result<Size, Ta
     requires from { from ≤ length text.now }
     requires cells { cells ≤ MAX_TABLE_CELLS }
     requires each { each ≤ MAX_SIDE }
-    ensures size { IfOk result (λ size. TakesSize cells each (tokens_at text.now from) size.value (tokens_at text.now size.end)) }
+    ensures size { IfOk result (λ size.
+        TakesSize cells each (tokens_at text.now from) size.value
+        (tokens_at text.now size.end)) }
     ensures behind { IfOk result (λ size. from < size.end) }
     ensures within { IfOk result (λ size. size.end ≤ length text.now) }
     ensures side { IfOk result (λ size. size.value ≤ MAX_SIDE) }
     ensures room { IfOk result (λ size. cells + each * size.value ≤ MAX_TABLE_CELLS) }
-    ensures fault { IfErr result (λ fault. TokenMisfits (length text.now) (size_misfit cells each) (tokens_at text.now from) fault) }
+    ensures fault { IfErr result (λ fault.
+        TokenMisfits (length text.now) (size_misfit cells each) (tokens_at text.now from)
+        fault) }
 {
     let word = wanted_word(text, from)?;
     let run = run_at(word.bytes, 0);
@@ -109,15 +126,27 @@ pub fn read_head<'a>(
 ) -> Result<Head<'a>, TableFault>
     requires end { word.now.end ≤ length text.now }
     requires cells { cells ≤ MAX_TABLE_CELLS }
-    ensures head { IfOk result (λ head. (before : List Table) → HoldsNames names.old before → cells ≡ cells_of before →
-        read (length text.now) (record { at = word.now.at; bytes = word.now.bytes.now } ∷ tokens_at text.now word.now.end) (Between before)
-        ≡ read (length text.now) (tokens_at text.now head.end) (filled before head.name.now head.rows head.cols [] (head.rows * head.cols))) }
-    ensures names { IfOk result (λ head. (other : List ℕ) → has_name names.new other ≡ (bytes_eq head.name.now other || has_name names.old other)) }
+    ensures head { IfOk result (λ head.
+        (before : List Table) → HoldsNames names.old before → cells ≡ cells_of before →
+        read (length text.now)
+        (record { at = word.now.at; bytes = word.now.bytes.now } ∷ tokens_at text.now word.now.end)
+        (Between before)
+        ≡ read (length text.now) (tokens_at text.now head.end)
+        (filled before head.name.now head.rows head.cols [] (head.rows * head.cols))) }
+    ensures names { IfOk result (λ head.
+        (other : List ℕ) →
+        has_name names.new other
+        ≡ (bytes_eq head.name.now other || has_name names.old other)) }
     ensures behind { IfOk result (λ head. word.now.end ≤ head.end) }
     ensures within { IfOk result (λ head. head.end ≤ length text.now) }
     ensures room { IfOk result (λ head. cells + head.rows * head.cols ≤ MAX_TABLE_CELLS) }
-    ensures fault { IfErr result (λ fault. OnFault fault ((before : List Table) → HoldsNames names.old before → cells ≡ cells_of before →
-        read (length text.now) (record { at = word.now.at; bytes = word.now.bytes.now } ∷ tokens_at text.now word.now.end) (Between before) ≡ Err fault)) }
+    ensures fault { IfErr result (λ fault.
+        OnFault fault ((before : List Table) → HoldsNames names.old before →
+        cells ≡ cells_of before →
+        read (length text.now)
+        (record { at = word.now.at; bytes = word.now.bytes.now } ∷ tokens_at text.now word.now.end)
+        (Between before)
+        ≡ Err fault)) }
 {
     if !is_table_word(word.bytes) {
         return Err(TableFault::Form(word.at as u64));

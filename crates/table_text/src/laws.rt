@@ -7,8 +7,13 @@ ghost use Rattle.table_text.specs.TablesText.{TablesOf, FirstTableFault};
 
 /// Each text has one list of tables or one first fault, and never both.
 pub fn text_is_read_one_way()
-    ensures one_of_them { (text : List ℕ) → ((tables : List Table) × TablesOf text tables) ⊎ ((fault : TableFault) × FirstTableFault text fault) }
-    ensures one_list { (text : List ℕ) (a b : List Table) → TablesOf text a → TablesOf text b → a ≡ b }
-    ensures one_fault { (text : List ℕ) (a b : TableFault) → FirstTableFault text a → FirstTableFault text b → a ≡ b }
-    ensures not_both { (text : List ℕ) (tables : List Table) (fault : TableFault) → TablesOf text tables → FirstTableFault text fault → ⊥ }
+    ensures one_of_them { (text : List ℕ) →
+        ((tables : List Table) × TablesOf text tables) ⊎
+        ((fault : TableFault) × FirstTableFault text fault) }
+    ensures one_list { (text : List ℕ) (a b : List Table) → TablesOf text a → TablesOf text b →
+        a ≡ b }
+    ensures one_fault { (text : List ℕ) (a b : TableFault) → FirstTableFault text a →
+        FirstTableFault text b → a ≡ b }
+    ensures not_both { (text : List ℕ) (tables : List Table) (fault : TableFault) →
+        TablesOf text tables → FirstTableFault text fault → ⊥ }
 {}

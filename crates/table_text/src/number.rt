@@ -1,6 +1,7 @@
 // The number of a cell.
 
-ghost use Rattle.std.specs.Prelude.{◌≡◌, ◌<◌, ◌≤◌, ◌+◌, ◌&&◌, false, not, IfOk, IfErr, IfSome, IfNone, is_some, length, slice_index, nat_lt};
+ghost use Rattle.std.specs.Prelude.{◌≡◌, ◌<◌, ◌≤◌, ◌+◌, ◌&&◌, false, not, IfOk, IfErr, IfSome};
+ghost use Rattle.std.specs.Prelude.{IfNone, is_some, length, slice_index, nat_lt};
 ghost use Rattle.table_text.specs.Token.{is_blank, is_64_bits, signed_value};
 ghost use Rattle.table_text.specs.Wanted.{ANumber, misfit};
 ghost use Rattle.table_text.specs.Reading.{tokens_at, TakesNumber, TokenMisfits};
@@ -44,10 +45,13 @@ fn signed(is_negative: bool, value: u64) -> Option<i64>
 fn number_at(text: &[u8], start: usize) -> Option<Number>
     requires inside { start < length text.now }
     requires begins { is_blank (slice_index text.now start) ≡ false }
-    ensures number { IfSome result (λ number. TakesNumber (tokens_at text.now start) number.value (tokens_at text.now number.end)) }
+    ensures number { IfSome result (λ number.
+        TakesNumber (tokens_at text.now start) number.value
+        (tokens_at text.now number.end)) }
     ensures behind { IfSome result (λ number. start < number.end) }
     ensures within { IfSome result (λ number. number.end ≤ length text.now) }
-    ensures none { IfNone result (TokenMisfits (length text.now) (misfit ANumber) (tokens_at text.now start) (Form start)) }
+    ensures none { IfNone result (TokenMisfits (length text.now) (misfit ANumber)
+        (tokens_at text.now start) (Form start)) }
 {
     let is_negative = text[start] == b'-';
     let first = start + usize::from(is_negative);
@@ -67,10 +71,13 @@ fn number_at(text: &[u8], start: usize) -> Option<Number>
 // The next token's number. It takes no memory.
 pub fn read_number(text: &[u8], from: usize) -> Result<Number, TableFault>
     requires { from ≤ length text.now }
-    ensures number { IfOk result (λ number. TakesNumber (tokens_at text.now from) number.value (tokens_at text.now number.end)) }
+    ensures number { IfOk result (λ number.
+        TakesNumber (tokens_at text.now from) number.value
+        (tokens_at text.now number.end)) }
     ensures behind { IfOk result (λ number. from < number.end) }
     ensures within { IfOk result (λ number. number.end ≤ length text.now) }
-    ensures fault { IfErr result (λ fault. TokenMisfits (length text.now) (misfit ANumber) (tokens_at text.now from) fault) }
+    ensures fault { IfErr result (λ fault.
+        TokenMisfits (length text.now) (misfit ANumber) (tokens_at text.now from) fault) }
 {
     let start = skip_blanks(text, from);
     if start == text.len() {

@@ -1,6 +1,7 @@
 // Reading a tables text.
 
-ghost use Rattle.std.specs.Prelude.{◌≡◌, ◌≤◌, ◌+◌, ◌*◌, ◌∷◌, ◌++◌, [], ◌⊎◌, List, IfOk, IfErr, MatchResult, Ok, Err, length};
+ghost use Rattle.std.specs.Prelude.{◌≡◌, ◌≤◌, ◌+◌, ◌*◌, ◌∷◌, ◌++◌, [], ◌⊎◌, List, IfOk, IfErr};
+ghost use Rattle.std.specs.Prelude.{MatchResult, Ok, Err, length};
 ghost use Rattle.tp_value.specs.declared.values.Table.{Table};
 ghost use Rattle.table_text.specs.declared.fault.TableFault.{TableFault};
 ghost use Rattle.table_text.specs.Wanted.{cells_of};
@@ -24,7 +25,8 @@ pub fn read_tables(alloc: Global, text: &[u8]) -> Result<Vec<Table>, TableFault>
     ensures accepted { (tables : List Table) → TablesOf text.now tables →
         MatchResult result (λ read. read.items ≡ tables) (λ fault. fault ≡ TableFault.NoMemory) }
 
-    ensures fault { IfErr result (λ fault. (fault ≡ TableFault.NoMemory) ⊎ FirstTableFault text.now fault) }
+    ensures fault { IfErr result (λ fault.
+        (fault ≡ TableFault.NoMemory) ⊎ FirstTableFault text.now fault) }
     ensures refused { (first : TableFault) → FirstTableFault text.now first →
         MatchResult result (λ _. ⊥) (λ fault. (fault ≡ TableFault.NoMemory) ⊎ (fault ≡ first)) }
 {
@@ -33,8 +35,11 @@ pub fn read_tables(alloc: Global, text: &[u8]) -> Result<Vec<Table>, TableFault>
 
 // The same in the reader's words.
 fn read_text(alloc: Global, text: &[u8]) -> Result<Vec<Table>, TableFault>
-    ensures tables { IfOk result (λ tables. read (length text.now) (tokens_at text.now 0) (Between []) ≡ Ok tables.items) }
-    ensures fault { IfErr result (λ fault. OnFault fault (read (length text.now) (tokens_at text.now 0) (Between []) ≡ Err fault)) }
+    ensures tables { IfOk result (λ tables.
+        read (length text.now) (tokens_at text.now 0) (Between []) ≡ Ok tables.items) }
+    ensures fault { IfErr result (λ fault.
+        OnFault fault (read (length text.now) (tokens_at text.now 0) (Between [])
+        ≡ Err fault)) }
 {
     let mut tables = Vec::new(alloc);
     let mut names = BTreeSet::new(alloc);
@@ -67,15 +72,27 @@ fn read_table<'a>(
 ) -> Result<NextTable, TableFault>
     requires end { word.now.end ≤ length text.now }
     requires cells { cells ≤ MAX_TABLE_CELLS }
-    ensures table { IfOk result (λ next. (before : List Table) → HoldsNames names.old before → cells ≡ cells_of before →
-        read (length text.now) (record { at = word.now.at; bytes = word.now.bytes.now } ∷ tokens_at text.now word.now.end) (Between before)
-        ≡ read (length text.now) (tokens_at text.now next.end) (Between (before ++ next.table ∷ []))) }
-    ensures names { IfOk result (λ next. (before : List Table) → HoldsNames names.old before → HoldsNames names.new (before ++ next.table ∷ [])) }
+    ensures table { IfOk result (λ next.
+        (before : List Table) → HoldsNames names.old before → cells ≡ cells_of before →
+        read (length text.now)
+        (record { at = word.now.at; bytes = word.now.bytes.now } ∷ tokens_at text.now word.now.end)
+        (Between before)
+        ≡ read (length text.now) (tokens_at text.now next.end)
+        (Between (before ++ next.table ∷ []))) }
+    ensures names { IfOk result (λ next.
+        (before : List Table) → HoldsNames names.old before →
+        HoldsNames names.new (before ++ next.table ∷ [])) }
     ensures behind { IfOk result (λ next. word.now.end ≤ next.end) }
     ensures within { IfOk result (λ next. next.end ≤ length text.now) }
-    ensures room { IfOk result (λ next. cells + next.table.rows * next.table.cols ≤ MAX_TABLE_CELLS) }
-    ensures fault { IfErr result (λ fault. OnFault fault ((before : List Table) → HoldsNames names.old before → cells ≡ cells_of before →
-        read (length text.now) (record { at = word.now.at; bytes = word.now.bytes.now } ∷ tokens_at text.now word.now.end) (Between before) ≡ Err fault)) }
+    ensures room { IfOk result (λ next.
+        cells + next.table.rows * next.table.cols ≤ MAX_TABLE_CELLS) }
+    ensures fault { IfErr result (λ fault.
+        OnFault fault ((before : List Table) → HoldsNames names.old before →
+        cells ≡ cells_of before →
+        read (length text.now)
+        (record { at = word.now.at; bytes = word.now.bytes.now } ∷ tokens_at text.now word.now.end)
+        (Between before)
+        ≡ Err fault)) }
 {
     let head = read_head(text, word, names, cells)?;
     let cells = read_cells(alloc, text, head.end, (head.rows * head.cols) as usize)?;

@@ -36,7 +36,8 @@ fn push_line(out: &mut Vec<u8>, row: &[i64]) -> Result<(), NoMemory>
 // Appends a number, behind a space where it isn't the first.
 fn push_number(out: &mut Vec<u8>, is_first: bool, number: i64) -> Result<(), NoMemory>
     ensures number { OnOk result
-        (out.new.items ≡ out.old.items ++ ((if is_first then [] else 32 ∷ []) ++ signed_decimal number)) }
+        (out.new.items
+        ≡ out.old.items ++ ((if is_first then [] else 32 ∷ []) ++ signed_decimal number)) }
     ensures kept { take (length out.old.items) out.new.items ≡ out.old.items }
 {
     if !is_first {

@@ -1,9 +1,11 @@
 // The tokens of a text, one after another.
 
-ghost use Rattle.std.specs.Prelude.{◌≡◌, ◌<◌, ◌≤◌, ◌+◌, ◌-◌, ◌*◌, ◌∷◌, [], true, false, IfSome, IfNone, length, slice_index, slice_range, min};
+ghost use Rattle.std.specs.Prelude.{◌≡◌, ◌<◌, ◌≤◌, ◌+◌, ◌-◌, ◌*◌, ◌∷◌, [], true, false, IfSome};
+ghost use Rattle.std.specs.Prelude.{IfNone, length, slice_index, slice_range, min};
 ghost use Rattle.std.specs.List.{list_all};
 ghost use Rattle.std.specs.Char.{is_ascii_digit};
-ghost use Rattle.table_text.specs.Token.{is_blank, is_token_byte, is_word_start, is_word_byte, is_word, run_value};
+ghost use Rattle.table_text.specs.Token.{is_blank, is_token_byte, is_word_start, is_word_byte};
+ghost use Rattle.table_text.specs.Token.{is_word, run_value};
 ghost use Rattle.table_text.specs.Reading.{tokens_at};
 
 // A token of a text, with its first byte and the first one behind it.
@@ -54,7 +56,9 @@ fn skip_word(text: &[u8], from: usize) -> usize
 pub fn next_word(text: &[u8], from: usize) -> Option<Word<'_>>
     requires { from ≤ length text.now }
     ensures none { IfNone result (tokens_at text.now from ≡ []) }
-    ensures word { IfSome result (λ word. tokens_at text.now from ≡ record { at = word.at; bytes = word.bytes.now } ∷ tokens_at text.now word.end) }
+    ensures word { IfSome result (λ word.
+        tokens_at text.now from
+        ≡ record { at = word.at; bytes = word.bytes.now } ∷ tokens_at text.now word.end) }
     ensures behind { IfSome result (λ word. from < word.end) }
     ensures within { IfSome result (λ word. word.end ≤ length text.now) }
 {
@@ -101,8 +105,10 @@ pub fn run_at(text: &[u8], from: usize) -> Run
     ensures behind { from ≤ result.end }
     ensures within { result.end ≤ length text.now }
     ensures digits { list_all is_ascii_digit (slice_range text.now from result.end) ≡ true }
-    ensures value { result.value ≡ min (run_value (slice_range text.now from result.end)) TOO_GREAT }
-    ensures stops { result.end < length text.now → is_ascii_digit (slice_index text.now result.end) ≡ false }
+    ensures value { result.value
+        ≡ min (run_value (slice_range text.now from result.end)) TOO_GREAT }
+    ensures stops { result.end < length text.now →
+        is_ascii_digit (slice_index text.now result.end) ≡ false }
 {
     let mut value = 0;
     let mut at = from;

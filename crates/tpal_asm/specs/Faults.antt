@@ -6,9 +6,11 @@ use Rattle.tpal_asm.specs.declared.fault.Wrong.{Wrong}
 use Rattle.tpal_asm.specs.declared.fault.Wrong.TheVariants as wrongs
 use Rattle.tpal_asm.specs.Lines.{pieces}
 use Rattle.tpal_asm.specs.Labels.{Head, names_of}
-use Rattle.tpal_asm.specs.Stages.{AreWords, AreHeads, Stage, Says, IsNewName, IsWithin, Leads, first_stage, IsWhole}
+use Rattle.tpal_asm.specs.Stages.{AreWords, AreHeads, Stage, Says, IsNewName, IsWithin, Leads}
+use Rattle.tpal_asm.specs.Stages.{first_stage, IsWhole}
 
--- the line is of the grammar and breaks no condition, but perhaps those on labels and limits: under some names it says something
+-- the line is of the grammar and breaks no condition, but perhaps those on labels and limits: under
+-- some names it says something
 pub record IsFormed (heads : List Head) (stage : Stage) (bytes : List ℕ) : Type 0 where
   pub names : List (List ℕ)
   pub next : Stage
@@ -31,8 +33,10 @@ pub record IsRight (heads : List Head) (stage : Stage) (bytes : List ℕ) : Type
 -- what is wrong with a line behind a stage: the first of these tests that it fails
 abbrev pub IsWrong : List Head → Stage → List ℕ → Wrong → Type 0
 IsWrong heads stage bytes wrongs.Form = ¬ IsFormed heads stage bytes
-IsWrong heads stage bytes wrongs.Label = IsFormed heads stage bytes × (¬ IsLabelled heads stage bytes)
-IsWrong heads stage bytes wrongs.Limit = IsLabelled heads stage bytes × (¬ IsRight heads stage bytes)
+IsWrong heads stage bytes wrongs.Label =
+    IsFormed heads stage bytes × (¬ IsLabelled heads stage bytes)
+IsWrong heads stage bytes wrongs.Limit =
+    IsLabelled heads stage bytes × (¬ IsRight heads stage bytes)
 IsWrong heads stage bytes wrongs.NoMemory = ⊥
 
 -- the fault of the line of this number with that wrong
@@ -42,13 +46,18 @@ fault_at wrongs.Label line = Label line
 fault_at wrongs.Limit line = Limit line
 fault_at wrongs.NoMemory line = NoMemory
 
--- The first fault of a text: at a line behind right ones, or where the last line or its end is missing. Lines count from 1.
+-- The first fault of a text: at a line behind right ones, or where the last line or its end is
+-- missing. Lines count from 1.
 pub data FirstFault (text : List ℕ) : AsmFault → Type 0 where
-  at_line : (heads : List Head) (before behind : List (List ℕ)) (bytes last : List ℕ) (stage : Stage) (wrong : Wrong) →
-      pieces text ≡ (before ++ bytes ∷ behind) ++ last ∷ [] → AreHeads [] (before ++ bytes ∷ behind) heads →
-      Leads heads first_stage before stage → IsWrong heads stage bytes wrong → FirstFault text (fault_at wrong (length before + 1))
+  at_line : (heads : List Head) (before behind : List (List ℕ)) (bytes last : List ℕ)
+      (stage : Stage) (wrong : Wrong) →
+      pieces text ≡ (before ++ bytes ∷ behind) ++ last ∷ [] →
+      AreHeads [] (before ++ bytes ∷ behind) heads →
+      Leads heads first_stage before stage → IsWrong heads stage bytes wrong →
+      FirstFault text (fault_at wrong (length before + 1))
   at_end : (heads : List Head) (lines : List (List ℕ)) (last : List ℕ) (stage : Stage) →
-      pieces text ≡ lines ++ last ∷ [] → AreHeads [] lines heads → Leads heads first_stage lines stage → (¬ ((last ≡ []) × IsWhole stage)) →
+      pieces text ≡ lines ++ last ∷ [] → AreHeads [] lines heads →
+      Leads heads first_stage lines stage → (¬ ((last ≡ []) × IsWhole stage)) →
       FirstFault text (Form (length lines + 1))
 
 -- what is said of a fault, but of want of memory

@@ -1,5 +1,6 @@
 -- The names that a text gives its blocks.
-use Rattle.std.specs.Prelude.{ℕ, Bool, false, List, [], ◌∷◌, ◌++◌, map, bytes_eq, slice_index_or, if◌then◌else◌}
+use Rattle.std.specs.Prelude.{ℕ, Bool, false, List, [], ◌∷◌, ◌++◌, map, bytes_eq, slice_index_or}
+use Rattle.std.specs.Prelude.{if◌then◌else◌}
 use Rattle.std.specs.Borrow.{Bor}
 use Rattle.std.specs.List.{position_or_len, list_any}
 use Rattle.std.specs.HashMap.{HashMap}
@@ -25,4 +26,5 @@ heads names = map (λ e. (e.0.now, e.1)) names.entries
 
 -- the heads with one more at the end, where its name isn't among them
 abbrev pub with_head : List Head → Head → List Head
-with_head heads head = if list_any (bytes_eq head.0) (names_of heads) then heads else heads ++ head ∷ []
+with_head heads head =
+    if list_any (bytes_eq head.0) (names_of heads) then heads else heads ++ head ∷ []

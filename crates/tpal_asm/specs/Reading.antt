@@ -1,10 +1,17 @@
--- Reading a line from its front, as the assembler does: each reading answers what was read and the rest.
-use Rattle.std.specs.Prelude.{◌≡◌, ℕ, Bool, List, ◌++◌, Option, Some, None, codes, pos, length, ◌==◌, if◌then◌else◌}
+-- Reading a line from its front, as the assembler does: each reading answers what was read and the
+-- rest.
+use Rattle.std.specs.Prelude.{◌≡◌, ℕ, Bool, List, ◌++◌, Option, Some, None, codes, pos, length}
+use Rattle.std.specs.Prelude.{◌==◌, if◌then◌else◌}
 use Rattle.std.specs.Borrow.{Bor}
 use Rattle.tpal_syntax.specs.declared.instructions.Value.{Value}
 use Rattle.tpal_syntax.specs.declared.instructions.Value.TheVariants.{Reg, Int}
 use Rattle.tpal_syntax.specs.declared.instructions.Instr.{Instr}
-use Rattle.tpal_syntax.specs.declared.instructions.Instr.TheVariants.{Calc, IfJump, Load, Store, Salloc, Sfree, PrmPush, PrmPop, PrmDrop, PrmEmpty, PrmSplit, JrAlloc, Fork, Fetch, Put, Rows, Cols, Make, Tick, Trap, Print, Emit}
+use Rattle.tpal_syntax.specs.declared.instructions.Instr.TheVariants.{Calc, IfJump, Load, Store}
+use Rattle.tpal_syntax.specs.declared.instructions.Instr.TheVariants.{Salloc, Sfree, PrmPush}
+use Rattle.tpal_syntax.specs.declared.instructions.Instr.TheVariants.{PrmPop, PrmDrop, PrmEmpty}
+use Rattle.tpal_syntax.specs.declared.instructions.Instr.TheVariants.{PrmSplit, JrAlloc, Fork}
+use Rattle.tpal_syntax.specs.declared.instructions.Instr.TheVariants.{Fetch, Put, Rows, Cols, Make}
+use Rattle.tpal_syntax.specs.declared.instructions.Instr.TheVariants.{Tick, Trap, Print, Emit}
 use Rattle.tpal_syntax.specs.declared.instructions.Term.{Term}
 use Rattle.tpal_syntax.specs.declared.instructions.Term.TheVariants.{Jump, Halt, Join}
 use Rattle.tpal_syntax.specs.declared.notes.CutKind.{CutKind}
@@ -15,7 +22,10 @@ use Rattle.tpal_syntax.specs.declared.notes.Note.TheVariants as note
 use Rattle.tpal_syntax.specs.declared.notes.Target.{Target}
 use Rattle.tpal_syntax.specs.declared.blocks.CodeTable.{CodeTable}
 use Rattle.tpal_syntax.specs.declared.blocks.CodeTable.TheVariants.{Input, Made}
-use Rattle.tpal_print.proofs.Reading.{renames_at, carries_at, policy_at, kind_at, ◌>>=◌, after, branch, negative, number_at, word_at, register_at, table_at, label_at, cell_at, place_at, value_at, alu_at, trap_at, source_at}
+use Rattle.tpal_print.proofs.Reading.{renames_at, carries_at, policy_at, kind_at, ◌>>=◌, after}
+use Rattle.tpal_print.proofs.Reading.{branch, negative, number_at, word_at, register_at, table_at}
+use Rattle.tpal_print.proofs.Reading.{label_at, cell_at, place_at, value_at, alu_at, trap_at}
+use Rattle.tpal_print.proofs.Reading.{source_at}
 
 -- what a function returned, seen by view, is what a reading gives
 abbrev pub Reads : {X Y : Type 0} → (X → Y) → Option X → Option Y → Type 0
@@ -50,10 +60,14 @@ number_rest us = number_at 9223372036854775807 us >>= λ n. Some (Int (pos n.0),
 -- ---- instructions, behind their first word
 
 unfoldable pub if_jump_rest : (List ℕ → ℕ) → List ℕ → Option (Instr × List ℕ)
-if_jump_rest f us = register_at us >>= λ r. after (codes ", ") r.1 >>= λ vs. label_at f vs >>= λ l. Some (IfJump r.0 l.0, l.1)
+if_jump_rest f us =
+    register_at us >>= λ r.
+    after (codes ", ") r.1 >>= λ vs. label_at f vs >>= λ l. Some (IfJump r.0 l.0, l.1)
 
 unfoldable pub store_rest : (List ℕ → ℕ) → List ℕ → Option (Instr × List ℕ)
-store_rest f us = cell_at us >>= λ c. after (codes " := ") c.1 >>= λ vs. value_at f vs >>= λ v. Some (Store c.0.0 c.0.1 v.0, v.1)
+store_rest f us =
+    cell_at us >>= λ c.
+    after (codes " := ") c.1 >>= λ vs. value_at f vs >>= λ v. Some (Store c.0.0 c.0.1 v.0, v.1)
 
 unfoldable pub salloc_rest : List ℕ → Option (Instr × List ℕ)
 salloc_rest us = number_at 512 us >>= λ n. Some (Salloc n.0, n.1)
@@ -62,7 +76,12 @@ unfoldable pub sfree_rest : List ℕ → Option (Instr × List ℕ)
 sfree_rest us = number_at 512 us >>= λ n. Some (Sfree n.0, n.1)
 
 unfoldable pub prmpush_rest : (List ℕ → ℕ) → List ℕ → Option (Instr × List ℕ)
-prmpush_rest f us = cell_at us >>= λ c. after (codes ", ") c.1 >>= λ vs. number_at 512 vs >>= λ n. after (codes ", ") n.1 >>= λ ws. label_at f ws >>= λ l. Some (PrmPush c.0.0 c.0.1 n.0 l.0, l.1)
+prmpush_rest f us =
+    cell_at us >>= λ c.
+    after (codes ", ") c.1 >>= λ vs.
+    number_at 512 vs >>= λ n.
+    after (codes ", ") n.1 >>= λ ws.
+    label_at f ws >>= λ l. Some (PrmPush c.0.0 c.0.1 n.0 l.0, l.1)
 
 unfoldable pub prmpop_rest : List ℕ → Option (Instr × List ℕ)
 prmpop_rest us = cell_at us >>= λ c. Some (PrmPop c.0.0 c.0.1, c.1)
@@ -71,16 +90,34 @@ unfoldable pub prmempty_rest : List ℕ → Option (Instr × List ℕ)
 prmempty_rest us = register_at us >>= λ r. Some (PrmEmpty r.0, r.1)
 
 unfoldable pub prmsplit_rest : List ℕ → Option (Instr × List ℕ)
-prmsplit_rest us = register_at us >>= λ a. after (codes ", ") a.1 >>= λ vs. register_at vs >>= λ b. Some (PrmSplit a.0 b.0, b.1)
+prmsplit_rest us =
+    register_at us >>= λ a.
+    after (codes ", ") a.1 >>= λ vs. register_at vs >>= λ b. Some (PrmSplit a.0 b.0, b.1)
 
 unfoldable pub fork_rest : (List ℕ → ℕ) → List ℕ → Option (Instr × List ℕ)
-fork_rest f us = register_at us >>= λ r. after (codes ", ") r.1 >>= λ vs. label_at f vs >>= λ l. Some (Fork r.0 l.0, l.1)
+fork_rest f us =
+    register_at us >>= λ r.
+    after (codes ", ") r.1 >>= λ vs. label_at f vs >>= λ l. Some (Fork r.0 l.0, l.1)
 
 unfoldable pub put_rest : List ℕ → Option (Instr × List ℕ)
-put_rest us = table_at us >>= λ t. after (codes ", ") t.1 >>= λ vs. register_at vs >>= λ row. after (codes ", ") row.1 >>= λ ws. register_at ws >>= λ col. after (codes ", ") col.1 >>= λ xs. register_at xs >>= λ v. Some (Put t.0 row.0 col.0 v.0, v.1)
+put_rest us =
+    table_at us >>= λ t.
+    after (codes ", ") t.1 >>= λ vs.
+    register_at vs >>= λ row.
+    after (codes ", ") row.1 >>= λ ws.
+    register_at ws >>= λ col.
+    after (codes ", ") col.1 >>= λ xs.
+    register_at xs >>= λ v. Some (Put t.0 row.0 col.0 v.0, v.1)
 
 unfoldable pub make_rest : List ℕ → Option (Instr × List ℕ)
-make_rest us = table_at us >>= λ t. after (codes ", ") t.1 >>= λ vs. register_at vs >>= λ row. after (codes ", ") row.1 >>= λ ws. register_at ws >>= λ col. after (codes ", ") col.1 >>= λ xs. place_at xs >>= λ p. Some (Make t.0 row.0 col.0 p.0, p.1)
+make_rest us =
+    table_at us >>= λ t.
+    after (codes ", ") t.1 >>= λ vs.
+    register_at vs >>= λ row.
+    after (codes ", ") row.1 >>= λ ws.
+    register_at ws >>= λ col.
+    after (codes ", ") col.1 >>= λ xs.
+    place_at xs >>= λ p. Some (Make t.0 row.0 col.0 p.0, p.1)
 
 unfoldable pub trap_rest : List ℕ → Option (Instr × List ℕ)
 trap_rest us = trap_at us >>= λ k. place_at k.1 >>= λ p. Some (Trap k.0 p.0, p.1)
@@ -98,7 +135,12 @@ unfoldable pub jralloc_rest : (List ℕ → ℕ) → ℕ → List ℕ → Option
 jralloc_rest f to us = label_at f us >>= λ l. Some (JrAlloc to l.0, l.1)
 
 unfoldable pub fetch_rest : ℕ → List ℕ → Option (Instr × List ℕ)
-fetch_rest to us = table_at us >>= λ t. after (codes ", ") t.1 >>= λ vs. register_at vs >>= λ row. after (codes ", ") row.1 >>= λ ws. register_at ws >>= λ col. Some (Fetch to t.0 row.0 col.0, col.1)
+fetch_rest to us =
+    table_at us >>= λ t.
+    after (codes ", ") t.1 >>= λ vs.
+    register_at vs >>= λ row.
+    after (codes ", ") row.1 >>= λ ws.
+    register_at ws >>= λ col. Some (Fetch to t.0 row.0 col.0, col.1)
 
 unfoldable pub rows_rest : ℕ → List ℕ → Option (Instr × List ℕ)
 rows_rest to us = table_at us >>= λ t. Some (Rows to t.0, t.1)
@@ -108,7 +150,8 @@ cols_rest to us = table_at us >>= λ t. Some (Cols to t.0, t.1)
 
 -- a register with an operator and an operand
 unfoldable pub calc_rest : (List ℕ → ℕ) → ℕ → ℕ → List ℕ → Option (Instr × List ℕ)
-calc_rest f to left us = alu_at us >>= λ op. value_at f op.1 >>= λ v. Some (Calc to left op.0 v.0, v.1)
+calc_rest f to left us =
+    alu_at us >>= λ op. value_at f op.1 >>= λ v. Some (Calc to left op.0 v.0, v.1)
 
 -- an operand alone, or a register with an operator and an operand
 abbrev pub source_rest : (List ℕ → ℕ) → ℕ → Value × List ℕ → Option (Instr × List ℕ)
@@ -129,10 +172,12 @@ assigned_rest f to ts =
 
 -- what stands behind the `r` of an assigned register
 unfoldable pub changed_rest : (List ℕ → ℕ) → List ℕ → Option (Instr × List ℕ)
-changed_rest f us = number_at 31 us >>= λ to. after (codes " := ") to.1 >>= λ vs. assigned_rest f to.0 vs
+changed_rest f us =
+    number_at 31 us >>= λ to. after (codes " := ") to.1 >>= λ vs. assigned_rest f to.0 vs
 
 -- an instruction that changes no register by `:=`: of stacks and marks
-unfoldable pub stack_rest : (List ℕ → ℕ) → List ℕ → Option (Instr × List ℕ) → Option (Instr × List ℕ)
+unfoldable pub stack_rest : (List ℕ → ℕ) → List ℕ → Option (Instr × List ℕ) →
+    Option (Instr × List ℕ)
 stack_rest f ts other =
     branch (after (codes "salloc ") ts) salloc_rest
     (branch (after (codes "sfree ") ts) sfree_rest
@@ -191,17 +236,29 @@ unfoldable pub carried_rows_rest : ℕ → List ℕ → Option (CarryAt × List 
 carried_rows_rest table us = register_at us >>= λ r. Some (carry.Rows table r.0, r.1)
 
 unfoldable pub carried_cells_rest : ℕ → List ℕ → Option (CarryAt × List ℕ)
-carried_cells_rest table ts = after (codes " cells ") ts >>= λ us. register_at us >>= λ r. after (codes " ") r.1 >>= λ vs. register_at vs >>= λ q. Some (carry.Cells table r.0 q.0, q.1)
+carried_cells_rest table ts =
+    after (codes " cells ") ts >>= λ us.
+    register_at us >>= λ r.
+    after (codes " ") r.1 >>= λ vs.
+    register_at vs >>= λ q. Some (carry.Cells table r.0 q.0, q.1)
 
 -- what stands between the renames and the carries
 unfoldable pub cut_rest : (List ℕ → ℕ) → List ℕ → Option ((ℕ × CutKind) × List ℕ)
-cut_rest f ts = after (codes "; @") ts >>= λ us. word_at us >>= λ w. after (codes "; ") w.1 >>= λ vs. kind_at vs >>= λ k. Some ((f w.0, k.0), k.1)
+cut_rest f ts =
+    after (codes "; @") ts >>= λ us.
+    word_at us >>= λ w.
+    after (codes "; ") w.1 >>= λ vs. kind_at vs >>= λ k. Some ((f w.0, k.0), k.1)
 
 abbrev pub made_target : Bool → List (ℕ × ℕ) → ℕ × CutKind → List CarryAt → Target
-made_target comm renames cut carries = record { comm = comm; renames = renames; comb = cut.0; kind = cut.1; carries = carries }
+made_target comm renames cut carries =
+    record { comm = comm; renames = renames; comb = cut.0; kind = cut.1; carries = carries }
 
 unfoldable pub target_rest : (List ℕ → ℕ) → ℕ → List ℕ → Option (Target × List ℕ)
-target_rest f n ts = policy_at ts >>= λ p. renames_at n p.1 >>= λ r. cut_rest f r.1 >>= λ k. carries_at n k.1 >>= λ c. Some (made_target p.0 r.0 k.0 c.0, c.1)
+target_rest f n ts =
+    policy_at ts >>= λ p.
+    renames_at n p.1 >>= λ r.
+    cut_rest f r.1 >>= λ k.
+    carries_at n k.1 >>= λ c. Some (made_target p.0 r.0 k.0 c.0, c.1)
 
 unfoldable pub ready_rest : (List ℕ → ℕ) → List ℕ → Option (Note × List ℕ)
 ready_rest f us = word_at us >>= λ w. Some (note.Ready (f w.0), w.1)
@@ -219,7 +276,9 @@ note_rest f n ts =
 
 -- the first line of a block: a name and a note
 unfoldable pub header_rest : (List ℕ → ℕ) → List ℕ → Option ((List ℕ × Note) × List ℕ)
-header_rest f ts = word_at ts >>= λ w. after (codes ": ") w.1 >>= λ us. note_rest f (length us) us >>= λ x. Some ((w.0, x.0), x.1)
+header_rest f ts =
+    word_at ts >>= λ w.
+    after (codes ": ") w.1 >>= λ us. note_rest f (length us) us >>= λ x. Some ((w.0, x.0), x.1)
 
 -- behind the word `table t` the number of a table, and what it is; the number is at most 16
 unfoldable pub table_line_rest : List ℕ → Option ((ℕ × CodeTable) × List ℕ)

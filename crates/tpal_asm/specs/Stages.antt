@@ -1,5 +1,6 @@
 -- What lines of a text say, one after another.
-use Rattle.std.specs.Prelude.{◌≡◌, ℕ, ◌<◌, ◌≤◌, Bool, true, false, ◌&&◌, List, [], ◌∷◌, ◌++◌, length, IsTrue, slice_index_or, codes, bytes_eq}
+use Rattle.std.specs.Prelude.{◌≡◌, ℕ, ◌<◌, ◌≤◌, Bool, true, false, ◌&&◌, List, [], ◌∷◌, ◌++◌}
+use Rattle.std.specs.Prelude.{length, IsTrue, slice_index_or, codes, bytes_eq}
 use Rattle.std.specs.List.{list_all, list_any}
 use Rattle.tpal_syntax.specs.declared.instructions.Instr.{Instr}
 use Rattle.tpal_syntax.specs.declared.instructions.Term.{Term}
@@ -27,7 +28,8 @@ abbrev pub IsNoteForm : ℕ → Note → Type 0
 IsNoteForm labels note.Plain = Unit {0}
 IsNoteForm labels (note.Ready handler) = handler < labels
 IsNoteForm labels (note.Target t) =
-    IsTrue (list_all (λ p. is_register p.0 && is_register p.1) t.renames) × (t.comb < labels) × IsTrue (list_all (is_carry 16) t.carries)
+    IsTrue (list_all (λ p. is_register p.0 && is_register p.1) t.renames) × (t.comb < labels)
+    × IsTrue (list_all (is_carry 16) t.carries)
 
 -- the line is, as the grammar has it, the first line of a block of this name
 pub record IsHead (bytes : List ℕ) (head : Head) : Type 0 where
@@ -39,15 +41,19 @@ pub record IsHead (bytes : List ℕ) (head : Head) : Type 0 where
   pub spelled : bytes ≡ header_text names head.0 note
   pub readiness : head.1 ≡ is_ready note
 
--- The names of the blocks of lines in the order in which they first stand, behind those that are known before the lines.
+-- The names of the blocks of lines in the order in which they first stand, behind those that are
+-- known before the lines.
 pub data AreHeads : List Head → List (List ℕ) → List Head → Type 0 where
   no_line : (heads : List Head) → AreHeads heads [] heads
   new_head : (heads last : List Head) (head : Head) (bytes : List ℕ) (lines : List (List ℕ)) →
-      IsHead bytes head → is_among head.0 (names_of heads) ≡ false → AreHeads (heads ++ head ∷ []) lines last → AreHeads heads (bytes ∷ lines) last
+      IsHead bytes head → is_among head.0 (names_of heads) ≡ false →
+      AreHeads (heads ++ head ∷ []) lines last → AreHeads heads (bytes ∷ lines) last
   known_head : (heads last : List Head) (head : Head) (bytes : List ℕ) (lines : List (List ℕ)) →
-      IsHead bytes head → is_among head.0 (names_of heads) ≡ true → AreHeads heads lines last → AreHeads heads (bytes ∷ lines) last
+      IsHead bytes head → is_among head.0 (names_of heads) ≡ true → AreHeads heads lines last →
+      AreHeads heads (bytes ∷ lines) last
   no_head : (heads last : List Head) (bytes : List ℕ) (lines : List (List ℕ)) →
-      ((head : Head) → ¬ IsHead bytes head) → AreHeads heads lines last → AreHeads heads (bytes ∷ lines) last
+      ((head : Head) → ¬ IsHead bytes head) → AreHeads heads lines last →
+      AreHeads heads (bytes ∷ lines) last
 
 -- ---- stages
 
@@ -58,26 +64,34 @@ pub data Stage : Type 0 where
 
 -- a table that may come behind these
 abbrev pub IsNewTable : List CodeTable → CodeTable → Type 0
-IsNewTable before (Input name) = IsTrue (is_word name) × (is_among name (input_names before) ≡ false)
+IsNewTable before (Input name) =
+    IsTrue (is_word name) × (is_among name (input_names before) ≡ false)
 IsNewTable before Made = Unit {0}
 
 -- a note that breaks no condition, in a text with these blocks and so many tables
 abbrev pub IsNoteOf : List Head → List (List ℕ) → ℕ → Note → Type 0
 IsNoteOf heads names tables note.Plain = Unit {0}
-IsNoteOf heads names tables (note.Ready handler) = (handler < length names) × (is_ready_name heads (slice_index_or names handler []) ≡ false)
+IsNoteOf heads names tables (note.Ready handler) =
+    (handler < length names) × (is_ready_name heads (slice_index_or names handler []) ≡ false)
 IsNoteOf heads names tables (note.Target t) = IsTarget tables (length names) t
 
--- What a line says behind a stage, and so the next stage. Labels stand for the given names; `heads` are the blocks of the text.
+-- What a line says behind a stage, and so the next stage. Labels stand for the given names; `heads`
+-- are the blocks of the text.
 pub data Says (heads : List Head) (names : List (List ℕ)) : Stage → List ℕ → Stage → Type 0 where
   a_table : (tables : List CodeTable) (table : CodeTable) → IsNewTable tables table →
-      Says heads names (Outside tables []) (table_line (length tables) table) (Outside (tables ++ table ∷ []) [])
+      Says heads names (Outside tables []) (table_line (length tables) table)
+      (Outside (tables ++ table ∷ []) [])
   a_header : (tables : List CodeTable) (blocks : List Block) (name : List ℕ) (x : Note) →
       IsTrue (is_word name) → IsNoteOf heads names (length tables) x →
-      Says heads names (Outside tables blocks) (header_text names name x) (Inside tables blocks name x [])
-  an_instr : (tables : List CodeTable) (blocks : List Block) (name : List ℕ) (x : Note) (body : List Instr) (instr : Instr) →
+      Says heads names (Outside tables blocks) (header_text names name x)
+      (Inside tables blocks name x [])
+  an_instr : (tables : List CodeTable) (blocks : List Block) (name : List ℕ) (x : Note)
+      (body : List Instr) (instr : Instr) →
       IsTrue (is_instr (length tables) (length names) instr) →
-      Says heads names (Inside tables blocks name x body) (codes "  " +++ instr_text names instr) (Inside tables blocks name x (body ++ instr ∷ []))
-  an_end : (tables : List CodeTable) (blocks : List Block) (name : List ℕ) (x : Note) (body : List Instr) (term : Term) →
+      Says heads names (Inside tables blocks name x body) (codes "  " +++ instr_text names instr)
+      (Inside tables blocks name x (body ++ instr ∷ []))
+  an_end : (tables : List CodeTable) (blocks : List Block) (name : List ℕ) (x : Note)
+      (body : List Instr) (term : Term) →
       IsTrue (is_term (length names) term) →
       Says heads names (Inside tables blocks name x body) (codes "  " +++ term_text names term)
       (Outside tables (blocks ++ record { name = name; note = x; body = body; term = term } ∷ []))
@@ -96,7 +110,8 @@ IsWithin (Inside tables blocks name x body) = (length tables ≤ 16) × (length 
 pub data Leads (heads : List Head) : Stage → List (List ℕ) → Stage → Type 0 where
   stay : (stage : Stage) → Leads heads stage [] stage
   go_on : (stage next last : Stage) (bytes : List ℕ) (lines : List (List ℕ)) →
-      Says heads (names_of heads) stage bytes next → IsNewName next → IsWithin next → Leads heads next lines last → Leads heads stage (bytes ∷ lines) last
+      Says heads (names_of heads) stage bytes next → IsNewName next → IsWithin next →
+      Leads heads next lines last → Leads heads stage (bytes ∷ lines) last
 
 -- the stage before the first line
 abbrev pub first_stage : Stage

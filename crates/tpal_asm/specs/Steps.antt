@@ -1,5 +1,6 @@
 -- The assembler's own words for stages and what is unfit.
-use Rattle.std.specs.Prelude.{◌≡◌, ℕ, ◌<◌, ◌≤◌, Bool, true, false, List, [], length, slice_index_or, bytes_eq, Option, Some, None}
+use Rattle.std.specs.Prelude.{◌≡◌, ℕ, ◌<◌, ◌≤◌, Bool, true, false, List, [], length, slice_index_or}
+use Rattle.std.specs.Prelude.{bytes_eq, Option, Some, None}
 use Rattle.std.specs.Borrow.{Bor}
 use Rattle.tpal_syntax.specs.declared.notes.Note.{Note}
 use Rattle.tpal_syntax.specs.declared.notes.Note.TheVariants as note
@@ -24,17 +25,20 @@ seen_with tables blocks (Some begun) = Inside tables blocks begun.name begun.not
 abbrev pub seen : code.Stage → Stage
 seen stage = seen_with stage.tables.items stage.blocks.items stage.begun
 
--- What is unfit, by a test that asks whether labels are below a number: that fails for any label, or only for the number of names.
+-- What is unfit, by a test that asks whether labels are below a number: that fails for any label,
+-- or only for the number of names.
 abbrev pub Unfit : (ℕ → Bool) → ℕ → Wrong → Type 0
 Unfit test known wrongs.Form = test 4294967295 ≡ false
 Unfit test known wrongs.Label = (test 4294967295 ≡ true) × (test known ≡ false)
 Unfit test known wrongs.Limit = ⊥
 Unfit test known wrongs.NoMemory = Unit {0}
 
--- a note that breaks no condition, in a text with so many tables and these blocks, where a handler is the place of its name
+-- a note that breaks no condition, in a text with so many tables and these blocks, where a handler
+-- is the place of its name
 abbrev pub NoteFits : List Head → ℕ → Note → Type 0
 NoteFits heads tables note.Plain = Unit {0}
-NoteFits heads tables (note.Ready handler) = (handler < length (names_of heads)) × ((slice_index_or heads handler ([], false)).1 ≡ false)
+NoteFits heads tables (note.Ready handler) =
+    (handler < length (names_of heads)) × ((slice_index_or heads handler ([], false)).1 ≡ false)
 NoteFits heads tables (note.Target t) = IsTarget tables (length (names_of heads)) t
 
 -- what is unfit of a note
@@ -46,7 +50,8 @@ HandlerUnfit heads handler wrongs.NoMemory = ⊥
 
 abbrev pub TargetUnfit : List Head → ℕ → Target → Wrong → Type 0
 TargetUnfit heads tables t wrongs.Form = ¬ IsTarget tables 4294967295 t
-TargetUnfit heads tables t wrongs.Label = IsTarget tables 4294967295 t × (length (names_of heads) ≤ t.comb)
+TargetUnfit heads tables t wrongs.Label =
+    IsTarget tables 4294967295 t × (length (names_of heads) ≤ t.comb)
 TargetUnfit heads tables t wrongs.Limit = ⊥
 TargetUnfit heads tables t wrongs.NoMemory = ⊥
 
@@ -77,9 +82,14 @@ abbrev pub IsUnrepeated : List CodeTable → CodeTable → Type 0
 IsUnrepeated before (Input name) = is_among name (input_names before) ≡ false
 IsUnrepeated before Made = Unit {0}
 
--- what is unfit of a table's line, behind its first word: no table that is new can be read, or one too many
+-- what is unfit of a table's line, behind its first word: no table that is new can be read, or one
+-- too many
 abbrev pub TableUnfit : List CodeTable → List ℕ → Wrong → Type 0
-TableUnfit before text wrongs.Form = (table : CodeTable) → ended (table_line_rest text) ≡ Some (length before, table) → ¬ IsUnrepeated before table
+TableUnfit before text wrongs.Form =
+    (table : CodeTable) → ended (table_line_rest text) ≡ Some (length before, table) →
+    ¬ IsUnrepeated before table
 TableUnfit before text wrongs.Label = ⊥
-TableUnfit before text wrongs.Limit = (table : CodeTable) × (ended (table_line_rest text) ≡ Some (length before, table)) × IsUnrepeated before table × (16 ≤ length before)
+TableUnfit before text wrongs.Limit =
+    (table : CodeTable) × (ended (table_line_rest text) ≡ Some (length before, table))
+    × IsUnrepeated before table × (16 ≤ length before)
 TableUnfit before text wrongs.NoMemory = Unit {0}

@@ -1,6 +1,7 @@
 // From a text to its code.
 
-ghost use Rattle.std.specs.Prelude.{◌≡◌, ◌≤◌, ◌++◌, ◌∷◌, [], ℕ, List, IfOk, IfErr, MatchResult, length};
+ghost use Rattle.std.specs.Prelude.{◌≡◌, ◌≤◌, ◌++◌, ◌∷◌, [], ℕ, List, IfOk, IfErr, MatchResult};
+ghost use Rattle.std.specs.Prelude.{length};
 ghost use Rattle.tpal_syntax.specs.Conditions.{IsCode, is_ready as is_ready_note};
 ghost use Rattle.tpal_syntax.specs.Text.{CodeText};
 ghost use Rattle.tpal_asm.specs.declared.fault.AsmFault.{AsmFault as Fault};
@@ -23,16 +24,18 @@ use tp_value::NoMemory;
 use tpal_syntax::{Code, Note};
 
 /// The code of a text, or its first fault. Where a text has a code, that code is answered or memory
-/// was wanting; where it has a fault, that one is its only first fault, and is answered or memory was
-/// wanting.
+/// was wanting; where it has a fault, that one is its only first fault, and is answered or memory
+/// was wanting.
 pub fn assemble(alloc: Global, text: &[u8]) -> Result<Code, AsmFault>
     requires bound { length text.now ≤ 67108864 }
     ensures code { IfOk result (λ code. CodeText text.now code.tables code.blocks) }
     ensures fault { IfErr result (λ fault. OnFault fault (FirstFault text.now fault)) }
     ensures refused { IfErr result (λ fault. OnFault fault (
         (tables : List CodeTable) (blocks : List Block) → ¬ CodeText text.now tables blocks)) }
-    ensures no_fault { (tables : List CodeTable) (blocks : List Block) → CodeText text.now tables blocks →
-        MatchResult result (λ code. code ≡ record { tables = tables; blocks = blocks }) (λ fault. fault ≡ faults.NoMemory) }
+    ensures no_fault { (tables : List CodeTable) (blocks : List Block) →
+        CodeText text.now tables blocks →
+        MatchResult result (λ code. code ≡ record { tables = tables; blocks = blocks })
+        (λ fault. fault ≡ faults.NoMemory) }
     ensures first_fault { (first : Fault) → FirstFault text.now first →
         MatchResult result (λ code. ⊥) (λ fault. OnFault fault (fault ≡ first)) }
 {
@@ -43,7 +46,8 @@ pub fn assemble(alloc: Global, text: &[u8]) -> Result<Code, AsmFault>
 // The names of the blocks of a text.
 fn read_labels(alloc: Global, text: &[u8]) -> Result<Labels<'_>, NoMemory>
     requires bound { length text.now ≤ 67108864 }
-    ensures { IfOk result (λ labels. (lines : List (List ℕ)) (last : List ℕ) → pieces text.now ≡ lines ++ last ∷ [] →
+    ensures { IfOk result (λ labels.
+        (lines : List (List ℕ)) (last : List ℕ) → pieces text.now ≡ lines ++ last ∷ [] →
         AreHeads [] lines (heads labels.places)) }
 {
     let none = Labels::new(alloc);
@@ -70,7 +74,8 @@ fn is_ready(note: &Note) -> bool
 
 fn read_code(alloc: Global, labels: &Labels, text: &[u8]) -> Result<Code, AsmFault>
     requires bound { length text.now ≤ 67108864 }
-    requires named { (lines : List (List ℕ)) (last : List ℕ) → pieces text.now ≡ lines ++ last ∷ [] →
+    requires named { (lines : List (List ℕ)) (last : List ℕ) →
+        pieces text.now ≡ lines ++ last ∷ [] →
         AreHeads [] lines (heads labels.now.places) }
     ensures code { IfOk result (λ code. CodeText text.now code.tables code.blocks) }
     ensures fault { IfErr result (λ fault. OnFault fault (FirstFault text.now fault)) }
@@ -101,7 +106,8 @@ fn end(alloc: Global, stage: Stage, line: u32) -> Result<Code, AsmFault>
     requires right { IsWhole (seen stage) → IsCode stage.tables.items stage.blocks.items }
     ensures code { IfOk result (λ code. IsCode code.tables code.blocks) }
     ensures last { IfOk result (λ code. seen stage ≡ Outside code.tables code.blocks) }
-    ensures fault { IfErr result (λ fault. OnFault fault ((fault ≡ faults.Form line) × (¬ IsWhole (seen stage)))) }
+    ensures fault { IfErr result (λ fault.
+        OnFault fault ((fault ≡ faults.Form line) × (¬ IsWhole (seen stage)))) }
 {
     let Stage {
         tables,

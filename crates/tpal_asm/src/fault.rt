@@ -11,7 +11,8 @@ use tp_value::NoMemory;
 #[derive(Clone, Copy, PartialEq, Eq, Debug)]
 pub enum AsmFault {
     /// A line that isn't of the grammar where it stands, breaks a condition on notes, repeats the
-    /// name of an input or names a table that the text doesn't have; or a line or its end is missing.
+    /// name of an input or names a table that the text doesn't have; or a line or its end is
+    /// missing.
     Form(u32),
     /// A block's name that stood before, or a label that is no block's name.
     Label(u32),

@@ -2,7 +2,14 @@
 
 ghost use Rattle.std.specs.Prelude.{◌≡◌, codes, Option, Some, None};
 ghost use Rattle.tpal_print.proofs.Reading.{after, branch, instr_at, term_at};
-ghost use Rattle.tpal_asm.specs.Reading.{Reads, rest_of, if_jump_rest, store_rest, salloc_rest, sfree_rest, prmpush_rest, prmpop_rest, prmempty_rest, prmsplit_rest, fork_rest, put_rest, make_rest, trap_rest, print_rest, emit_rest, load_rest, jralloc_rest, fetch_rest, rows_rest, cols_rest, calc_rest, source_rest, move_rest, assigned_rest, changed_rest, stack_rest, table_rest, other_rest, instr_rest, jump_rest, join_rest, term_rest};
+ghost use Rattle.tpal_asm.specs.Reading.{Reads, rest_of, if_jump_rest, store_rest, salloc_rest};
+ghost use Rattle.tpal_asm.specs.Reading.{sfree_rest, prmpush_rest, prmpop_rest, prmempty_rest};
+ghost use Rattle.tpal_asm.specs.Reading.{prmsplit_rest, fork_rest, put_rest, make_rest, trap_rest};
+ghost use Rattle.tpal_asm.specs.Reading.{print_rest, emit_rest, load_rest, jralloc_rest};
+ghost use Rattle.tpal_asm.specs.Reading.{fetch_rest, rows_rest, cols_rest, calc_rest, source_rest};
+ghost use Rattle.tpal_asm.specs.Reading.{move_rest, assigned_rest, changed_rest, stack_rest};
+ghost use Rattle.tpal_asm.specs.Reading.{table_rest, other_rest, instr_rest, jump_rest, join_rest};
+ghost use Rattle.tpal_asm.specs.Reading.{term_rest};
 ghost use Rattle.tpal_asm.specs.Labels.{place_of, heads};
 
 use crate::labels::Labels;
@@ -39,7 +46,8 @@ fn changed<'a>(labels: &Labels, text: &'a [u8]) -> Option<(Instr, &'a [u8])>
 
 #[tactic(auto, unfolding(crate::specs::Reading::assigned_rest))]
 fn assigned<'a>(labels: &Labels, to: u8, text: &'a [u8]) -> Option<(Instr, &'a [u8])>
-    ensures { Reads rest_of result (assigned_rest (place_of (heads labels.now.places)) to text.now) }
+    ensures { Reads rest_of result (assigned_rest (place_of (heads labels.now.places)) to
+        text.now) }
 {
     if let Some(_rest) = behind(text, b"mem[") {
         return load(to, text);
@@ -69,7 +77,8 @@ fn moved<'a>(labels: &Labels, to: u8, text: &'a [u8]) -> Option<(Instr, &'a [u8]
 
 #[tactic(auto, unfolding(crate::specs::Reading::calc_rest))]
 fn source<'a>(labels: &Labels, to: u8, value: Value, text: &'a [u8]) -> Option<(Instr, &'a [u8])>
-    ensures { Reads rest_of result (source_rest (place_of (heads labels.now.places)) to (value, text.now)) }
+    ensures { Reads rest_of result (source_rest (place_of (heads labels.now.places)) to
+        (value, text.now)) }
 {
     match value {
         Value::Reg(left) => match behind(text, b" ") {
@@ -84,7 +93,8 @@ fn source<'a>(labels: &Labels, to: u8, value: Value, text: &'a [u8]) -> Option<(
 
 #[tactic(auto, unfolding(crate::specs::Reading::calc_rest))]
 fn calc<'a>(labels: &Labels, to: u8, left: u8, text: &'a [u8]) -> Option<(Instr, &'a [u8])>
-    ensures { Reads rest_of result (calc_rest (place_of (heads labels.now.places)) to left text.now) }
+    ensures { Reads rest_of result (calc_rest (place_of (heads labels.now.places)) to left
+        text.now) }
 {
     let (alu, rest) = alu(text)?;
     let (right, rest) = value(labels, rest)?;
@@ -101,7 +111,8 @@ fn calc<'a>(labels: &Labels, to: u8, left: u8, text: &'a [u8]) -> Option<(Instr,
 
 #[tactic(auto, unfolding(crate::specs::Reading::stack_rest))]
 fn of_stack<'a>(labels: &Labels, text: &'a [u8]) -> Option<(Instr, &'a [u8])>
-    ensures { Reads rest_of result (stack_rest (place_of (heads labels.now.places)) text.now (other_rest (place_of (heads labels.now.places)) text.now)) }
+    ensures { Reads rest_of result (stack_rest (place_of (heads labels.now.places)) text.now
+        (other_rest (place_of (heads labels.now.places)) text.now)) }
 {
     if let Some(rest) = behind(text, b"salloc ") {
         return salloc(rest);

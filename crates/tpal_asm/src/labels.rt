@@ -1,6 +1,7 @@
 // The names of the blocks of a text.
 
-ghost use Rattle.std.specs.Prelude.{◌≡◌, ◌<◌, ◌≤◌, [], true, OnOk, length, MatchOption, slice_index_or, false};
+ghost use Rattle.std.specs.Prelude.{◌≡◌, ◌<◌, ◌≤◌, [], true, OnOk, length, MatchOption};
+ghost use Rattle.std.specs.Prelude.{slice_index_or, false};
 ghost use Rattle.std.specs.List.{list_all};
 ghost use Rattle.tpal_syntax.specs.Parts.{is_word};
 ghost use Rattle.indexmap.specs.IndexMap.{index_map_len};
@@ -33,7 +34,8 @@ impl<'a> Labels<'a> {
     pub fn add(&mut self, name: &'a [u8], is_ready: bool) -> Result<(), NoMemory>
         requires word { is_word name.now ≡ true }
         requires room { index_map_len self.old.places < 67108864 }
-        ensures added { OnOk result (heads self.new.places ≡ with_head (heads self.old.places) (name.now, is_ready)) }
+        ensures added { OnOk result (heads self.new.places
+            ≡ with_head (heads self.old.places) (name.now, is_ready)) }
     {
         if self.place(name) >= self.count() {
             self.places.insert(name, is_ready)?;

@@ -9,7 +9,8 @@ ghost use Rattle.tpal_asm.specs.Faults.{FirstFault};
 
 /// A text has at most one first fault, and none where it is the text of a code.
 pub fn one_fault_a_text()
-    ensures one { (text : List ℕ) (fault other : Fault) → FirstFault text fault → FirstFault text other → fault ≡ other }
+    ensures one { (text : List ℕ) (fault other : Fault) → FirstFault text fault →
+        FirstFault text other → fault ≡ other }
     ensures none { (text : List ℕ) (tables : List CodeTable) (blocks : List Block) (fault : Fault)
         → CodeText text tables blocks → ¬ FirstFault text fault }
 {}

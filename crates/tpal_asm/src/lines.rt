@@ -1,6 +1,7 @@
 // Lines of a text.
 
-ghost use Rattle.std.specs.Prelude.{◌≡◌, ◌≤◌, ◌+◌, MatchOption, IfSome, length, ◌∷◌, [], ◌++◌, List, ℕ};
+ghost use Rattle.std.specs.Prelude.{◌≡◌, ◌≤◌, ◌+◌, MatchOption, IfSome, length, ◌∷◌, [], ◌++◌};
+ghost use Rattle.std.specs.Prelude.{List, ℕ};
 ghost use Rattle.tpal_asm.specs.Lines.{pieces};
 
 /// The first line of a text, with the byte that ends it, and what stands behind; None where no line

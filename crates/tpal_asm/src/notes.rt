@@ -1,8 +1,12 @@
 // Notes, each read from the front of a text.
 
 ghost use Rattle.std.specs.Prelude.{◌≡◌, codes, Option, Some, None, IfOk, length, List, ◌++◌};
-ghost use Rattle.tpal_print.proofs.Reading.{many, rename_at, next_rename_at, renames_at, carry_at, next_carry_at, carries_at, policy_at, kind_at, target_at, note_at};
-ghost use Rattle.tpal_asm.specs.Reading.{Reads, rest_of, pair_of, onto, carried_rows_rest, carried_cells_rest, cut_rest, target_rest, ready_rest, jtppt_rest, note_rest};
+ghost use Rattle.tpal_print.proofs.Reading.{many, rename_at, next_rename_at, renames_at, carry_at};
+ghost use Rattle.tpal_print.proofs.Reading.{next_carry_at, carries_at, policy_at, kind_at};
+ghost use Rattle.tpal_print.proofs.Reading.{target_at, note_at};
+ghost use Rattle.tpal_asm.specs.Reading.{Reads, rest_of, pair_of, onto, carried_rows_rest};
+ghost use Rattle.tpal_asm.specs.Reading.{carried_cells_rest, cut_rest, target_rest, ready_rest};
+ghost use Rattle.tpal_asm.specs.Reading.{jtppt_rest, note_rest};
 ghost use Rattle.tpal_asm.specs.Labels.{place_of, heads};
 
 use crate::labels::Labels;
@@ -199,7 +203,9 @@ fn target<'a>(
     text: &'a [u8],
     most: usize,
 ) -> Result<Option<(Target, &'a [u8])>, NoMemory>
-    ensures { IfOk result (λ read. Reads rest_of read (target_rest (place_of (heads labels.now.places)) most text.now)) }
+    ensures { IfOk result (λ read.
+        Reads rest_of read (target_rest (place_of (heads labels.now.places)) most
+        text.now)) }
 {
     let Some((comm, rest)) = policy(text) else {
         return Ok(None);
@@ -240,7 +246,9 @@ fn jtppt<'a>(
     text: &'a [u8],
     most: usize,
 ) -> Result<Option<(Note, &'a [u8])>, NoMemory>
-    ensures { IfOk result (λ read. Reads rest_of read (jtppt_rest (place_of (heads labels.now.places)) most text.now)) }
+    ensures { IfOk result (λ read.
+        Reads rest_of read (jtppt_rest (place_of (heads labels.now.places)) most
+        text.now)) }
 {
     match target(alloc, labels, text, most)? {
         None => Ok(None),
@@ -256,7 +264,8 @@ pub fn note<'a>(
     text: &'a [u8],
     most: usize,
 ) -> Result<Option<(Note, &'a [u8])>, NoMemory>
-    ensures { IfOk result (λ read. Reads rest_of read (note_rest (place_of (heads labels.now.places)) most text.now)) }
+    ensures { IfOk result (λ read.
+        Reads rest_of read (note_rest (place_of (heads labels.now.places)) most text.now)) }
 {
     if let Some(rest) = behind(text, b"plain") {
         return Ok(Some((Note::Plain, rest)));

@@ -1,10 +1,14 @@
 // Numbers, words, registers and the other parts of a line, each read from the front of a text.
 
-ghost use Rattle.std.specs.Prelude.{◌≡◌, ◌≤◌, ◌<◌, ◌^◌, ℕ, List, Option, Some, None, IfSome, MatchOption, not, length, take, drop};
+ghost use Rattle.std.specs.Prelude.{◌≡◌, ◌≤◌, ◌<◌, ◌^◌, ℕ, List, Option, Some, None, IfSome};
+ghost use Rattle.std.specs.Prelude.{MatchOption, not, length, take, drop};
 ghost use Rattle.std.specs.Prelude.{codes, ◌∷◌, []};
 ghost use Rattle.tpal_syntax.specs.Parts.{is_letter, is_word_byte};
-ghost use Rattle.tpal_print.proofs.Reading.{after, is_digit, no_digit, digits_at, number_at, word_at, word_bytes, register_at, table_at, label_at, cell_at, place_at, value_at, alu_at, trap_at};
-ghost use Rattle.tpal_asm.specs.Reading.{Reads, rest_of, rests_of, cell_of, reg_rest, name_rest, negative_rest, number_rest};
+ghost use Rattle.tpal_print.proofs.Reading.{after, is_digit, no_digit, digits_at, number_at};
+ghost use Rattle.tpal_print.proofs.Reading.{word_at, word_bytes, register_at, table_at, label_at};
+ghost use Rattle.tpal_print.proofs.Reading.{cell_at, place_at, value_at, alu_at, trap_at};
+ghost use Rattle.tpal_asm.specs.Reading.{Reads, rest_of, rests_of, cell_of, reg_rest, name_rest};
+ghost use Rattle.tpal_asm.specs.Reading.{negative_rest, number_rest};
 ghost use Rattle.tpal_asm.specs.Labels.{place_of, heads};
 
 use crate::labels::Labels;

@@ -1,6 +1,7 @@
 // From a stage to the next one by a line.
 
-ghost use Rattle.std.specs.Prelude.{◌≡◌, ◌≤◌, ◌++◌, ◌∷◌, [], ℕ, List, IfOk, IfErr, true, length, ◌==◌, codes};
+ghost use Rattle.std.specs.Prelude.{◌≡◌, ◌≤◌, ◌++◌, ◌∷◌, [], ℕ, List, IfOk, IfErr, true, length};
+ghost use Rattle.std.specs.Prelude.{◌==◌, codes};
 ghost use Rattle.tpal_syntax.specs.Parts.{is_instr, is_term};
 ghost use Rattle.tpal_asm.specs.Reading.{ended, instr_rest, term_rest};
 ghost use Rattle.tpal_asm.specs.Labels.{heads, names_of, place_of};
@@ -12,7 +13,8 @@ ghost use Rattle.tpal_syntax.specs.declared.blocks.CodeTable.{CodeTable};
 ghost use Rattle.tpal_asm.specs.declared.fault.Wrong.TheVariants as wrongs;
 ghost use Rattle.tpal_print.proofs.Reading.{after};
 ghost use Rattle.tpal_asm.specs.Reading.{Reads, header_rest, table_line_rest};
-ghost use Rattle.tpal_asm.specs.Steps.{seen, Unfit, HandlerUnfit, NoteFits, NoteUnfit, header_of, table_of, is_input_of, IsUnrepeated, TableUnfit};
+ghost use Rattle.tpal_asm.specs.Steps.{seen, Unfit, HandlerUnfit, NoteFits, NoteUnfit, header_of};
+ghost use Rattle.tpal_asm.specs.Steps.{table_of, is_input_of, IsUnrepeated, TableUnfit};
 
 use crate::fault::Wrong;
 use crate::instructions::{instr, term};
@@ -31,9 +33,11 @@ const ANY_LABEL: u32 = 4_294_967_295;
 pub fn step(alloc: Global, labels: &Labels, stage: Stage, line: &[u8]) -> Result<Stage, Wrong>
     requires named { IsNewName (seen stage) }
     requires small { IsWithin (seen stage) }
-    requires front { (more : List (List ℕ)) × (names_of (heads labels.now.places) ≡ block_names stage.blocks.items ++ more) }
+    requires front { (more : List (List ℕ))
+        × (names_of (heads labels.now.places) ≡ block_names stage.blocks.items ++ more) }
     ensures right { IfOk result (λ next. (bytes : List ℕ) → line.now ≡ bytes ++ 10 ∷ [] →
-        Says (heads labels.now.places) (names_of (heads labels.now.places)) (seen stage) bytes (seen next)) }
+        Says (heads labels.now.places) (names_of (heads labels.now.places)) (seen stage) bytes
+        (seen next)) }
     ensures new { IfOk result (λ next. IsNewName (seen next)) }
     ensures within { IfOk result (λ next. IsWithin (seen next)) }
     ensures wrong { IfErr result (λ w. OnWrong w ((bytes : List ℕ) → line.now ≡ bytes ++ 10 ∷ [] →
@@ -63,11 +67,13 @@ fn inside(
     requires named { is_among begun.name (block_names blocks.items) ≡ false }
     ensures right { IfOk result (λ next. (bytes : List ℕ) → line.now ≡ bytes ++ 10 ∷ [] →
         Says (heads labels.now.places) (names_of (heads labels.now.places))
-        (Inside tables.items blocks.items begun.name begun.note begun.body.items) bytes (seen next)) }
+        (Inside tables.items blocks.items begun.name begun.note begun.body.items) bytes
+        (seen next)) }
     ensures new { IfOk result (λ next. IsNewName (seen next)) }
     ensures within { IfOk result (λ next. IsWithin (seen next)) }
     ensures wrong { IfErr result (λ w. OnWrong w ((bytes : List ℕ) → line.now ≡ bytes ++ 10 ∷ [] →
-        IsWrong (heads labels.now.places) (Inside tables.items blocks.items begun.name begun.note begun.body.items) bytes w)) }
+        IsWrong (heads labels.now.places)
+        (Inside tables.items blocks.items begun.name begun.note begun.body.items) bytes w)) }
 {
     let Some(rest) = behind(line, b"  ") else {
         return Err(Wrong::Form);
@@ -115,7 +121,8 @@ fn with_instr(
     ensures next { IfOk result (λ next. seen next ≡
         Inside tables.items blocks.items begun.name begun.note (begun.body.items ++ instr ∷ [])) }
     ensures wrong { IfErr result (λ w.
-        Unfit (λ labels. is_instr (length tables.items) labels instr) (length (names_of (heads labels.now.places))) w) }
+        Unfit (λ labels. is_instr (length tables.items) labels instr)
+        (length (names_of (heads labels.now.places))) w) }
 {
     if !is_instr(tables.len() as u8, ANY_LABEL, instr) {
         return Err(Wrong::Form);
@@ -143,10 +150,14 @@ fn with_end(
     begun: Begun,
     term: Term,
 ) -> Result<Stage, Wrong>
-    ensures fits { IfOk result (λ next. is_term (length (names_of (heads labels.now.places))) term ≡ true) }
+    ensures fits { IfOk result (λ next.
+        is_term (length (names_of (heads labels.now.places))) term ≡ true) }
     ensures next { IfOk result (λ next. seen next ≡ Outside tables.items (blocks.items
-        ++ record { name = begun.name; note = begun.note; body = begun.body.items; term = term } ∷ [])) }
-    ensures wrong { IfErr result (λ w. Unfit (λ labels. is_term labels term) (length (names_of (heads labels.now.places))) w) }
+        ++ record { name = begun.name; note = begun.note; body = begun.body.items; term = term }
+        ∷ [])) }
+    ensures wrong { IfErr result (λ w.
+        Unfit (λ labels. is_term labels term) (length (names_of (heads labels.now.places)))
+        w) }
 {
     if !is_term(ANY_LABEL, term) {
         return Err(Wrong::Form);
@@ -177,9 +188,11 @@ fn outside(
     line: &[u8],
 ) -> Result<Stage, Wrong>
     requires few { length tables.items ≤ 16 }
-    requires front { (more : List (List ℕ)) × (names_of (heads labels.now.places) ≡ block_names blocks.items ++ more) }
+    requires front { (more : List (List ℕ))
+        × (names_of (heads labels.now.places) ≡ block_names blocks.items ++ more) }
     ensures right { IfOk result (λ next. (bytes : List ℕ) → line.now ≡ bytes ++ 10 ∷ [] →
-        Says (heads labels.now.places) (names_of (heads labels.now.places)) (Outside tables.items blocks.items) bytes (seen next)) }
+        Says (heads labels.now.places) (names_of (heads labels.now.places))
+        (Outside tables.items blocks.items) bytes (seen next)) }
     ensures new { IfOk result (λ next. IsNewName (seen next)) }
     ensures within { IfOk result (λ next. IsWithin (seen next)) }
     ensures wrong { IfErr result (λ w. OnWrong w ((bytes : List ℕ) → line.now ≡ bytes ++ 10 ∷ [] →
@@ -199,8 +212,11 @@ fn outside(
 
 // The line of a table, behind its first word.
 fn table(alloc: Global, mut tables: Vec<CodeTable>, text: &[u8]) -> Result<Stage, Wrong>
-    ensures read { IfOk result (λ next. (table : CodeTable) × (ended (table_line_rest text.now) ≡ Some (length tables.items, table))
-        × IsUnrepeated tables.items table × (length tables.items < 16) × (seen next ≡ Outside (tables.items ++ table ∷ []) [])) }
+    ensures read { IfOk result (λ next.
+        (table : CodeTable)
+        × (ended (table_line_rest text.now) ≡ Some (length tables.items, table))
+        × IsUnrepeated tables.items table × (length tables.items < 16)
+        × (seen next ≡ Outside (tables.items ++ table ∷ []) [])) }
     ensures wrong { IfErr result (λ w. TableUnfit tables.items text.now w) }
 {
     let table = read_table(alloc, &tables, text)?;
@@ -217,10 +233,12 @@ fn table(alloc: Global, mut tables: Vec<CodeTable>, text: &[u8]) -> Result<Stage
 
 // The table of a line, behind its first word; its number is the next one, and its name is new.
 fn read_table(alloc: Global, tables: &[CodeTable], text: &[u8]) -> Result<CodeTable, Wrong>
-    ensures read { IfOk result (λ table. ended (table_line_rest text.now) ≡ Some (length tables.now, table)) }
+    ensures read { IfOk result (λ table.
+        ended (table_line_rest text.now) ≡ Some (length tables.now, table)) }
     ensures new { IfOk result (λ table. IsUnrepeated tables.now table) }
     ensures wrong { IfErr result (λ w. OnWrong w ((w ≡ wrongs.Form) × ((table : CodeTable) →
-        ended (table_line_rest text.now) ≡ Some (length tables.now, table) → ¬ IsUnrepeated tables.now table))) }
+        ended (table_line_rest text.now) ≡ Some (length tables.now, table) →
+        ¬ IsUnrepeated tables.now table))) }
 {
     let Some((number, table, rest)) = table_line(text) else {
         return Err(Wrong::Form);
@@ -286,10 +304,12 @@ fn header(
     line: &[u8],
 ) -> Result<Stage, Wrong>
     requires few { length tables.items ≤ 16 }
-    requires front { (more : List (List ℕ)) × (names_of (heads labels.now.places) ≡ block_names blocks.items ++ more) }
+    requires front { (more : List (List ℕ))
+        × (names_of (heads labels.now.places) ≡ block_names blocks.items ++ more) }
     requires no_table { after (codes "table t") line.now ≡ None }
     ensures right { IfOk result (λ next. (bytes : List ℕ) → line.now ≡ bytes ++ 10 ∷ [] →
-        Says (heads labels.now.places) (names_of (heads labels.now.places)) (Outside tables.items blocks.items) bytes (seen next)) }
+        Says (heads labels.now.places) (names_of (heads labels.now.places))
+        (Outside tables.items blocks.items) bytes (seen next)) }
     ensures new { IfOk result (λ next. IsNewName (seen next)) }
     ensures within { IfOk result (λ next. IsWithin (seen next)) }
     ensures wrong { IfErr result (λ w. OnWrong w ((bytes : List ℕ) → line.now ≡ bytes ++ 10 ∷ [] →
@@ -326,7 +346,9 @@ pub fn read_header<'a>(
     labels: &Labels,
     line: &'a [u8],
 ) -> Result<Option<(&'a [u8], Note)>, NoMemory>
-    ensures { IfOk result (λ read. Reads header_of read (ended (header_rest (place_of (heads labels.now.places)) line.now))) }
+    ensures { IfOk result (λ read.
+        Reads header_of read (ended (header_rest (place_of (heads labels.now.places))
+        line.now))) }
 {
     let Some((name, rest)) = word(line) else {
         return Ok(None);

@@ -1,5 +1,7 @@
 -- The conditions that every code meets.
-use Rattle.std.specs.Prelude.{◌≡◌, ◌≢◌, ℕ, ◌<◌, ◌≤◌, Bool, true, false, ◌&&◌, ◌||◌, not, List, [], ◌∷◌, length, map, ◌==◌, IsTrue, AllPairs, slice_get, Option, Some, None}
+use Rattle.std.specs.Prelude.{◌≡◌, ◌≢◌, ℕ, ◌<◌, ◌≤◌, Bool, true, false, ◌&&◌, ◌||◌, not, List, []}
+use Rattle.std.specs.Prelude.{◌∷◌, length, map, ◌==◌, IsTrue, AllPairs, slice_get, Option, Some}
+use Rattle.std.specs.Prelude.{None}
 use Rattle.std.specs.List.{list_all, AllByRecursion}
 use Rattle.tpal_syntax.specs.declared.blocks.Block.{Block}
 use Rattle.tpal_syntax.specs.declared.blocks.CodeTable.{CodeTable}
@@ -28,7 +30,8 @@ are_distinct_names (p ∷ ps) = not (p.0 == p.1) && list_all (are_apart p) ps &&
 -- a table stands once
 abbrev pub are_distinct_tables : List CarryAt → Bool
 are_distinct_tables [] = true
-are_distinct_tables (c ∷ cs) = list_all (λ d. not (table_of c == table_of d)) cs && are_distinct_tables cs
+are_distinct_tables (c ∷ cs) =
+    list_all (λ d. not (table_of c == table_of d)) cs && are_distinct_tables cs
 
 -- ---- notes
 

@@ -1,11 +1,18 @@
--- Tests of the parts of a code: names, registers, labels, tables, numbers, operands, instructions, ends.
-use Rattle.std.specs.Prelude.{ℕ, Bool, true, false, ◌&&◌, ◌||◌, List, [], ◌∷◌, nat_lt, nat_le, ◌==◌, ℤ, pos, negsuc}
+-- Tests of the parts of a code: names, registers, labels, tables, numbers, operands, instructions,
+-- ends.
+use Rattle.std.specs.Prelude.{ℕ, Bool, true, false, ◌&&◌, ◌||◌, List, [], ◌∷◌, nat_lt, nat_le, ◌==◌}
+use Rattle.std.specs.Prelude.{ℤ, pos, negsuc}
 use Rattle.std.specs.List.{list_all}
 use Rattle.tp_value.specs.declared.values.Place.{Place}
 use Rattle.tpal_syntax.specs.declared.instructions.Value.{Value}
 use Rattle.tpal_syntax.specs.declared.instructions.Value.TheVariants.{Reg, Int, Label, Nil}
 use Rattle.tpal_syntax.specs.declared.instructions.Instr.{Instr}
-use Rattle.tpal_syntax.specs.declared.instructions.Instr.TheVariants.{Move, Calc, IfJump, Load, Store, Salloc, Sfree, PrmPush, PrmPop, PrmDrop, PrmEmpty, PrmSplit, JrAlloc, Fork, Fetch, Put, Rows, Cols, Make, Tick, Trap, Print, Emit}
+use Rattle.tpal_syntax.specs.declared.instructions.Instr.TheVariants.{Move, Calc, IfJump, Load}
+use Rattle.tpal_syntax.specs.declared.instructions.Instr.TheVariants.{Store, Salloc, Sfree, PrmPush}
+use Rattle.tpal_syntax.specs.declared.instructions.Instr.TheVariants.{PrmPop, PrmDrop, PrmEmpty}
+use Rattle.tpal_syntax.specs.declared.instructions.Instr.TheVariants.{PrmSplit, JrAlloc, Fork}
+use Rattle.tpal_syntax.specs.declared.instructions.Instr.TheVariants.{Fetch, Put, Rows, Cols, Make}
+use Rattle.tpal_syntax.specs.declared.instructions.Instr.TheVariants.{Tick, Trap, Print, Emit}
 use Rattle.tpal_syntax.specs.declared.instructions.Term.{Term}
 use Rattle.tpal_syntax.specs.declared.instructions.Term.TheVariants.{Jump, Halt, Join}
 use Rattle.tpal_syntax.specs.declared.notes.CarryAt.{CarryAt}
@@ -57,24 +64,30 @@ is_value blocks Nil = true
 -- an instruction, where tables are below the first number and labels below the second
 abbrev pub is_instr : ℕ → ℕ → Instr → Bool
 is_instr tables blocks (Move to value) = is_register to && is_value blocks value
-is_instr tables blocks (Calc to left alu right) = is_register to && is_register left && is_value blocks right
+is_instr tables blocks (Calc to left alu right) =
+    is_register to && is_register left && is_value blocks right
 is_instr tables blocks (IfJump test label) = is_register test && nat_lt label blocks
 is_instr tables blocks (Load to base off) = is_register to && is_register base && is_offset off
-is_instr tables blocks (Store base off value) = is_register base && is_offset off && is_value blocks value
+is_instr tables blocks (Store base off value) =
+    is_register base && is_offset off && is_value blocks value
 is_instr tables blocks (Salloc n) = is_size n
 is_instr tables blocks (Sfree n) = is_size n
-is_instr tables blocks (PrmPush base off cells split) = is_register base && is_offset off && is_size cells && nat_lt split blocks
+is_instr tables blocks (PrmPush base off cells split) =
+    is_register base && is_offset off && is_size cells && nat_lt split blocks
 is_instr tables blocks (PrmPop base off) = is_register base && is_offset off
 is_instr tables blocks PrmDrop = true
 is_instr tables blocks (PrmEmpty r) = is_register r
 is_instr tables blocks (PrmSplit base split) = is_register base && is_register split
 is_instr tables blocks (JrAlloc to target) = is_register to && nat_lt target blocks
 is_instr tables blocks (Fork rec child) = is_register rec && nat_lt child blocks
-is_instr tables blocks (Fetch to table row col) = is_register to && nat_lt table tables && is_register row && is_register col
-is_instr tables blocks (Put table row col value) = nat_lt table tables && is_register row && is_register col && is_register value
+is_instr tables blocks (Fetch to table row col) =
+    is_register to && nat_lt table tables && is_register row && is_register col
+is_instr tables blocks (Put table row col value) =
+    nat_lt table tables && is_register row && is_register col && is_register value
 is_instr tables blocks (Rows to table) = is_register to && nat_lt table tables
 is_instr tables blocks (Cols to table) = is_register to && nat_lt table tables
-is_instr tables blocks (Make table rows cols place) = nat_lt table tables && is_register rows && is_register cols && is_place place
+is_instr tables blocks (Make table rows cols place) =
+    nat_lt table tables && is_register rows && is_register cols && is_place place
 is_instr tables blocks Tick = true
 is_instr tables blocks (Trap kind place) = is_place place
 is_instr tables blocks (Print r) = is_register r
@@ -89,7 +102,8 @@ is_term blocks (Join r) = is_register r
 -- an item of a carry list, where tables are below this number
 abbrev pub is_carry : ℕ → CarryAt → Bool
 is_carry tables (carry.Rows table at) = nat_lt table tables && is_register at
-is_carry tables (carry.Cells table row at) = nat_lt table tables && is_register row && is_register at
+is_carry tables (carry.Cells table row at) =
+    nat_lt table tables && is_register row && is_register at
 
 -- the table of an item
 abbrev pub table_of : CarryAt → ℕ

@@ -1,5 +1,6 @@
 -- The one text of a code. Labels are written by the names of their blocks.
-use Rattle.std.specs.Prelude.{◌≡◌, ℕ, ◌+◌, Bool, true, false, List, [], ◌∷◌, ◌++◌, slice_index_or, codes}
+use Rattle.std.specs.Prelude.{◌≡◌, ℕ, ◌+◌, Bool, true, false, List, [], ◌∷◌, ◌++◌, slice_index_or}
+use Rattle.std.specs.Prelude.{codes}
 use Rattle.std.specs.List.{flat_map, join_by}
 use Rattle.std.specs.Fmt.{decimal, signed_decimal}
 use Rattle.tp_value.specs.declared.values.Place.{Place}
@@ -10,7 +11,12 @@ use Rattle.tpal_syntax.specs.declared.instructions.Value.TheVariants.{Reg, Int, 
 use Rattle.tpal_syntax.specs.declared.instructions.Alu.{Alu}
 use Rattle.tpal_syntax.specs.declared.instructions.Alu.TheVariants as alu
 use Rattle.tpal_syntax.specs.declared.instructions.Instr.{Instr}
-use Rattle.tpal_syntax.specs.declared.instructions.Instr.TheVariants.{Move, Calc, IfJump, Load, Store, Salloc, Sfree, PrmPush, PrmPop, PrmDrop, PrmEmpty, PrmSplit, JrAlloc, Fork, Fetch, Put, Rows, Cols, Make, Tick, Trap, Print, Emit}
+use Rattle.tpal_syntax.specs.declared.instructions.Instr.TheVariants.{Move, Calc, IfJump, Load}
+use Rattle.tpal_syntax.specs.declared.instructions.Instr.TheVariants.{Store, Salloc, Sfree, PrmPush}
+use Rattle.tpal_syntax.specs.declared.instructions.Instr.TheVariants.{PrmPop, PrmDrop, PrmEmpty}
+use Rattle.tpal_syntax.specs.declared.instructions.Instr.TheVariants.{PrmSplit, JrAlloc, Fork}
+use Rattle.tpal_syntax.specs.declared.instructions.Instr.TheVariants.{Fetch, Put, Rows, Cols, Make}
+use Rattle.tpal_syntax.specs.declared.instructions.Instr.TheVariants.{Tick, Trap, Print, Emit}
 use Rattle.tpal_syntax.specs.declared.instructions.Term.{Term}
 use Rattle.tpal_syntax.specs.declared.instructions.Term.TheVariants.{Jump, Halt, Join}
 use Rattle.tpal_syntax.specs.declared.notes.CutKind.{CutKind}
@@ -80,26 +86,42 @@ trap_text Wide = codes "Wide"
 
 abbrev pub instr_text : List (List ℕ) → Instr → List ℕ
 instr_text names (Move to value) = register_text to +++ codes " := " +++ value_text names value
-instr_text names (Calc to left alu right) = register_text to +++ codes " := " +++ register_text left +++ codes " " +++ alu_text alu +++ codes " " +++ value_text names right
-instr_text names (IfJump test label) = codes "if-jump " +++ register_text test +++ codes ", " +++ label_text names label
+instr_text names (Calc to left alu right) =
+    register_text to +++ codes " := " +++ register_text left +++ codes " " +++ alu_text alu
+    +++ codes " " +++ value_text names right
+instr_text names (IfJump test label) =
+    codes "if-jump " +++ register_text test +++ codes ", " +++ label_text names label
 instr_text names (Load to base off) = register_text to +++ codes " := " +++ cell_text base off
-instr_text names (Store base off value) = cell_text base off +++ codes " := " +++ value_text names value
+instr_text names (Store base off value) =
+    cell_text base off +++ codes " := " +++ value_text names value
 instr_text names (Salloc n) = codes "salloc " +++ decimal n
 instr_text names (Sfree n) = codes "sfree " +++ decimal n
-instr_text names (PrmPush base off cells split) = codes "prmpush " +++ cell_text base off +++ codes ", " +++ decimal cells +++ codes ", " +++ label_text names split
+instr_text names (PrmPush base off cells split) =
+    codes "prmpush " +++ cell_text base off +++ codes ", " +++ decimal cells +++ codes ", "
+    +++ label_text names split
 instr_text names (PrmPop base off) = codes "prmpop " +++ cell_text base off
 instr_text names PrmDrop = codes "prmdrop"
 instr_text names (PrmEmpty r) = codes "prmempty " +++ register_text r
-instr_text names (PrmSplit base split) = codes "prmsplit " +++ register_text base +++ codes ", " +++ register_text split
-instr_text names (JrAlloc to target) = register_text to +++ codes " := jralloc " +++ label_text names target
-instr_text names (Fork rec child) = codes "fork " +++ register_text rec +++ codes ", " +++ label_text names child
-instr_text names (Fetch to table row col) = register_text to +++ codes " := fetch " +++ table_text table +++ codes ", " +++ register_text row +++ codes ", " +++ register_text col
-instr_text names (Put table row col value) = codes "put " +++ table_text table +++ codes ", " +++ register_text row +++ codes ", " +++ register_text col +++ codes ", " +++ register_text value
+instr_text names (PrmSplit base split) =
+    codes "prmsplit " +++ register_text base +++ codes ", " +++ register_text split
+instr_text names (JrAlloc to target) =
+    register_text to +++ codes " := jralloc " +++ label_text names target
+instr_text names (Fork rec child) =
+    codes "fork " +++ register_text rec +++ codes ", " +++ label_text names child
+instr_text names (Fetch to table row col) =
+    register_text to +++ codes " := fetch " +++ table_text table +++ codes ", "
+    +++ register_text row +++ codes ", " +++ register_text col
+instr_text names (Put table row col value) =
+    codes "put " +++ table_text table +++ codes ", " +++ register_text row +++ codes ", "
+    +++ register_text col +++ codes ", " +++ register_text value
 instr_text names (Rows to table) = register_text to +++ codes " := rows " +++ table_text table
 instr_text names (Cols to table) = register_text to +++ codes " := cols " +++ table_text table
-instr_text names (Make table rows cols place) = codes "make " +++ table_text table +++ codes ", " +++ register_text rows +++ codes ", " +++ register_text cols +++ codes ", " +++ place_text place
+instr_text names (Make table rows cols place) =
+    codes "make " +++ table_text table +++ codes ", " +++ register_text rows +++ codes ", "
+    +++ register_text cols +++ codes ", " +++ place_text place
 instr_text names Tick = codes "tick"
-instr_text names (Trap kind place) = codes "trap " +++ trap_text kind +++ codes ", " +++ place_text place
+instr_text names (Trap kind place) =
+    codes "trap " +++ trap_text kind +++ codes ", " +++ place_text place
 instr_text names (Print r) = codes "print " +++ register_text r
 instr_text names (Emit table) = codes "emit " +++ table_text table
 
@@ -115,7 +137,8 @@ rename_text p = register_text p.0 +++ codes " -> " +++ register_text p.1
 
 abbrev pub carry_text : CarryAt → List ℕ
 carry_text (carry.Rows table at) = table_text table +++ codes " rows " +++ register_text at
-carry_text (carry.Cells table row at) = table_text table +++ codes " cells " +++ register_text row +++ codes " " +++ register_text at
+carry_text (carry.Cells table row at) =
+    table_text table +++ codes " cells " +++ register_text row +++ codes " " +++ register_text at
 
 abbrev pub carries_text : List CarryAt → List ℕ
 carries_text [] = codes "none"
@@ -130,7 +153,10 @@ kind_text cut.Loop = codes "loop"
 kind_text cut.Call = codes "call"
 
 abbrev pub target_text : List (List ℕ) → Target → List ℕ
-target_text names t = codes "jtppt " +++ policy_text t.comm +++ codes "; {" +++ join_by rename_text (codes ", ") t.renames +++ codes "}; " +++ label_text names t.comb +++ codes "; " +++ kind_text t.kind +++ codes "; carry " +++ carries_text t.carries
+target_text names t =
+    codes "jtppt " +++ policy_text t.comm +++ codes "; {"
+    +++ join_by rename_text (codes ", ") t.renames +++ codes "}; " +++ label_text names t.comb
+    +++ codes "; " +++ kind_text t.kind +++ codes "; carry " +++ carries_text t.carries
 
 abbrev pub note_text : List (List ℕ) → Note → List ℕ
 note_text names note.Plain = codes "plain"

@@ -1,9 +1,12 @@
 // Whether lists of tables and blocks meet the conditions on codes.
 
-ghost use Rattle.std.specs.Prelude.{◌≡◌, ◌<◌, ◌≤◌, ◌↔◌, ◌^◌, ◌&&◌, ◌==◌, not, length, map, IsTrue, IfOk};
+ghost use Rattle.std.specs.Prelude.{◌≡◌, ◌<◌, ◌≤◌, ◌↔◌, ◌^◌, ◌&&◌, ◌==◌, not, length, map, IsTrue};
+ghost use Rattle.std.specs.Prelude.{IfOk};
 ghost use Rattle.std.specs.List.{list_all, AllByRecursion};
 ghost use Rattle.tpal_syntax.specs.Parts.{is_word, is_instr, is_carry, table_of};
-ghost use Rattle.tpal_syntax.specs.Conditions.{is_renamed, are_apart, are_distinct_names, are_distinct_tables, IsTarget, is_ready, IsNote, IsBlock, AreInputs, IsCode};
+ghost use Rattle.tpal_syntax.specs.Conditions.{is_renamed, are_apart, are_distinct_names};
+ghost use Rattle.tpal_syntax.specs.Conditions.{are_distinct_tables, IsTarget, is_ready, IsNote};
+ghost use Rattle.tpal_syntax.specs.Conditions.{IsBlock, AreInputs, IsCode};
 
 use crate::blocks::{Block, CodeTable};
 use crate::instructions::Instr;

@@ -108,8 +108,8 @@ pub enum Instr {
         to: u8,
         target: u32,
     },
-    /// `fork rA, @l`: cuts the oldest mark's work in two under the record in `rec`; the child starts
-    /// at l.
+    /// `fork rA, @l`: cuts the oldest mark's work in two under the record in `rec`; the child
+    /// starts at l.
     Fork {
         rec: u8,
         child: u32,
@@ -138,7 +138,8 @@ pub enum Instr {
         to: u8,
         table: u8,
     },
-    /// `make tK, rA, rB, line, col`: makes a table of zeros, of the rows and columns in two registers.
+    /// `make tK, rA, rB, line, col`: makes a table of zeros, of the rows and columns in two
+    /// registers.
     Make {
         table: u8,
         rows: u8,

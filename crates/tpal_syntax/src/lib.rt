@@ -1,7 +1,8 @@
 //! The types of a code: words, instructions, blocks with their notes, whole codes, and the sites of
 //! loops and calls from which handlers and joins are made. It stands on `tp_value`.
 //! A `Code` meets all conditions on codes: `Code::new` is the only way to one. `specs/` says what
-//! these conditions are, and what the one text of a code is. Start with `instructions` and `blocks`.
+//! these conditions are, and what the one text of a code is. Start with `instructions` and
+//! `blocks`.
 #![tactic(auto)]
 
 mod blocks;

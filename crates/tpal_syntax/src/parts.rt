@@ -2,7 +2,8 @@
 
 ghost use Rattle.std.specs.Prelude.{◌≡◌};
 ghost use Rattle.std.specs.List.{list_all};
-ghost use Rattle.tpal_syntax.specs.Parts.{is_letter, is_word_byte, is_word, is_register, is_offset, is_size, is_place, is_value, is_instr, is_term, is_carry};
+ghost use Rattle.tpal_syntax.specs.Parts.{is_letter, is_word_byte, is_word, is_register, is_offset};
+ghost use Rattle.tpal_syntax.specs.Parts.{is_size, is_place, is_value, is_instr, is_term, is_carry};
 
 use crate::instructions::{Instr, Term, Value};
 use crate::notes::CarryAt;
