@@ -10,6 +10,8 @@ pub mod SpanLists
 pub mod Maps
 -- where cells are after a cut
 pub mod Cuts
+-- one flat span
+pub mod Flats
 -- spans cut at a position, one after another
 pub mod Splits
 -- what a store is seen as, and tests of positions against rows and columns

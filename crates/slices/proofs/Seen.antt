@@ -12,6 +12,8 @@ use Rattle.std.specs.FinMap.{get, empty, insert}
 use Rattle.slices.specs.Cells.{first_cells, at_place, StandsAt, with_number, place_of}
 use Rattle.slices.specs.Holding.{Holding, held_where, with_cell, together, IsWhole, CommonCell, SameSize}
 use Rattle.slices.specs.Spans.{or_else, between, spans_at, holders, AreApart}
+use Rattle.slices.specs.Stored.{stored, store_at, is_owned}
+use Rattle.slices.specs.declared.store.Store.{Store}
 use Rattle.slices.specs.declared.spans.Span.{Span}
 use Rattle.slices.proofs.Maps.{first_cells_at, cells_where, cells_union, cells_insert, inside_size, place_inside, at_each_place}
 use Rattle.slices.proofs.Cuts.{holders_none}
@@ -33,6 +35,10 @@ seen_with rows cols f g o p row col at value (r, c, er, ec, h, k, ei) e t =
 
 pub seen_same : (rows cols : ℕ) (f g : ℕ → Option ℤ) (o p : Bool) → ((i : ℕ) → g i ≡ f i) → p ≡ o → seen rows cols g p ≡ seen rows cols f o
 seen_same rows cols f g o p e t = λ i. record { rows = rows; cols = cols; cells = first_cells cols (λ n. e n i) (rows * cols); owned = t i }
+
+-- pieces in place of flat cells
+pub opened_view : (rows cols : ℕ) (s o : Store) (h : Holding) → stored o ≡ stored s → is_owned o ≡ is_owned s → seen rows cols (store_at s) (is_owned s) ≡ h → seen rows cols (store_at o) (is_owned o) ≡ h
+opened_view rows cols s o h e t v = seen_same rows cols (store_at s) (store_at o) (is_owned s) (is_owned o) (λ i. ap (λ xs. spans_at xs i) e) t ∙ v
 
 -- the cell at a position
 pub at_stands : (rows cols : ℕ) (f : ℕ → Option ℤ) (row col : ℤ) (i : ℕ) → StandsAt rows cols row col i → get (first_cells cols f (rows * cols)) (row, col) ≡ f i

@@ -1,7 +1,7 @@
 -- Cells kept in stretches that follow one another row by row, each counted from its first position.
 use Rattle.std.specs.Prelude.{◌≡◌, ℕ, ◌+◌, ◌-◌, ◌/◌, ◌%◌, ◌≤◌, nat_le, nat_lt, ◌&&◌, if◌then◌else◌}
 use Rattle.std.specs.Prelude.{ℤ, pos, Option, None, Some, List, [], ◌∷◌, slice_get, slice_index_or}
-use Rattle.std.specs.Prelude.{Box}
+use Rattle.std.specs.Prelude.{Box, Vec}
 use Rattle.std.specs.Global.{Global}
 use Rattle.slices.specs.declared.stretches.Stretch.{Stretch}
 use Rattle.slices.specs.declared.chunks.Chunks.{Chunks}
@@ -55,6 +55,10 @@ chunks_at chunks i = between chunks.start chunks.end i (in_list chunks.start chu
 abbrev pub span_at : Span → ℕ → Option ℤ
 span_at (Flat stretch) i = stretch_at stretch i
 span_at (Cut chunks) i = chunks_at chunks i
+
+-- all cells of a table, row by row
+abbrev pub flat_span : Vec ℤ Global → Span
+flat_span cells = Flat (record { start = 0; cells = cells })
 
 -- where a span's cells begin, if it has any
 abbrev pub span_start : Span → ℕ

@@ -1,19 +1,21 @@
 -- The pieces of one value, owned by it or shared with others.
-use Rattle.std.specs.Prelude.{◌≡◌, ℤ, ℕ, Bool, true, false, Option, List}
+use Rattle.std.specs.Prelude.{◌≡◌, ℤ, ℕ, Bool, true, false, Option, List, [], ◌∷◌}
 use Rattle.std.specs.Arc.{arc_value}
 use Rattle.std.specs.Vec.{vec_len}
-use Rattle.slices.specs.Spans.{spans_at, holders}
+use Rattle.slices.specs.Spans.{spans_at, holders, flat_span}
 use Rattle.slices.specs.Pieces.{spans_of}
 use Rattle.slices.specs.declared.spans.Span.{Span}
 use Rattle.slices.specs.declared.store.Store.{Store}
-use Rattle.slices.specs.declared.store.Store.TheVariants.{Owned, Shared}
+use Rattle.slices.specs.declared.store.Store.TheVariants.{Whole, Owned, Shared}
 
 abbrev pub stored : Store → List Span
+stored (Whole cells) = flat_span cells ∷ []
 stored (Owned pieces) = spans_of pieces
 stored (Shared pieces) = spans_of (arc_value pieces)
 
 -- how many spans it has beside the first
 abbrev pub further_spans : Store → ℕ
+further_spans (Whole cells) = 0
 further_spans (Owned pieces) = vec_len pieces.more
 further_spans (Shared pieces) = vec_len (arc_value pieces).more
 
@@ -24,8 +26,15 @@ abbrev pub reaching_in : Store → ℕ → ℕ
 reaching_in store i = holders (stored store) i
 
 abbrev pub is_owned : Store → Bool
+is_owned (Whole cells) = true
 is_owned (Owned pieces) = true
 is_owned (Shared pieces) = false
+
+-- the cells are in pieces
+abbrev pub is_open : Store → Bool
+is_open (Whole cells) = false
+is_open (Owned pieces) = true
+is_open (Shared pieces) = true
 
 -- the same cells, owned or shared as before
 pub record SameStored (old new : Store) : Type 0 where

@@ -2,11 +2,12 @@
 
 ghost use Rattle.std.specs.Prelude.{◌≡◌, ℕ, ◌+◌, ◌*◌, ◌<◌, ◌≤◌, ◌==◌, ◌&&◌, if◌then◌else◌, nat_le};
 ghost use Rattle.std.specs.Prelude.{nat_lt, Some, None, IsSome, IfOk, OnOk, OnErr, MatchOption};
-ghost use Rattle.std.specs.Prelude.{is_some, is_ok, slice_get, length, []};
+ghost use Rattle.std.specs.Prelude.{is_some, is_ok, length, [], ◌∷◌};
 ghost use Rattle.std.specs.Bool.{OnTrue, OnFalse};
 ghost use Rattle.std.specs.Vec.{vec_len, vec_capacity};
 ghost use Rattle.slices.specs.Spans.{span_at, spans_at, holders, count, or_else, between, AreApart};
 ghost use Rattle.slices.specs.Pieces.{spans_of, piece_at, reaching};
+ghost use Rattle.slices.specs.Spans.{flat_span};
 
 use crate::spans::Span;
 use std::alloc::{AllocError, Global};
@@ -21,8 +22,7 @@ pub(crate) struct Pieces {
 impl Pieces {
     /// All cells of a table, row by row.
     pub(crate) fn whole(alloc: Global, cells: Vec<i64>) -> Pieces
-        ensures cells { (i : ℕ) → piece_at result i ≡ slice_get cells.items i }
-        ensures reaching { (i : ℕ) → reaching result i ≡ count (slice_get cells.items i) }
+        ensures { spans_of result ≡ flat_span cells ∷ [] }
     {
         Pieces {
             first: Span::whole(cells),

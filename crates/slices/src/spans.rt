@@ -4,7 +4,7 @@ ghost use Rattle.std.specs.Prelude.{◌≡◌, ℕ, ◌+◌, ◌-◌, ◌<◌, �
 ghost use Rattle.std.specs.Prelude.{Some, None, true, IsTrue, IsSome, IfOk, OnOk, OnErr, is_some};
 ghost use Rattle.std.specs.Prelude.{length, []};
 ghost use Rattle.std.specs.Bool.{OnTrue, OnFalse};
-ghost use Rattle.slices.specs.Spans.{slot, stretch_at, span_at, span_start, or_else, count};
+ghost use Rattle.slices.specs.Spans.{flat_span, stretch_at, span_at, span_start, or_else, count};
 ghost use Rattle.slices.specs.Spans.{between};
 
 use crate::boxes::CHUNK;
@@ -24,7 +24,7 @@ pub(crate) enum Span {
 impl Span {
     /// All cells of a table, row by row.
     pub(crate) fn whole(cells: Vec<i64>) -> Span
-        ensures { (i : ℕ) → span_at result i ≡ slot 0 cells.items i }
+        ensures { result ≡ flat_span cells }
     {
         Span::Flat(Stretch { start: 0, cells })
     }

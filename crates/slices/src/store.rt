@@ -3,26 +3,72 @@
 ghost use Rattle.std.specs.Prelude.{◌≡◌, ℕ, ◌+◌, ◌<◌, ◌≤◌, ◌==◌, ◌&&◌, if◌then◌else◌, nat_le};
 ghost use Rattle.std.specs.Prelude.{nat_lt, None, Some, true, false, is_some, IsSome, IfOk, IfErr};
 ghost use Rattle.std.specs.Prelude.{OnOk, OnErr};
+ghost use Rattle.std.specs.Bool.{OnTrue, OnFalse};
 ghost use Rattle.std.specs.Vec.{vec_len, vec_capacity};
 ghost use Rattle.slices.specs.Spans.{or_else, between, AreApart};
 ghost use Rattle.slices.specs.Pieces.{piece_at, reaching};
-ghost use Rattle.slices.specs.Stored.{stored, store_at, reaching_in, is_owned, further_spans};
-ghost use Rattle.slices.specs.Stored.{SameStored};
+ghost use Rattle.slices.specs.Stored.{stored, store_at, reaching_in, is_owned, is_open};
+ghost use Rattle.slices.specs.Stored.{further_spans, SameStored};
 
 use crate::pieces::Pieces;
 use std::alloc::{AllocError, Global};
 use std::mem::replace;
 use std::sync::Arc;
 
-/// Pieces that are written in place, or read by several values.
+/// Cells that are written in place, flat from position 0 on or in pieces, or pieces that several
+/// values read. A table's cells are flat until it is cut or shared.
 #[derive(Drop)]
 pub(crate) enum Store {
+    Whole(Vec<i64>),
     Owned(Pieces),
     Shared(Arc<Pieces, Global>),
 }
 
 impl Store {
+    /// Puts flat cells into pieces. It takes no memory.
+    pub(crate) fn open(&mut self)
+        ensures spans { stored self.new ≡ stored self.old }
+        ensures owned { is_owned self.new ≡ is_owned self.old }
+        ensures open { is_open self.new ≡ true }
+    {
+        if let Store::Whole(cells) = self {
+            let alloc = *cells.allocator();
+            let cells = replace(cells, Vec::new(alloc));
+            *self = Store::Owned(Pieces::whole(alloc, cells));
+        }
+    }
+
+    #[inline(always)]
+    pub(crate) fn get(&self, at: usize) -> Option<i64>
+        ensures { result ≡ store_at self.now at }
+    {
+        match self {
+            Store::Whole(cells) => {
+                if at < cells.len() {
+                    Some(cells[at])
+                } else {
+                    None
+                }
+            }
+            Store::Owned(pieces) => pieces.get(at),
+            Store::Shared(shared) => shared.get(at),
+        }
+    }
+
+    /// Whether each of the first n positions is here.
+    pub(crate) fn is_full(&self, n: usize) -> bool
+        ensures yes { OnTrue result ((i : ℕ) → i < n → IsSome (store_at self.now i)) }
+        ensures no { OnFalse result ((i : ℕ) × (i < n) × (store_at self.now i ≡ None)) }
+    {
+        match self {
+            Store::Whole(cells) => n <= cells.len(),
+            Store::Owned(pieces) => pieces.is_full(n),
+            Store::Shared(shared) => shared.is_full(n),
+        }
+    }
+
     pub(crate) fn pieces(&self) -> &Pieces
+        requires { is_open self.now ≡ true }
         ensures cells { (i : ℕ)
             → (piece_at result.now i ≡ store_at self.now i)
             × (reaching result.now i ≡ reaching_in self.now i) }
@@ -31,6 +77,7 @@ impl Store {
         match self {
             Store::Owned(pieces) => pieces,
             Store::Shared(shared) => &**shared,
+            Store::Whole(_) => unreachable!(),
         }
     }
 
@@ -47,6 +94,7 @@ impl Store {
         ensures owned { OnOk result (is_owned self.new ≡ true) }
         ensures err { OnErr result (SameStored self.old self.new) }
     {
+        self.open();
         match self {
             Store::Owned(pieces) => {
                 let upper = pieces.split_off(at)?;
@@ -58,6 +106,7 @@ impl Store {
                 *self = Store::Owned(lower);
                 Ok(upper)
             }
+            Store::Whole(_) => unreachable!(),
         }
     }
 
@@ -86,6 +135,7 @@ impl Store {
         ensures owned { OnOk result (is_owned self.new ≡ true) }
         ensures err { OnErr result (SameStored self.old self.new) }
     {
+        self.open();
         match self {
             Store::Owned(pieces) => pieces.cut_out(low, mid, high),
             Store::Shared(shared) => {
@@ -94,10 +144,12 @@ impl Store {
                 *self = Store::Owned(pieces);
                 Ok(parts)
             }
+            Store::Whole(_) => unreachable!(),
         }
     }
 
     /// Whether the position is here; it is set then, in a copy where others read the cells too.
+    #[inline(always)]
     pub(crate) fn put(&mut self, at: usize, value: i64, end: usize) -> Result<bool, AllocError>
         requires { AreApart end (stored self.old) }
         ensures found { IfOk result (λ done. done ≡ is_some (store_at self.old at)) }
@@ -111,6 +163,13 @@ impl Store {
         ensures no_memory { OnErr result ((is_owned self.old ≡ false) × IsSome (store_at self.old at)) }
     {
         match self {
+            Store::Whole(cells) => {
+                if at >= cells.len() {
+                    return Ok(false);
+                }
+                cells[at] = value;
+                Ok(true)
+            }
             Store::Owned(pieces) => Ok(pieces.put(at, value)),
             Store::Shared(shared) => {
                 if shared.get(at).is_none() {
@@ -127,6 +186,7 @@ impl Store {
     /// Takes the other's cells in, or hands it back where memory is wanting. All that takes memory
     /// comes before the first change.
     pub(crate) fn take_in(&mut self, other: Store, end: usize) -> Result<(), Store>
+        requires open { (is_open self.old ≡ true) × (is_open other ≡ true) }
         requires apart { AreApart end (stored self.old) }
         requires others_apart { AreApart end (stored other) }
         requires none_common { (i : ℕ) → reaching_in self.old i + reaching_in other i ≤ 1 }
@@ -149,6 +209,7 @@ impl Store {
                 *self = Store::Owned(pieces);
                 Ok(())
             }
+            Store::Whole(_) => unreachable!(),
         }
     }
 
@@ -162,6 +223,7 @@ impl Store {
         ensures no_memory { OnErr result (is_owned self.old ≡ false) }
     {
         match self {
+            Store::Whole(_) => Ok(()),
             Store::Owned(_) => Ok(()),
             Store::Shared(shared) => {
                 let pieces = shared.copy(shared.alloc(), end)?;
@@ -185,6 +247,7 @@ impl Store {
         if let Store::Shared(shared) = self {
             return Ok(Store::Shared(Arc::try_clone(shared)?));
         }
+        self.open();
         let alloc = self.pieces().alloc();
         match replace(self, Store::Owned(Pieces::none(alloc))) {
             Store::Owned(pieces) => match Arc::new(alloc, pieces) {
@@ -198,8 +261,8 @@ impl Store {
                     Err(AllocError)
                 }
             },
-            Store::Shared(shared) => {
-                *self = Store::Shared(shared);
+            other => {
+                *self = other;
                 Err(AllocError)
             }
         }
@@ -215,6 +278,10 @@ impl Store {
         ensures handed_back { IfErr result (λ store. store ≡ self) }
     {
         match self {
+            Store::Whole(cells) => {
+                let alloc = *cells.allocator();
+                Ok(Pieces::whole(alloc, cells))
+            }
             Store::Owned(pieces) => Ok(pieces),
             Store::Shared(shared) => match shared.copy(shared.alloc(), end) {
                 Ok(pieces) => Ok(pieces),
@@ -225,6 +292,7 @@ impl Store {
 }
 
 fn join(pieces: &mut Pieces, other: Store, end: usize) -> Result<(), Store>
+    requires others_open { is_open other ≡ true }
     requires others_apart { AreApart end (stored other) }
     requires none_common { (i : ℕ) → reaching pieces.old i + reaching_in other i ≤ 1 }
     ensures cells { OnOk result

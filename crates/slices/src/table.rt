@@ -63,11 +63,10 @@ impl Held {
         ensures cells { (row col : ℤ) → cell_at result row col ≡ listed rows cols cells.items row col }
         ensures owned { result.owned ≡ true }
     {
-        let alloc = *cells.allocator();
         Held {
             rows,
             cols,
-            store: Store::Owned(Pieces::whole(alloc, cells)),
+            store: Store::Whole(cells),
         }
     }
 
@@ -103,21 +102,23 @@ impl Held {
     pub fn is_whole(&self) -> bool
         ensures { IsTrue result ↔ IsWhole self.now }
     {
-        self.store.pieces().is_full(self.end())
+        self.store.is_full(self.end())
     }
 
     /// The number at a row and a column; None exactly where the cell isn't held.
+    #[inline(always)]
     pub fn fetch(&self, row: i64, col: i64) -> Option<i64>
         ensures { result ≡ cell_at self.now row col }
     {
         match position(self.rows, self.cols, row, col) {
-            Some(at) => self.store.pieces().get(at),
+            Some(at) => self.store.get(at),
             None => None,
         }
     }
 
     /// Sets one cell. `Ok(false)` comes exactly where the cell isn't held, and changes nothing. It
     /// takes memory only at a held cell of a value that isn't owned, for a copy of its cells.
+    #[inline(always)]
     pub fn put(&mut self, row: i64, col: i64, value: i64) -> Result<bool, NoMemory>
         ensures found { IfOk result (λ done. done ≡ is_some (cell_at self.old row col)) }
         ensures set { result ≡ Ok true → self.new ≡ with_cell self.old row col value }
@@ -186,11 +187,17 @@ impl Held {
         if self.rows != upper.rows || self.cols != upper.cols {
             return Err((upper, HeldFault::Sizes));
         }
-        if self.store.pieces().overlaps(upper.store.pieces()) {
-            return Err((upper, HeldFault::Overlap));
-        }
         let end = self.end();
-        let Held { rows, cols, store } = upper;
+        let Held {
+            rows,
+            cols,
+            mut store,
+        } = upper;
+        self.store.open();
+        store.open();
+        if self.store.pieces().overlaps(store.pieces()) {
+            return Err((Held { rows, cols, store }, HeldFault::Overlap));
+        }
         if let Err(store) = self.store.take_in(store, end) {
             return Err((Held { rows, cols, store }, HeldFault::NoMemory));
         }
@@ -231,6 +238,7 @@ impl Held {
 }
 
 /// The position of a cell, counted row by row.
+#[inline(always)]
 fn position(rows: u32, cols: u32, row: i64, col: i64) -> Option<usize>
     ensures { MatchOption result ((value : ℕ → Option ℤ) → at_place rows cols value row col ≡ None)
         (StandsAt rows cols row col) }

@@ -6,10 +6,10 @@ use Rattle.slices.proofs.Cuts.{apart_less}
 use Rattle.slices.proofs.store.Store.cut_out.Goals as goal
 
 pub cut_out-requires-clause-apart : goal.cut_out-requires-clause-apart
-cut_out-requires-clause-apart c = λ i. (subst (λ s. AreApart c.args.end (stored s)) c.in-Owned.is c.requires.apart i).0
+cut_out-requires-clause-apart c = λ i. (subst (λ s. AreApart c.args.end (stored s)) c.in-Owned.is (subst (AreApart c.args.end) (sym c.open.ensures.spans) c.requires.apart) i).0
 
 pub copy-requires : goal.copy-requires
-copy-requires c = subst (λ p. AreApart c.args.end (spans_of p)) (sym c.deref.ensures) (subst (λ s. AreApart c.args.end (stored s)) c.in-Shared.is c.requires.apart)
+copy-requires c = subst (λ p. AreApart c.args.end (spans_of p)) (sym c.deref.ensures) (subst (λ s. AreApart c.args.end (stored s)) c.in-Shared.is (subst (AreApart c.args.end) (sym c.open.ensures.spans) c.requires.apart))
 
 pub cut_out-requires-in-Shared-clause-apart : goal.cut_out-requires-in-Shared-clause-apart
-cut_out-requires-in-Shared-clause-apart c = λ i. (apart_less c.args.end (spans_of c.deref.result.now) (spans_of c.in_ok-pieces-in-Shared.pieces) c.in_ok-pieces-in-Shared.ensures.reaching (subst (λ p. AreApart c.args.end (spans_of p)) (sym c.deref.ensures) (subst (λ s. AreApart c.args.end (stored s)) c.in-Shared.is c.requires.apart)) i).0
+cut_out-requires-in-Shared-clause-apart c = λ i. (apart_less c.args.end (spans_of c.deref.result.now) (spans_of c.in_ok-pieces-in-Shared.pieces) c.in_ok-pieces-in-Shared.ensures.reaching (subst (λ p. AreApart c.args.end (spans_of p)) (sym c.deref.ensures) (subst (λ s. AreApart c.args.end (stored s)) c.in-Shared.is (subst (AreApart c.args.end) (sym c.open.ensures.spans) c.requires.apart))) i).0
