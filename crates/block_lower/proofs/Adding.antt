@@ -13,6 +13,7 @@ use Rattle.loop_syntax.specs.declared.Expr.TheVariants.{Int, Var, Cell', Rows, C
 use Rattle.loop_syntax.specs.declared.TableDecl.{TableDecl}
 use Rattle.loop_syntax.specs.declared.TableDecl.TheVariants.{Input, Made}
 use Rattle.loop_rules.specs.Limits.{height}
+use Rattle.block_lower.specs.Layout.{kept_by_both}
 use Rattle.block_lower.specs.Sizes.{added, added_by_all, added_by_other, added_by_second, declared, is_low_at, kept, kept_by_all, kept_by_list, kept_by_decl, kept_by_decls}
 
 added_of_row : {m : _} (row : Row_of-Stmt m) → added_by_all row ≡ sum_by added (items-the_row-Stmt _ row)
@@ -56,12 +57,12 @@ some_height (Bin' o place p a q b) = omega arith
 
 -- ---- few values are kept
 
-few_if : (b : Bool) → (if b then 0 else 2) ≤ 9
+few_if : (b : Bool) → (if b then 0 else 2) ≤ kept_by_both
 few_if true = omega arith
 few_if false = omega arith
 
 mutual
-  few_kept : (s : Stmt) → kept s ≤ 9
+  few_kept : (s : Stmt) → kept s ≤ kept_by_both
   few_kept (Let x e) = omega arith
   few_kept (Set x e) = omega arith
   few_kept (Put t a b e) = few_if (is_low_at 1 b && is_low_at 2 e)
@@ -75,22 +76,22 @@ mutual
   few_kept (Print place e) = omega arith
   few_kept (Emit place t) = omega arith
 
-  few_kept_by_all : {m : _} (row : Row_of-Stmt m) → kept_by_all row ≤ 9
+  few_kept_by_all : {m : _} (row : Row_of-Stmt m) → kept_by_all row ≤ kept_by_both
   few_kept_by_all end_of-Stmt = omega arith
   few_kept_by_all (more_of-Stmt b rest) = omega (arith, few_kept b, few_kept_by_all rest)
 
-pub few_kept_by_list : (body : List Stmt) → kept_by_list body ≤ 9
+pub few_kept_by_list : (body : List Stmt) → kept_by_list body ≤ kept_by_both
 few_kept_by_list [] = omega arith
 few_kept_by_list (s ∷ ss) = omega (arith, few_kept s, few_kept_by_list ss)
 
-few_if_one : (b : Bool) → (if b then 0 else 1) ≤ 9
+few_if_one : (b : Bool) → (if b then 0 else 1) ≤ kept_by_both
 few_if_one true = omega arith
 few_if_one false = omega arith
 
-few_kept_by_decl : (d : TableDecl) → kept_by_decl d ≤ 9
+few_kept_by_decl : (d : TableDecl) → kept_by_decl d ≤ kept_by_both
 few_kept_by_decl (Input x) = omega arith
 few_kept_by_decl (Made x a b) = few_if_one (is_low_at 1 b)
 
-pub few_kept_by_decls : (ds : List TableDecl) → kept_by_decls ds ≤ 9
+pub few_kept_by_decls : (ds : List TableDecl) → kept_by_decls ds ≤ kept_by_both
 few_kept_by_decls [] = omega arith
 few_kept_by_decls (d ∷ ds) = omega (arith, few_kept_by_decl d, few_kept_by_decls ds)

@@ -3,6 +3,7 @@ use Rattle.std.proofs.Common.{◌≡◌, ℕ, suc, ◌+◌, ◌<◌, ◌≤◌, 
 use Rattle.std.specs.Prelude.{ℤ, pos, ⊤, slice_set}
 use Rattle.std.proofs.lemmas.List.{length-set}
 use Rattle.stack_marks.specs.Stacks.{StackValue, word_at, with_word, pushed}
+use Rattle.tp_value.specs.declared.limits.TheConstants.{MAX_PARAMETERS}
 use Rattle.loop_syntax.specs.declared.App.{App}
 use Rattle.loop_syntax.specs.declared.Func.{Func}
 use Rattle.loop_syntax.specs.declared.Name.{Name}
@@ -30,7 +31,7 @@ use Rattle.expr_lower.specs.Standing.{Remains}
 use Rattle.expr_lower.proofs.Registers.{register_set, register_other}
 use Rattle.expr_lower.proofs.Standing.{next, behind, regrouped}
 use Rattle.block_lower.specs.Code.{Arguments, Calls, IsCell, parameter_cell, passed, load, store}
-use Rattle.block_lower.specs.Layout.{value_cell, kept_cell, Entry, entry_of, Activation}
+use Rattle.block_lower.specs.Layout.{value_cell, kept_cell, Entry, entry_of, Activation, kept_by_both, kept_value}
 use Rattle.block_lower.specs.Main.{FunctionAt}
 use Rattle.block_lower.proofs.Activations.{word_pushed}
 use Rattle.block_lower.proofs.Arguments.{AreIn, are_in_same, arguments_law, passed_law}
@@ -113,7 +114,7 @@ module _ (code : Listing) (heartbeat z : ℕ) (act : Activation) (fuel : ℕ) (f
     numbers : List ℤ
     as_many : length numbers ≡ many
 
-  abbrev second_kept : (many : ℕ) → many ≤ 8 → kept_cell act 9 ≤ act.size → Keeping code heartbeat z act fuel S names (Second many)
+  abbrev second_kept : (many : ℕ) → many ≤ MAX_PARAMETERS → kept_cell act kept_by_both ≤ act.size → Keeping code heartbeat z act fuel S names (Second many)
   second_kept many eight room_kept = record {
     Holds = λ a s. AreIn s z (kept_cell act) 0 a.numbers;
     same = λ few a s t alike are. are_in_same s t z (kept_cell act) 0 a.numbers (λ j from below. alike (z + kept_cell act j) (omega (arith, few)) (omega (arith, below, a.as_many, eight, room_kept))) are;
@@ -124,10 +125,10 @@ module _ (code : Listing) (heartbeat z : ℕ) (act : Activation) (fuel : ℕ) (f
     value : ℤ
     fits : InRange value
 
-  abbrev first_kept : kept_cell act 9 ≤ act.size → Keeping code heartbeat z act fuel S names First
+  abbrev first_kept : kept_cell act kept_by_both ≤ act.size → Keeping code heartbeat z act fuel S names First
   first_kept room_kept = record {
-    Holds = λ a s. word_at s (pos (z + kept_cell act 8)) ≡ Some (word.Int a.value);
-    same = λ few a s t alike is. alike (z + kept_cell act 8) (omega (arith, few)) (omega (arith, room_kept)) ∙ is;
+    Holds = λ a s. word_at s (pos (z + kept_cell act kept_value)) ≡ Some (word.Int a.value);
+    same = λ few a s t alike is. alike (z + kept_cell act kept_value) (omega (arith, few)) (omega (arith, room_kept)) ∙ is;
   }
 
   are_in_pushed : (s : StackValue) (n : ℕ) (cell : ℕ → ℕ) (i : ℕ) (ns : List ℤ) → AreIn s z cell i ns → AreIn (pushed s n) z cell i ns
@@ -135,21 +136,21 @@ module _ (code : Listing) (heartbeat z : ℕ) (act : Activation) (fuel : ℕ) (f
   are_in_pushed s n cell i (m ∷ ns) h = (word_pushed s n (z + cell i) (word.Int m) h.0, h.1, are_in_pushed s n cell (suc i) ns h.2)
 
   module _ (reduces : List Reduce) (k : meaning.State → Result) (fixed : List ℕ) (x y : Name) (f g : App) (first second : Entry) (x_cell y_cell : ℕ) (arguments others test_first test_second more : List Instr) (last half end : Term)
-      (room_kept : kept_cell act 9 ≤ act.size)
+      (room_kept : kept_cell act kept_by_both ≤ act.size)
       (is_first : entry_of act.functions f.callee.text.items ≡ Some first) (arity_first : length f.args.items ≡ first.parameters)
       (is_second : entry_of act.functions g.callee.text.items ≡ Some second) (arity_second : length g.args.items ≡ second.parameters)
       (c : IsCell code act names fixed x.text.items x_cell) (may_x : S.may x_cell) (d : IsCell code act names fixed y.text.items y_cell) (may_y : S.may y_cell)
-      (eight : length g.args.items ≤ 8)
-      (second_call : Calls code act g.callee.place second test_second half (load 1 (kept_cell act 8) ∷ store x_cell (value.Reg 1) ∷ store y_cell (value.Reg 0) ∷ more) end)
+      (eight : length g.args.items ≤ MAX_PARAMETERS)
+      (second_call : Calls code act g.callee.place second test_second half (load 1 (kept_cell act kept_value) ∷ store x_cell (value.Reg 1) ∷ store y_cell (value.Reg 0) ∷ more) end)
       (post : Owed code heartbeat z act fuel S names more end k) where
     abbrev BehindSecond : Type 0
     BehindSecond = Caller code heartbeat z act fuel S names First
 
     -- behind the second call both targets are assigned
-    sets_both : (w : BehindSecond) (v : ℤ) (u : meaning.State) (task : machine.State) → InRange v → Showing w.world (back_with w.state.vars u) task → word_at task.stack (pos (z + kept_cell act 8)) ≡ Some (word.Int w.value.value) → register task.registers 0 ≡ word.Int v
-        → Remains code task.block task.at (load 1 (kept_cell act 8) ∷ store x_cell (value.Reg 1) ∷ store y_cell (value.Reg 0) ∷ more) end → (S.owing w.world (k (set_var y v (set_var x w.value.value (back_with w.state.vars u))))).Holds task
+    sets_both : (w : BehindSecond) (v : ℤ) (u : meaning.State) (task : machine.State) → InRange v → Showing w.world (back_with w.state.vars u) task → word_at task.stack (pos (z + kept_cell act kept_value)) ≡ Some (word.Int w.value.value) → register task.registers 0 ≡ word.Int v
+        → Remains code task.block task.at (load 1 (kept_cell act kept_value) ∷ store x_cell (value.Reg 1) ∷ store y_cell (value.Reg 0) ∷ more) end → (S.owing w.world (k (set_var y v (set_var x w.value.value (back_with w.state.vars u))))).Holds task
     sets_both w v u task fits shows is_first_value is stands =
-        on_load code heartbeat K task 1 31 (kept_cell act 8) (pos z) (word.Int w.value.value) (next code task _ _ end stands) shows.base is_first_value
+        on_load code heartbeat K task 1 31 (kept_cell act kept_value) (pos z) (word.Int w.value.value) (next code task _ _ end stands) shows.base is_first_value
         (assigns K w.world (back_with w.state.vars u) one fixed x x_cell 1 w.value.value (store y_cell (value.Reg 0) ∷ more) end shows_one c may_x (register_set task.registers 1 (word.Int w.value.value) (omega (arith, shows.size))) w.value.fits (behind code task.block task.at _ _ end stands)
         (λ two registers_two shows_two here_two.
         assigns K w.world (set_var x w.value.value (back_with w.state.vars u)) two fixed y y_cell 0 v more end shows_two d may_y (ap (λ ws. register ws 0) registers_two ∙ (register_other task.registers 1 0 (word.Int w.value.value) (λ (q : 0 ≡ 1). absurd (omega (arith, q))) ∙ is)) fits here_two
@@ -170,10 +171,10 @@ module _ (code : Listing) (heartbeat z : ℕ) (act : Activation) (fuel : ℕ) (f
 
     -- behind the first call its value is kept, and the second one is made
     makes_second : (i : S.World) (st : meaning.State) (task : machine.State) (v : ℤ) (ms : List ℤ) → length ms ≡ length g.args.items → InRange v → Showing i st task → AreIn task.stack z (kept_cell act) 0 ms → register task.registers 0 ≡ word.Int v
-        → Remains code task.block task.at (store (kept_cell act 8) (value.Reg 0) ∷ instr.Salloc second.size ∷ passed code act (length g.args.items) 0 test_second) half → (S.owing i (then (result (follows v ms st)) k)).Holds task
+        → Remains code task.block task.at (store (kept_cell act kept_value) (value.Reg 0) ∷ instr.Salloc second.size ∷ passed code act (length g.args.items) 0 test_second) half → (S.owing i (then (result (follows v ms st)) k)).Holds task
     makes_second i st task v ms many fits shows are is stands =
-        stores_in code heartbeat z act fuel K task (kept_cell act 8) (value.Reg 0) _ half stands shows.base shows.low inside
-        (subst (λ (w : Word). K.Holds (effect.with_stack (advanced task) (with_word task.stack (pos (z + kept_cell act 8)) w))) (sym is)
+        stores_in code heartbeat z act fuel K task (kept_cell act kept_value) (value.Reg 0) _ half stands shows.base shows.low inside
+        (subst (λ (w : Word). K.Holds (effect.with_stack (advanced task) (with_word task.stack (pos (z + kept_cell act kept_value)) w))) (sym is)
         (opens g.callee second is_second K i st one _ half shows_one here_one
         (passed_law code heartbeat z act second.size fuel S i names lowest st K ms 0 test_second half two (shows_pushed code heartbeat z act second.size fuel S i names lowest st shows_one)
         (regrouped code task.block (task.at + 1 + 1) (passed code act (length g.args.items) 0 test_second) (passed code act (length ms) 0 test_second) half (ap (λ n. passed code act n 0 test_second) (sym many)) (behind code task.block (task.at + 1) _ _ half here_one))
@@ -188,17 +189,17 @@ module _ (code : Listing) (heartbeat z : ℕ) (act : Activation) (fuel : ℕ) (f
           shows = shows_last;
           many = many ∙ arity_second;
           stored = stored.are;
-          also = stored.others (z + kept_cell act 8) (λ j from below q. absurd (omega (arith, q, room_kept))) ∙ word_pushed stack second.size (z + kept_cell act 8) (word.Int v) is_kept;
+          also = stored.others (z + kept_cell act kept_value) (λ j from below q. absurd (omega (arith, q, room_kept))) ∙ word_pushed stack second.size (z + kept_cell act kept_value) (word.Int v) is_kept;
         }) left))))
       where
         K : Back code heartbeat
         K = S.owing i (then (result (follows v ms st)) k)
 
-        inside : z + kept_cell act 8 < task.stack.base + length task.stack.cells
+        inside : z + kept_cell act kept_value < task.stack.base + length task.stack.cells
         inside = omega (arith, shows.top, room_kept)
 
         stack : StackValue
-        stack = with_word task.stack (pos (z + kept_cell act 8)) (word.Int v)
+        stack = with_word task.stack (pos (z + kept_cell act kept_value)) (word.Int v)
 
         one : machine.State
         one = effect.with_stack (advanced task) stack
@@ -210,16 +211,16 @@ module _ (code : Listing) (heartbeat z : ℕ) (act : Activation) (fuel : ℕ) (f
         here_one = behind code task.block task.at _ _ half stands
 
         shows_one : Showing i st one
-        shows_one = shows_new code heartbeat z act fuel S i shows (kept_cell act 8) (word.Int v) (omega (arith, shows.few)) lowest
+        shows_one = shows_new code heartbeat z act fuel S i shows (kept_cell act kept_value) (word.Int v) (omega (arith, shows.few)) lowest
 
-        is_kept : word_at stack (pos (z + kept_cell act 8)) ≡ Some (word.Int v)
-        is_kept = word_same task.stack (z + kept_cell act 8) (word.Int v) (omega (arith, shows.low)) inside
+        is_kept : word_at stack (pos (z + kept_cell act kept_value)) ≡ Some (word.Int v)
+        is_kept = word_same task.stack (z + kept_cell act kept_value) (word.Int v) (omega (arith, shows.low)) inside
 
         are_one : AreIn stack z (kept_cell act) 0 ms
-        are_one = are_in_same task.stack stack z (kept_cell act) 0 ms (λ j from below. word_other task.stack (z + kept_cell act 8) (z + kept_cell act j) (word.Int v) (omega (arith, shows.low)) (λ q. absurd (omega (arith, q, below, many, eight)))) are
+        are_one = are_in_same task.stack stack z (kept_cell act) 0 ms (λ j from below. word_other task.stack (z + kept_cell act kept_value) (z + kept_cell act j) (word.Int v) (omega (arith, shows.low)) (λ q. absurd (omega (arith, q, below, many, eight)))) are
 
     pub both_law : Arguments code act names (parameter_cell code act) 0 f.args.items arguments others → Arguments code act names (kept_cell act) 0 g.args.items others test_first
-        → Calls code act f.callee.place first test_first last (store (kept_cell act 8) (value.Reg 0) ∷ instr.Salloc second.size ∷ passed code act (length g.args.items) 0 test_second) half
+        → Calls code act f.callee.place first test_first last (store (kept_cell act kept_value) (value.Reg 0) ∷ instr.Salloc second.size ∷ passed code act (length g.args.items) 0 test_second) half
         → Owed code heartbeat z act fuel S names (instr.Salloc first.size ∷ arguments) last (λ st. then (result (run (setting reduces) (Both x f y g) st)) k)
     both_law args others_args first_call i st state shows stands =
         let one : machine.State = effect.with_stack (advanced state) (pushed state.stack first.size) in

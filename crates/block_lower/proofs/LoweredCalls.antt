@@ -1,6 +1,7 @@
 -- The code of calls is written where that of its parts is.
 use Rattle.std.proofs.Common.{◌≡◌, ℕ, zero, suc, ◌+◌, ◌*◌, ◌≤◌, List, [], ◌∷◌, ◌++◌, length, Some, refl, sym, ap, subst, ◌∙◌, arith}
 use Rattle.std.specs.Prelude.{pos}
+use Rattle.tp_value.specs.declared.limits.TheConstants.{MAX_PARAMETERS}
 use Rattle.loop_syntax.specs.declared.App.{App}
 use Rattle.loop_syntax.specs.declared.Name.{Name}
 use Rattle.loop_syntax.specs.declared.Expr.{Expr}
@@ -23,7 +24,7 @@ use Rattle.block_lower.specs.declared.output.Output.{Output}
 use Rattle.block_lower.specs.Bodies.{entries, activation, HasRoomFor}
 use Rattle.block_lower.specs.Code.{Operand, Arguments, no_argument, one_argument, parameter_cell, passed, Calls, Code, call_code, both_code, to, store, load, call_test, call_entry}
 use Rattle.block_lower.specs.Fitting.{IsVisible, AreVisible}
-use Rattle.block_lower.specs.Layout.{return_cell, levels_cell, value_cell, kept_cell, Entry, entry_of, Activation}
+use Rattle.block_lower.specs.Layout.{return_cell, levels_cell, value_cell, kept_cell, Entry, entry_of, Activation, kept_by_both, kept_value}
 use Rattle.block_lower.specs.Lowering.{WritesOperand, WritesArguments, AreBothArguments, WritesBothArguments, WritesPassed, WritesCall, Lowers}
 use Rattle.block_lower.specs.Writing.{Pushes, Closes, Stands, Continues, Leads}
 use Rattle.block_lower.proofs.Lowered.{cell_is}
@@ -166,24 +167,24 @@ module _ (on : Body) (reduces : List Reduce) (scope : Scope) where
       }
 
   pub both_written : (x y : Name) (f g : App) (first_at first_size second_at second_size : ℕ) (old allocs stored called kept again passes calls loads stores new : Output)
-      → IsTarget f.callee.text.items first_at first_size → IsTarget g.callee.text.items second_at second_size → HasRoomFor on 9 → length g.args.items ≤ 8
+      → IsTarget f.callee.text.items first_at first_size → IsTarget g.callee.text.items second_at second_size → HasRoomFor on kept_by_both → length g.args.items ≤ MAX_PARAMETERS
       → Pushes (instr.Salloc first_size ∷ []) old allocs → WritesBothArguments on scope f.args.items g.args.items allocs stored → WritesCall on f.callee.place first_at first_size stored called
-      → Pushes (store (value_cell on.most + 8) (value.Reg 0) ∷ []) called kept → Pushes (instr.Salloc second_size ∷ []) kept again → WritesPassed on (length g.args.items) again passes
-      → WritesCall on g.callee.place second_at second_size passes calls → Pushes (load 1 (value_cell on.most + 8) ∷ []) calls loads → Pushes (store (offset_of scope x.text.items) (value.Reg 1) ∷ []) loads stores
+      → Pushes (store (value_cell on.most + kept_value) (value.Reg 0) ∷ []) called kept → Pushes (instr.Salloc second_size ∷ []) kept again → WritesPassed on (length g.args.items) again passes
+      → WritesCall on g.callee.place second_at second_size passes calls → Pushes (load 1 (value_cell on.most + kept_value) ∷ []) calls loads → Pushes (store (offset_of scope x.text.items) (value.Reg 1) ∷ []) loads stores
       → Pushes (store (offset_of scope y.text.items) (value.Reg 0) ∷ []) stores new → Lowers on reduces scope (Both x f y g) old new
   both_written x y f g first_at first_size second_at second_size old allocs stored called kept again passes calls loads stores new first second room few
       alloc arguments call_first keep realloc pass call_second push_load store_x store_y code tables names fixed more last sees fits c =
       let act : Activation = activation on tables in
-      let own : List Instr = load 1 (kept_cell act 8) ∷ store (offset_of scope x.text.items) (value.Reg 1) ∷ store (offset_of scope y.text.items) (value.Reg 0) ∷ more in
+      let own : List Instr = load 1 (kept_cell act kept_value) ∷ store (offset_of scope x.text.items) (value.Reg 1) ∷ store (offset_of scope y.text.items) (value.Reg 0) ∷ more in
       let ends : Continues code calls own last =
-      pushed code calls loads (load 1 (kept_cell act 8) ∷ []) _ last push_load
+      pushed code calls loads (load 1 (kept_cell act kept_value) ∷ []) _ last push_load
       (pushed code loads stores (store (offset_of scope x.text.items) (value.Reg 1) ∷ []) _ last store_x (pushed code stores new (store (offset_of scope y.text.items) (value.Reg 0) ∷ []) more last store_y c)) in
       let u : Leads code passes (λ instrs end. Calls code act g.callee.place fits.3.entry instrs end own last) =
       call_second code tables fits.3.entry own last (sym (second.at_is fits.3.entry fits.3.is_entry)) (sym (second.size_is fits.3.entry fits.3.is_entry)) ends in
       let passing : List Instr = passed code act (length g.args.items) 0 u.instrs in
-      let half : ℕ → List Instr = λ n. store (kept_cell act 8) (value.Reg 0) ∷ instr.Salloc n ∷ passing in
+      let half : ℕ → List Instr = λ n. store (kept_cell act kept_value) (value.Reg 0) ∷ instr.Salloc n ∷ passing in
       let middle : Continues code called (half second_size) u.end =
-      pushed code called kept (store (kept_cell act 8) (value.Reg 0) ∷ []) _ u.end keep (pushed code kept again (instr.Salloc second_size ∷ []) passing u.end realloc (pass code tables u.instrs u.end u.continues)) in
+      pushed code called kept (store (kept_cell act kept_value) (value.Reg 0) ∷ []) _ u.end keep (pushed code kept again (instr.Salloc second_size ∷ []) passing u.end realloc (pass code tables u.instrs u.end u.continues)) in
       let w : Leads code stored (λ instrs end. Calls code act f.callee.place fits.2.entry instrs end (half second_size) u.end) =
       call_first code tables fits.2.entry (half second_size) u.end (sym (first.at_is fits.2.entry fits.2.is_entry)) (sym (first.size_is fits.2.entry fits.2.is_entry)) middle in
       let calls_first : Calls code act f.callee.place fits.2.entry w.instrs w.end (half fits.3.entry.size) u.end =

@@ -16,7 +16,8 @@ use Rattle.loop_syntax.specs.declared.Stmt.TheVariants.{Call, Both, Print, Emit}
 use Rattle.loop_rules.specs.Limits.{height}
 use Rattle.loop_rules.specs.Names.{operator_of}
 use Rattle.loop_meaning.specs.InRange.{InRange, ExprInRange}
-use Rattle.tp_value.specs.declared.limits.TheConstants.{MAX_PAR_LENGTH}
+use Rattle.tp_value.specs.declared.limits.TheConstants.{MAX_EXPRESSION_HEIGHT}
+use Rattle.tp_value.specs.declared.limits.TheConstants.{MAX_PAR_LENGTH, MAX_PARAMETERS}
 use Rattle.tp_value.specs.declared.Op.{Op}
 use Rattle.tp_value.specs.declared.Op.TheVariants as op
 use Rattle.tp_value.specs.declared.Place.{Place}
@@ -38,8 +39,9 @@ use Rattle.expr_lower.specs.declared.scope.Scope.{Scope}
 use Rattle.expr_lower.specs.Bodies.{body_of, traps_of, trap_block, literal, range_tests}
 use Rattle.expr_lower.specs.Scopes.{IsIn, HasVariable, HasTable, offset_of, table_number}
 use Rattle.expr_lower.specs.Standing.{AreAt}
-use Rattle.block_lower.specs.Layout.{return_cell, levels_cell, value_cell, bound_cell, kept_cell}
-use Rattle.block_lower.specs.Layout.{Entry, entry_of, Activation}
+use Rattle.block_lower.specs.Layout.{base_register, return_cell, levels_cell, value_cell}
+use Rattle.block_lower.specs.Layout.{bound_cell, kept_cell, kept_value, kept_by_both, Entry}
+use Rattle.block_lower.specs.Layout.{entry_of, Activation}
 use Rattle.block_lower.specs.Names.{Sees, names_after}
 
 -- the block at a label is not promotion-ready, and has these instructions and this end
@@ -55,10 +57,10 @@ to label = term.Jump (value.Label label)
 
 -- a store to a cell of the activation, and a load
 abbrev pub store : ℕ → Value → Instr
-store cell v = instr.Store 31 cell v
+store cell v = instr.Store base_register cell v
 
 abbrev pub load : ℕ → ℕ → Instr
-load r cell = instr.Load r 31 cell
+load r cell = instr.Load r base_register cell
 
 -- the test of a loop: another turn where the number in a register is below the bound
 abbrev pub below_test : ℕ → Value → ℕ → List Instr
@@ -102,12 +104,12 @@ abbrev pub call_entry : ℕ → ℕ → List Instr
 call_entry size back =
     instr.Calc 0 0 Sub (value.Int (pos 1)) ∷ store (size + levels_cell) (value.Reg 0)
     ∷ store (size + return_cell) (value.Label back)
-    ∷ instr.Calc 31 31 Add (value.Int (pos size)) ∷ []
+    ∷ instr.Calc base_register base_register Add (value.Int (pos size)) ∷ []
 
 -- behind a call the callee's activation is gone, and the caller's runs again
 abbrev pub call_exit : ℕ → ℕ → List Instr → List Instr
 call_exit callee size more =
-    instr.Sfree callee ∷ instr.Calc 31 31 Sub (value.Int (pos size)) ∷ more
+    instr.Sfree callee ∷ instr.Calc base_register base_register Sub (value.Int (pos size)) ∷ more
 
 -- The code of the statements of main, or of a function, that stands on this.
 module _ (code : Listing) (act : Activation) where
@@ -117,7 +119,7 @@ module _ (code : Listing) (act : Activation) where
       pub scope : Scope
       pub sees : Sees scope names act.tables
       pub inside : IsIn scope e
-      pub low : r + height e ≤ 24
+      pub low : r + height e ≤ MAX_EXPRESSION_HEIGHT
       pub ranged : ExprInRange e
       pub first : ℕ
       pub body : instrs ≡ body_of scope first e r ++ more
@@ -307,22 +309,22 @@ module _ (code : Listing) (act : Activation) where
       both_code : {reduces : List Reduce} {names : List (List ℕ)} {fixed : List ℕ} {x y : Name}
           {f g : App} {first second : Entry} {x_cell y_cell : ℕ}
           {arguments others test_first test_second more : List Instr} {last half end : Term}
-          → Keeps 9
+          → Keeps kept_by_both
           → entry_of act.functions f.callee.text.items ≡ Some first
           → length f.args.items ≡ first.parameters
           → entry_of act.functions g.callee.text.items ≡ Some second
           → length g.args.items ≡ second.parameters
           → IsCell names fixed x.text.items x_cell
           → IsCell names fixed y.text.items y_cell
-          → length g.args.items ≤ 8
+          → length g.args.items ≤ MAX_PARAMETERS
           → Arguments names parameter_cell 0 f.args.items arguments others
           → Arguments names (kept_cell act) 0 g.args.items others test_first
           → Calls f.callee.place first test_first last
-          (store (kept_cell act 8) (value.Reg 0) ∷ instr.Salloc second.size
+          (store (kept_cell act kept_value) (value.Reg 0) ∷ instr.Salloc second.size
           ∷ passed (length g.args.items) 0 test_second)
           half
           → Calls g.callee.place second test_second half
-          (load 1 (kept_cell act 8) ∷ store x_cell (value.Reg 1) ∷ store y_cell (value.Reg 0)
+          (load 1 (kept_cell act kept_value) ∷ store x_cell (value.Reg 1) ∷ store y_cell (value.Reg 0)
           ∷ more)
           end
           → Code reduces names fixed (Both x f y g) (instr.Salloc first.size ∷ arguments) last more

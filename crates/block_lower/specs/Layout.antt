@@ -1,5 +1,10 @@
--- Where the words of an activation stand: offsets from the position in register 31.
+-- Where the words of an activation stand: offsets from the position in the base register.
 use Rattle.std.specs.Prelude.{ℕ, ◌+◌, ◌*◌, cond, bytes_eq, List, [], ◌∷◌, Option, None, Some}
+use Rattle.tp_value.specs.declared.limits.TheConstants.{MAX_PAR_NESTING, MAX_PARAMETERS}
+
+-- the register with the position of the activation that runs
+abbrev pub base_register : ℕ
+base_register = 31
 
 -- the label to return to
 abbrev pub return_cell : ℕ
@@ -11,13 +16,23 @@ return_cell = 0
 abbrev pub levels_cell : ℕ
 levels_cell = 2
 
--- the value of the variable before which so many are visible
+-- the cursor of the `par` loop that stands inside so many others of its function: its next
+-- iteration that isn't begun
+abbrev pub cursor_cell : ℕ → ℕ
+cursor_cell depth = 3 + 2 * depth
+
+-- the record of the side's end in that loop, or nothing
+abbrev pub rec_cell : ℕ → ℕ
+rec_cell depth = 4 + 2 * depth
+
+-- the value of the variable before which so many are visible; in front of the first one stand the
+-- cells of as many loops as there may be inside one another
 abbrev pub value_cell : ℕ → ℕ
-value_cell level = 3 + 2 * level
+value_cell level = cursor_cell MAX_PAR_NESTING + 2 * level
 
 -- the bound of the loop over that variable
 abbrev pub bound_cell : ℕ → ℕ
-bound_cell level = 4 + 2 * level
+bound_cell level = rec_cell MAX_PAR_NESTING + 2 * level
 
 -- a function in a code: its first block, its parameters, and how many cells its activation has
 pub record Entry : Type 0 where
@@ -42,3 +57,18 @@ pub record Activation : Type 0 where
 -- a cell behind those of the variables, for a value that a statement keeps
 abbrev pub kept_cell : Activation → ℕ → ℕ
 kept_cell act i = value_cell act.most + i
+
+-- What a `both` keeps: from 0 on the arguments of its second call, and behind as many as there may
+-- be the value of the first call, the mark of the `both`, and its record.
+abbrev pub kept_value : ℕ
+kept_value = MAX_PARAMETERS
+
+abbrev pub kept_mark : ℕ
+kept_mark = MAX_PARAMETERS + 1
+
+abbrev pub kept_record : ℕ
+kept_record = MAX_PARAMETERS + 2
+
+-- how many values it keeps
+abbrev pub kept_by_both : ℕ
+kept_by_both = MAX_PARAMETERS + 3

@@ -13,6 +13,7 @@ use Rattle.loop_rules.specs.Declarations.{declared_in}
 use Rattle.loop_rules.specs.Limits.{height}
 use Rattle.tp_value.specs.declared.limits.TheConstants.{MAX_EXPRESSION_HEIGHT}
 use Rattle.expr_lower.specs.Bodies.{trap_count}
+use Rattle.block_lower.specs.Layout.{kept_by_both}
 
 -- ---- blocks
 
@@ -82,7 +83,7 @@ is_low_at r e = nat_le (r + height e) MAX_EXPRESSION_HEIGHT
 
 -- How many values a statement keeps in its activation while it computes others: the row and the
 -- column of a cell where there are no registers for them, and the arguments of the second of two
--- calls, with the value of the first.
+-- calls, with the value of the first, the mark and the record.
 abbrev mutual
   pub kept : Stmt → ℕ
   kept (Let x e) = 0
@@ -94,7 +95,7 @@ abbrev mutual
   kept (Par' place x a b carry_place carries reduces p body) = kept_by_all body
   kept (Fold x e) = 0
   kept (Call x f) = 0
-  kept (Both x f y g) = 9
+  kept (Both x f y g) = kept_by_both
   kept (Print place e) = 0
   kept (Emit place t) = 0
 

@@ -1,6 +1,8 @@
 // The code of calls.
 
 ghost use Rattle.std.specs.Prelude.{◌≡◌, ◌+◌, ◌*◌, ◌<◌, ◌≤◌, ◌∷◌, [], pos, length, List, OnOk};
+ghost use Rattle.tp_value.specs.declared.limits.TheConstants.{MAX_ACTIVATION_CELLS, MAX_BLOCKS};
+ghost use Rattle.tp_value.specs.declared.limits.TheConstants.{MAX_PARAMETERS, MAX_TABLES};
 ghost use Rattle.loop_syntax.specs.declared.Reduce.{Reduce};
 ghost use Rattle.loop_syntax.specs.declared.Stmt;
 ghost use Rattle.tpal_syntax.specs.Listing.{Listing};
@@ -8,6 +10,7 @@ ghost use Rattle.block_lower.specs.declared.body.Body.{Body};
 ghost use Rattle.block_lower.specs.Bodies.{HasRoomFor};
 ghost use Rattle.block_lower.specs.Code as codes;
 ghost use Rattle.block_lower.specs.Heights.{AreLowArguments};
+ghost use Rattle.block_lower.specs.Layout.{kept_by_both};
 ghost use Rattle.block_lower.specs.Lowering.{Lowers, WritesArguments, WritesBothArguments};
 ghost use Rattle.block_lower.specs.Lowering.{WritesPassed, WritesCall};
 ghost use Rattle.block_lower.specs.Sizes as sizes;
@@ -15,7 +18,7 @@ ghost use Rattle.block_lower.specs.Writing as writing;
 ghost use Rattle.block_lower.specs.Writing.{IsFresh, Pushes, Stands, Continues};
 
 use crate::body::{Body, Target, kept_cell, parameter_cell, target_of};
-use crate::layout::{BASE, LEVELS, RETURN};
+use crate::layout::{BASE, KEPT_VALUE, LEVELS, RETURN};
 use crate::output::{Output, close, next_label, push};
 use crate::piece::{jump, load, push_operand, store};
 use expr_lower::{Scope, offset_of};
@@ -33,9 +36,9 @@ fn push_arguments(
     first: u16,
     distance: u16,
 ) -> Result<(), NoMemory>
-    requires few_tables { length scope.now.tables.items ≤ 16 }
+    requires few_tables { length scope.now.tables.items ≤ MAX_TABLES }
     requires low { AreLowArguments arguments.now }
-    requires labels { writing.next_label out.old + sizes.trap_counts arguments.now ≤ 65536 }
+    requires labels { writing.next_label out.old + sizes.trap_counts arguments.now ≤ MAX_BLOCKS }
     requires cells { (first ≤ 1000) × (distance ≤ 2) }
     ensures labels { OnOk result
         (writing.next_label out.new
@@ -52,8 +55,8 @@ fn push_arguments(
 
 /// So many kept numbers, which become the arguments of a call.
 fn push_passed(out: &mut Output, on: &Body, count: u16) -> Result<(), NoMemory>
-    requires room { HasRoomFor on.now 9 }
-    requires few { count ≤ 8 }
+    requires room { HasRoomFor on.now kept_by_both }
+    requires few { count ≤ MAX_PARAMETERS }
     ensures labels { OnOk result (writing.next_label out.new ≡ writing.next_label out.old) }
     ensures code { OnOk result (WritesPassed on.now count out.old out.new) }
 {
@@ -66,7 +69,7 @@ fn push_passed(out: &mut Output, on: &Body, count: u16) -> Result<(), NoMemory>
 
 /// A tick, and a trap where no level of calls is left.
 fn push_call_test(alloc: Global, out: &mut Output, go: u32, place: Place) -> Result<(), NoMemory>
-    requires { writing.next_label out.old ≤ 65536 }
+    requires { writing.next_label out.old ≤ MAX_BLOCKS }
     ensures labels { OnOk result (writing.next_label out.new ≡ writing.next_label out.old + 1) }
     ensures fresh { OnOk result (IsFresh out.new) }
     ensures code { OnOk result
@@ -113,8 +116,8 @@ fn push_entry(
     label: u32,
     back: u32,
 ) -> Result<(), NoMemory>
-    requires labels { writing.next_label out.old ≤ 65536 }
-    requires size { on.now.size ≤ 512 }
+    requires labels { writing.next_label out.old ≤ MAX_BLOCKS }
+    requires size { on.now.size ≤ MAX_ACTIVATION_CELLS }
     ensures labels { OnOk result (writing.next_label out.new ≡ writing.next_label out.old + 1) }
     ensures fresh { OnOk result (IsFresh out.new) }
     ensures code { OnOk result
@@ -147,8 +150,8 @@ fn push_call(
     target: Target,
     place: Place,
 ) -> Result<(), NoMemory>
-    requires labels { writing.next_label out.old + 2 ≤ 65536 }
-    requires size { on.now.size ≤ 512 }
+    requires labels { writing.next_label out.old + 2 ≤ MAX_BLOCKS }
+    requires size { on.now.size ≤ MAX_ACTIVATION_CELLS }
     ensures labels { OnOk result (writing.next_label out.new ≡ writing.next_label out.old + 2) }
     ensures code { OnOk result
         (WritesCall on.now place target.label target.size out.old out.new) }
@@ -170,10 +173,10 @@ pub fn lower_call(
     x: &Name,
     f: &App,
 ) -> Result<(), NoMemory>
-    requires few_tables { length scope.now.tables.items ≤ 16 }
+    requires few_tables { length scope.now.tables.items ≤ MAX_TABLES }
     requires low { AreLowArguments f.now.args.items }
-    requires labels { writing.next_label out.old + (sizes.trap_counts f.now.args.items + 2) ≤ 65536 }
-    requires size { on.now.size ≤ 512 }
+    requires labels { writing.next_label out.old + (sizes.trap_counts f.now.args.items + 2) ≤ MAX_BLOCKS }
+    requires size { on.now.size ≤ MAX_ACTIVATION_CELLS }
     ensures labels { OnOk result
         (writing.next_label out.new
         ≡ writing.next_label out.old + (sizes.trap_counts f.now.args.items + 2)) }
@@ -198,12 +201,12 @@ fn push_both_arguments(
     f: &App,
     g: &App,
 ) -> Result<(), NoMemory>
-    requires few_tables { length scope.now.tables.items ≤ 16 }
+    requires few_tables { length scope.now.tables.items ≤ MAX_TABLES }
     requires low { AreLowArguments f.now.args.items × AreLowArguments g.now.args.items }
     requires labels { writing.next_label out.old
         + (sizes.trap_counts f.now.args.items + sizes.trap_counts g.now.args.items)
-        ≤ 65536 }
-    requires room { HasRoomFor on.now 9 }
+        ≤ MAX_BLOCKS }
+    requires room { HasRoomFor on.now kept_by_both }
     ensures labels { OnOk result
         (writing.next_label out.new
         ≡ writing.next_label out.old
@@ -227,12 +230,12 @@ pub fn lower_both(
     y: &Name,
     g: &App,
 ) -> Result<(), NoMemory>
-    requires few_tables { length scope.now.tables.items ≤ 16 }
+    requires few_tables { length scope.now.tables.items ≤ MAX_TABLES }
     requires low { AreLowArguments f.now.args.items × AreLowArguments g.now.args.items }
     requires labels { writing.next_label out.old
         + (sizes.trap_counts f.now.args.items + sizes.trap_counts g.now.args.items + 4)
-        ≤ 65536 }
-    requires room { HasRoomFor on.now 9 }
+        ≤ MAX_BLOCKS }
+    requires room { HasRoomFor on.now kept_by_both }
     ensures labels { OnOk result
         (writing.next_label out.new
         ≡ writing.next_label out.old
@@ -246,11 +249,11 @@ pub fn lower_both(
     push(out, Instr::Salloc(first.size))?;
     push_both_arguments(alloc, out, scope, on, f, g)?;
     push_call(alloc, out, on, first, f.callee.place)?;
-    store(out, kept_cell(on, 8), Value::Reg(0))?;
+    store(out, kept_cell(on, KEPT_VALUE), Value::Reg(0))?;
     push(out, Instr::Salloc(second.size))?;
     push_passed(out, on, g.args.len() as u16)?;
     push_call(alloc, out, on, second, g.callee.place)?;
-    load(out, 1, kept_cell(on, 8))?;
+    load(out, 1, kept_cell(on, KEPT_VALUE))?;
     store(out, offset_of(scope, &x.text), Value::Reg(1))?;
     store(out, offset_of(scope, &y.text), Value::Reg(0))?;
     Ok(())

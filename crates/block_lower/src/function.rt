@@ -2,6 +2,8 @@
 
 ghost use Rattle.std.specs.Prelude.{◌≡◌, ◌+◌, ◌<◌, ◌≤◌, ◌++◌, ◌∷◌, [], length, IfOk, OnOk};
 ghost use Rattle.std.specs.List.{AllByRecursion};
+ghost use Rattle.tp_value.specs.declared.limits.TheConstants.{MAX_BLOCKS, MAX_DECLARED_VARIABLES};
+ghost use Rattle.tp_value.specs.declared.limits.TheConstants.{MAX_TABLES};
 ghost use Rattle.loop_rules.specs.Names.{texts};
 ghost use Rattle.tpal_syntax.specs.Listing.{Listing};
 ghost use Rattle.block_lower.specs.Bodies.{entries, HasRoomFor};
@@ -47,7 +49,7 @@ fn size_of(f: &Func) -> u16
 
 /// Functions whose blocks stand one behind the other from a label on.
 pub fn callees_of(alloc: Global, fs: &[Func], first: u32) -> Result<Vec<Callee>, NoMemory>
-    requires labels { first + programs.added_by_funcs fs.now ≤ 65536 }
+    requires labels { first + programs.added_by_funcs fs.now ≤ MAX_BLOCKS }
     requires small { AllByRecursion FuncIsSmall fs.now }
     ensures { IfOk result (λ callees. entries callees.items ≡ programs.entries_from first fs.now) }
 {
@@ -68,7 +70,7 @@ pub fn callees_of(alloc: Global, fs: &[Func], first: u32) -> Result<Vec<Callee>,
 
 /// Makes the parameters visible.
 fn declare_all(alloc: Global, scope: &mut Scope, params: &[Name]) -> Result<(), NoMemory>
-    requires { length scope.old.cells.items + length params.now ≤ 200 }
+    requires { length scope.old.cells.items + length params.now ≤ MAX_DECLARED_VARIABLES }
     ensures sees { OnOk result (SeesAfter (λ names. names ++ texts params.now) scope.old scope.new) }
     ensures cells { OnOk result
         (length scope.new.cells.items ≡ length scope.old.cells.items + length params.now) }
@@ -83,7 +85,7 @@ fn declare_all(alloc: Global, scope: &mut Scope, params: &[Name]) -> Result<(), 
 /// The end of a function, whose result is in register 0: control returns. Its activation still
 /// stands, and goes behind the call.
 fn push_return(alloc: Global, out: &mut Output) -> Result<(), NoMemory>
-    requires { writing.next_label out.old ≤ 65536 }
+    requires { writing.next_label out.old ≤ MAX_BLOCKS }
     ensures labels { OnOk result (writing.next_label out.new ≡ writing.next_label out.old + 1) }
     ensures fresh { OnOk result (IsFresh out.new) }
     ensures code { OnOk result
@@ -105,10 +107,10 @@ fn lower_func(
     on: &Body,
     f: &Func,
 ) -> Result<(), NoMemory>
-    requires few_tables { length scope.old.tables.items ≤ 16 }
+    requires few_tables { length scope.old.tables.items ≤ MAX_TABLES }
     requires low { FuncIsLow f.now }
     requires small { FuncIsSmall f.now }
-    requires labels { writing.next_label out.old + sizes.added_by_func f.now ≤ 65536 }
+    requires labels { writing.next_label out.old + sizes.added_by_func f.now ≤ MAX_BLOCKS }
     requires room { HasRoomFor on.now (sizes.kept_by_list f.now.body.items) }
     requires params { length f.now.params.items ≤ on.now.most }
     requires cells { scope.old.cells.items ≡ [] }
@@ -136,10 +138,10 @@ pub fn lower_funcs(
     on: &mut Body,
     fs: &[Func],
 ) -> Result<(), NoMemory>
-    requires few_tables { length scope.old.tables.items ≤ 16 }
+    requires few_tables { length scope.old.tables.items ≤ MAX_TABLES }
     requires low { AllByRecursion FuncIsLow fs.now }
     requires small { AllByRecursion FuncIsSmall fs.now }
-    requires labels { writing.next_label out.old + programs.added_by_funcs fs.now ≤ 65536 }
+    requires labels { writing.next_label out.old + programs.added_by_funcs fs.now ≤ MAX_BLOCKS }
     requires cells { scope.old.cells.items ≡ [] }
     requires fresh { IsFresh out.old }
     ensures labels { OnOk result

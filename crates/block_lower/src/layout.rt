@@ -1,7 +1,9 @@
 // Where the words of an activation stand.
 
-ghost use Rattle.std.specs.Prelude.{◌≡◌, ◌≤◌};
+ghost use Rattle.std.specs.Prelude.{◌≡◌, ◌<◌, ◌≤◌};
 ghost use Rattle.block_lower.specs.Layout as layout;
+
+use tp_value::{MAX_DECLARED_VARIABLES, MAX_PAR_NESTING, MAX_PARAMETERS};
 
 /// The register with the position of the running activation.
 pub const BASE: u8 = 31;
@@ -12,19 +14,50 @@ pub const RETURN: u16 = 0;
 /// The cell with the number of levels of calls that are left.
 pub const LEVELS: u16 = 2;
 
-/// The cell of the variable before which so many are visible. In front of the first one stand the
-/// label to return to, the record of the side's end, and how many levels of calls are left.
+/// The kept value of a `both` behind the arguments of its second call: the first call's value.
+pub const KEPT_VALUE: u16 = MAX_PARAMETERS as u16;
+
+/// The kept value of a `both` on which its mark stands.
+pub const KEPT_MARK: u16 = MAX_PARAMETERS as u16 + 1;
+
+/// The kept value of a `both` that is its record.
+pub const KEPT_RECORD: u16 = MAX_PARAMETERS as u16 + 2;
+
+/// How many values a `both` keeps.
+pub const KEPT_BY_BOTH: u16 = MAX_PARAMETERS as u16 + 3;
+
+/// The cell of the next iteration that isn't begun, of the `par` loop that stands inside so many
+/// others of its function. In front of those cells stand the label to return to, the record of the
+/// side's end of a call, and how many levels of calls are left.
+pub fn cursor_cell(depth: u32) -> u16
+    requires { depth < MAX_PAR_NESTING }
+    ensures { result ≡ layout.cursor_cell depth }
+{
+    3 + 2 * depth as u16
+}
+
+/// The cell of the record of the side's end, of the `par` loop that stands inside so many others of
+/// its function.
+pub fn rec_cell(depth: u32) -> u16
+    requires { depth < MAX_PAR_NESTING }
+    ensures { result ≡ layout.rec_cell depth }
+{
+    4 + 2 * depth as u16
+}
+
+/// The cell of the variable before which so many are visible, from 19 on: behind the cells of as
+/// many `par` loops as there may be inside one another.
 pub fn value_cell(level: usize) -> u16
-    requires { level ≤ 200 }
+    requires { level ≤ MAX_DECLARED_VARIABLES }
     ensures { result ≡ layout.value_cell level }
 {
-    3 + 2 * level as u16
+    3 + 2 * MAX_PAR_NESTING as u16 + 2 * level as u16
 }
 
 /// The cell of the bound of the loop over that variable.
 pub fn bound_cell(level: usize) -> u16
-    requires { level ≤ 200 }
+    requires { level ≤ MAX_DECLARED_VARIABLES }
     ensures { result ≡ layout.bound_cell level }
 {
-    4 + 2 * level as u16
+    4 + 2 * MAX_PAR_NESTING as u16 + 2 * level as u16
 }

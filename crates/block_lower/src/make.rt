@@ -11,6 +11,8 @@ ghost use Rattle.block_lower.specs.Sizes as sizes;
 ghost use Rattle.block_lower.specs.Writing as writing;
 ghost use Rattle.std.specs.List.{AllByRecursion};
 ghost use Rattle.std.specs.Prelude.{map};
+ghost use Rattle.tp_value.specs.declared.limits.TheConstants.{MAX_BLOCKS, MAX_EXPRESSION_HEIGHT};
+ghost use Rattle.tp_value.specs.declared.limits.TheConstants.{MAX_TABLES};
 
 use crate::body::{Body, kept_cell};
 use crate::output::{Output, push, push_value};
@@ -31,9 +33,9 @@ fn push_make_low(
     a: &Expr,
     b: &Expr,
 ) -> Result<(), NoMemory>
-    requires few_tables { length scope.now.tables.items < 16 }
-    requires registers { (height a.now ≤ 24) × (1 + height b.now ≤ 24) }
-    requires labels { writing.next_label out.old + (trap_count a.now + trap_count b.now) ≤ 65536 }
+    requires few_tables { length scope.now.tables.items < MAX_TABLES }
+    requires registers { (height a.now ≤ MAX_EXPRESSION_HEIGHT) × (1 + height b.now ≤ MAX_EXPRESSION_HEIGHT) }
+    requires labels { writing.next_label out.old + (trap_count a.now + trap_count b.now) ≤ MAX_BLOCKS }
     ensures labels { OnOk result
         (writing.next_label out.new
         ≡ writing.next_label out.old + (trap_count a.now + trap_count b.now)) }
@@ -65,9 +67,9 @@ fn push_make_kept(
     a: &Expr,
     b: &Expr,
 ) -> Result<(), NoMemory>
-    requires few_tables { length scope.now.tables.items < 16 }
-    requires registers { (height a.now ≤ 24) × (height b.now ≤ 24) }
-    requires labels { writing.next_label out.old + (trap_count a.now + trap_count b.now) ≤ 65536 }
+    requires few_tables { length scope.now.tables.items < MAX_TABLES }
+    requires registers { (height a.now ≤ MAX_EXPRESSION_HEIGHT) × (height b.now ≤ MAX_EXPRESSION_HEIGHT) }
+    requires labels { writing.next_label out.old + (trap_count a.now + trap_count b.now) ≤ MAX_BLOCKS }
     requires room { HasRoomFor on.now 1 }
     ensures labels { OnOk result
         (writing.next_label out.new
@@ -99,9 +101,9 @@ fn push_decl(
     on: &Body,
     d: &TableDecl,
 ) -> Result<(), NoMemory>
-    requires few_tables { length scope.now.tables.items < 16 }
+    requires few_tables { length scope.now.tables.items < MAX_TABLES }
     requires low { DeclIsLow d.now }
-    requires labels { writing.next_label out.old + sizes.added_by_decl d.now ≤ 65536 }
+    requires labels { writing.next_label out.old + sizes.added_by_decl d.now ≤ MAX_BLOCKS }
     requires room { HasRoomFor on.now (sizes.kept_by_decl d.now) }
     ensures labels { OnOk result
         (writing.next_label out.new ≡ writing.next_label out.old + sizes.added_by_decl d.now) }
@@ -142,9 +144,9 @@ pub fn push_makes(
     on: &Body,
     ds: &[TableDecl],
 ) -> Result<(), NoMemory>
-    requires few_tables { length scope.old.tables.items + length ds.now ≤ 16 }
+    requires few_tables { length scope.old.tables.items + length ds.now ≤ MAX_TABLES }
     requires low { AllByRecursion DeclIsLow ds.now }
-    requires labels { writing.next_label out.old + sizes.added_by_decls ds.now ≤ 65536 }
+    requires labels { writing.next_label out.old + sizes.added_by_decls ds.now ≤ MAX_BLOCKS }
     requires room { HasRoomFor on.now (sizes.kept_by_decls ds.now) }
     ensures labels { OnOk result
         (writing.next_label out.new ≡ writing.next_label out.old + sizes.added_by_decls ds.now) }

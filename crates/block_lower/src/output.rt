@@ -1,6 +1,8 @@
 // A code that is being written.
 
 ghost use Rattle.std.specs.Prelude.{◌≡◌, ◌+◌, ◌<◌, ◌≤◌, ◌^◌, ◌++◌, ◌∷◌, [], length, OnOk};
+ghost use Rattle.tp_value.specs.declared.limits.TheConstants.{MAX_BLOCKS, MAX_EXPRESSION_HEIGHT};
+ghost use Rattle.tp_value.specs.declared.limits.TheConstants.{MAX_TABLES};
 ghost use Rattle.expr_lower.specs.Bodies.{body_of, traps_of, trap_count};
 ghost use Rattle.loop_rules.specs.Limits.{height};
 ghost use Rattle.block_lower.specs.Lowering.{WritesValue};
@@ -71,9 +73,9 @@ pub fn push_value(
     expr: &Expr,
     to: u8,
 ) -> Result<(), NoMemory>
-    requires few_tables { length scope.now.tables.items ≤ 16 }
-    requires registers { to + height expr.now ≤ 24 }
-    requires labels { writing.next_label out.old + trap_count expr.now ≤ 65536 }
+    requires few_tables { length scope.now.tables.items ≤ MAX_TABLES }
+    requires registers { to + height expr.now ≤ MAX_EXPRESSION_HEIGHT }
+    requires labels { writing.next_label out.old + trap_count expr.now ≤ MAX_BLOCKS }
     ensures blocks { OnOk result (out.new.blocks.items ≡ out.old.blocks.items) }
     ensures body { OnOk result
         (out.new.body.items
@@ -98,7 +100,7 @@ pub fn push_trap_block(
     kind: TrapKind,
     place: Place,
 ) -> Result<(), NoMemory>
-    requires { writing.next_label out.old ≤ 65536 }
+    requires { writing.next_label out.old ≤ MAX_BLOCKS }
     ensures traps { OnOk result (Traps kind place out.old out.new) }
     ensures labels { OnOk result (writing.next_label out.new ≡ writing.next_label out.old + 1) }
 {
@@ -109,7 +111,7 @@ pub fn push_trap_block(
 
 /// Closes the open block, with its trap blocks behind it, and opens the next one.
 pub fn close(alloc: Global, out: &mut Output, term: Term) -> Result<(), NoMemory>
-    requires { writing.next_label out.old ≤ 65536 }
+    requires { writing.next_label out.old ≤ MAX_BLOCKS }
     ensures closed { OnOk result (Closes term out.old out.new) }
     ensures labels { OnOk result (writing.next_label out.new ≡ writing.next_label out.old + 1) }
 {

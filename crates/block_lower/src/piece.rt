@@ -2,6 +2,8 @@
 // of a loop.
 
 ghost use Rattle.std.specs.Prelude.{◌≡◌, ◌+◌, ◌<◌, ◌≤◌, ◌∷◌, [], length, OnOk, IfOk};
+ghost use Rattle.tp_value.specs.declared.limits.TheConstants.{MAX_BLOCKS, MAX_DECLARED_VARIABLES};
+ghost use Rattle.tp_value.specs.declared.limits.TheConstants.{MAX_EXPRESSION_HEIGHT, MAX_TABLES};
 ghost use Rattle.loop_rules.specs.Limits.{height};
 ghost use Rattle.expr_lower.specs.Bodies.{trap_count};
 ghost use Rattle.tpal_syntax.specs.Listing.{Listing};
@@ -29,9 +31,9 @@ pub fn push_operand(
     expr: &Expr,
     to: u8,
 ) -> Result<Value, NoMemory>
-    requires few_tables { length scope.now.tables.items ≤ 16 }
-    requires registers { to + height expr.now ≤ 24 }
-    requires labels { writing.next_label out.old + trap_count expr.now ≤ 65536 }
+    requires few_tables { length scope.now.tables.items ≤ MAX_TABLES }
+    requires registers { to + height expr.now ≤ MAX_EXPRESSION_HEIGHT }
+    requires labels { writing.next_label out.old + trap_count expr.now ≤ MAX_BLOCKS }
     ensures labels { OnOk result
         (writing.next_label out.new ≡ writing.next_label out.old + trap_count expr.now) }
     ensures code { IfOk result (λ value. WritesOperand scope.now expr.now to value out.old out.new) }
@@ -92,9 +94,9 @@ pub fn push_test(
     first: u32,
     second: u32,
 ) -> Result<(), NoMemory>
-    requires few_tables { length scope.now.tables.items ≤ 16 }
-    requires registers { height e.now ≤ 24 }
-    requires labels { writing.next_label out.old + trap_count e.now ≤ 65536 }
+    requires few_tables { length scope.now.tables.items ≤ MAX_TABLES }
+    requires registers { height e.now ≤ MAX_EXPRESSION_HEIGHT }
+    requires labels { writing.next_label out.old + trap_count e.now ≤ MAX_BLOCKS }
     ensures labels { OnOk result
         (writing.next_label out.new ≡ writing.next_label out.old + trap_count e.now + 1) }
     ensures fresh { OnOk result (IsFresh out.new) }
@@ -122,7 +124,7 @@ pub fn push_below(
     again: u32,
     exit: u32,
 ) -> Result<(), NoMemory>
-    requires { writing.next_label out.old ≤ 65536 }
+    requires { writing.next_label out.old ≤ MAX_BLOCKS }
     ensures labels { OnOk result (writing.next_label out.new ≡ writing.next_label out.old + 1) }
     ensures fresh { OnOk result (IsFresh out.new) }
     ensures code { OnOk result (WritesBelow counter bound again exit out.old out.new) }
@@ -149,7 +151,7 @@ pub fn push_below(
 
 /// The next number of a loop, in a register and in the cell of the variable of this level.
 pub fn push_next(out: &mut Output, counter: u8, level: usize) -> Result<(), NoMemory>
-    requires { level ≤ 200 }
+    requires { level ≤ MAX_DECLARED_VARIABLES }
     ensures pushed { OnOk result (Pushes (codes.step_up counter level []) out.old out.new) }
     ensures labels { OnOk result (writing.next_label out.new ≡ writing.next_label out.old) }
 {
@@ -178,10 +180,10 @@ pub fn push_start(
     again: u32,
     exit: u32,
 ) -> Result<(), NoMemory>
-    requires few_tables { length scope.now.tables.items ≤ 16 }
-    requires registers { height a.now ≤ 24 }
-    requires labels { writing.next_label out.old + trap_count a.now ≤ 65536 }
-    requires cells { length scope.now.cells.items < 200 }
+    requires few_tables { length scope.now.tables.items ≤ MAX_TABLES }
+    requires registers { height a.now ≤ MAX_EXPRESSION_HEIGHT }
+    requires labels { writing.next_label out.old + trap_count a.now ≤ MAX_BLOCKS }
+    requires cells { length scope.now.cells.items < MAX_DECLARED_VARIABLES }
     ensures labels { OnOk result
         (writing.next_label out.new ≡ writing.next_label out.old + trap_count a.now + 1) }
     ensures fresh { OnOk result (IsFresh out.new) }
@@ -202,8 +204,8 @@ pub fn push_turn(
     again: u32,
     exit: u32,
 ) -> Result<(), NoMemory>
-    requires cells { level ≤ 200 }
-    requires labels { writing.next_label out.old ≤ 65536 }
+    requires cells { level ≤ MAX_DECLARED_VARIABLES }
+    requires labels { writing.next_label out.old ≤ MAX_BLOCKS }
     ensures labels { OnOk result (writing.next_label out.new ≡ writing.next_label out.old + 1) }
     ensures fresh { OnOk result (IsFresh out.new) }
     ensures code { OnOk result
@@ -225,10 +227,10 @@ pub fn push_bounds(
     a: &Expr,
     b: &Expr,
 ) -> Result<(), NoMemory>
-    requires few_tables { length scope.now.tables.items ≤ 16 }
-    requires registers { (height a.now ≤ 24) × (height b.now ≤ 24) }
-    requires labels { writing.next_label out.old + (trap_count a.now + trap_count b.now) ≤ 65536 }
-    requires cells { length scope.now.cells.items < 200 }
+    requires few_tables { length scope.now.tables.items ≤ MAX_TABLES }
+    requires registers { (height a.now ≤ MAX_EXPRESSION_HEIGHT) × (height b.now ≤ MAX_EXPRESSION_HEIGHT) }
+    requires labels { writing.next_label out.old + (trap_count a.now + trap_count b.now) ≤ MAX_BLOCKS }
+    requires cells { length scope.now.cells.items < MAX_DECLARED_VARIABLES }
     ensures labels { OnOk result
         (writing.next_label out.new
         ≡ writing.next_label out.old + (trap_count a.now + trap_count b.now)) }
@@ -251,8 +253,8 @@ pub fn push_bounded_turn(
     again: u32,
     exit: u32,
 ) -> Result<(), NoMemory>
-    requires cells { level ≤ 200 }
-    requires labels { writing.next_label out.old ≤ 65536 }
+    requires cells { level ≤ MAX_DECLARED_VARIABLES }
+    requires labels { writing.next_label out.old ≤ MAX_BLOCKS }
     ensures labels { OnOk result (writing.next_label out.new ≡ writing.next_label out.old + 1) }
     ensures fresh { OnOk result (IsFresh out.new) }
     ensures code { OnOk result
@@ -272,7 +274,7 @@ pub fn push_bounded_turn(
 /// The test of a `par`, whose first number is in register 1 and whose bound is in register 0: the
 /// label `check` where it has an iteration, else the exit.
 pub fn push_some(alloc: Global, out: &mut Output, check: u32, exit: u32) -> Result<(), NoMemory>
-    requires { writing.next_label out.old ≤ 65536 }
+    requires { writing.next_label out.old ≤ MAX_BLOCKS }
     ensures labels { OnOk result (writing.next_label out.new ≡ writing.next_label out.old + 1) }
     ensures fresh { OnOk result (IsFresh out.new) }
     ensures code { OnOk result (WritesSome check exit out.old out.new) }
@@ -320,7 +322,7 @@ fn push_length_test(out: &mut Output, alu: Alu, bound: i64, label: u32) -> Resul
 /// The test of the length of a `par`, in an open block of its own: the label `again` where it isn't
 /// too wide, else the trap block, which stands behind the test.
 pub fn push_wide(alloc: Global, out: &mut Output, place: Place, again: u32) -> Result<(), NoMemory>
-    requires labels { writing.next_label out.old + 1 ≤ 65536 }
+    requires labels { writing.next_label out.old + 1 ≤ MAX_BLOCKS }
     requires fresh { IsFresh out.old }
     ensures labels { OnOk result (writing.next_label out.new ≡ writing.next_label out.old + 2) }
     ensures fresh { OnOk result (IsFresh out.new) }

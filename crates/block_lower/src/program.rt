@@ -2,7 +2,7 @@
 
 ghost use Rattle.std.specs.Prelude.{◌≡◌, ◌+◌, ◌≤◌, pos, max, map, ◌∷◌, [], length, IfOk, IfErr};
 ghost use Rattle.std.specs.Prelude.{OnOk};
-ghost use Rattle.tp_value.specs.declared.limits.TheConstants.{MAX_BLOCKS};
+ghost use Rattle.tp_value.specs.declared.limits.TheConstants.{MAX_BLOCKS, MAX_TABLES};
 ghost use Rattle.loop_rules.specs.Names.{texts};
 ghost use Rattle.tpal_syntax.specs.Listing.{Listing};
 ghost use Rattle.expr_lower.specs.Standing.{AreAt};
@@ -98,7 +98,7 @@ fn lower_main(
     program: &Program,
 ) -> Result<(), NoMemory>
     requires fits { ProgramFits program.now }
-    requires labels { writing.next_label out.old + programs.added_by_main program.now ≤ 65536 }
+    requires labels { writing.next_label out.old + programs.added_by_main program.now ≤ MAX_BLOCKS }
     requires most { on.now.most ≡ sizes.declared_by_list program.now.main.items }
     requires room { HasRoomFor on.now
         (max (sizes.kept_by_list program.now.main.items)
@@ -109,7 +109,7 @@ fn lower_main(
         ≡ writing.next_label out.old + programs.added_by_main program.now) }
     ensures fresh { OnOk result (IsFresh out.new) }
     ensures cells { OnOk result (scope.new.cells.items ≡ []) }
-    ensures tables { OnOk result (length scope.new.tables.items ≤ 16) }
+    ensures tables { OnOk result (length scope.new.tables.items ≤ MAX_TABLES) }
     ensures sees { OnOk result (Sees scope.new [] (map table_name program.now.tables.items)) }
     ensures code { OnOk result (LowersMain on.now program.now out.old out.new) }
 {
@@ -124,7 +124,7 @@ fn lower_main(
 /// The blocks of a program, by their labels: those of main, then those of its functions.
 fn program_blocks(alloc: Global, program: &Program) -> Result<Vec<Block>, NoMemory>
     requires fits { ProgramFits program.now }
-    requires labels { programs.added_by_program program.now + 1 ≤ 65536 }
+    requires labels { programs.added_by_program program.now + 1 ≤ MAX_BLOCKS }
     ensures count { IfOk result (λ blocks. length blocks.items ≡ programs.added_by_program program.now) }
     ensures code { IfOk result
         (λ blocks. (code : Listing)

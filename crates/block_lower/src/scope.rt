@@ -1,6 +1,7 @@
 // The variables that are visible while statements are lowered.
 
 ghost use Rattle.std.specs.Prelude.{◌≡◌, ◌<◌, ◌≤◌, ◌+◌, ◌++◌, ◌∷◌, [], take, length, OnOk};
+ghost use Rattle.tp_value.specs.declared.limits.TheConstants.{MAX_DECLARED_VARIABLES};
 ghost use Rattle.block_lower.specs.Names.{SeesAfter};
 
 use crate::layout::value_cell;
@@ -10,7 +11,7 @@ use tp_value::NoMemory;
 
 /// Makes a variable visible, in the cell of its level.
 pub fn declare(alloc: Global, scope: &mut Scope, name: &[u8]) -> Result<(), NoMemory>
-    requires { length scope.old.cells.items < 200 }
+    requires { length scope.old.cells.items < MAX_DECLARED_VARIABLES }
     ensures sees { OnOk result (SeesAfter (λ names. names ++ name.now ∷ []) scope.old scope.new) }
     ensures cells { OnOk result (length scope.new.cells.items ≡ length scope.old.cells.items + 1) }
     ensures tables { OnOk result (scope.new.tables ≡ scope.old.tables) }

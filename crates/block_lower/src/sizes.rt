@@ -5,12 +5,10 @@ ghost use Rattle.std.specs.Prelude.{◌≡◌, ◌+◌, min};
 ghost use Rattle.expr_lower.specs.Bodies.{trap_count};
 ghost use Rattle.block_lower.specs.Sizes as sizes;
 
+use crate::layout::KEPT_BY_BOTH;
 use expr_lower::trap_count;
 use loop_syntax::{Expr, Func, Stmt, TableDecl};
 use tp_value::MAX_EXPRESSION_HEIGHT;
-
-/// The values that are kept for the second of two calls: the first's value, and eight arguments.
-const KEPT_BY_BOTH: u16 = 9;
 
 /// How many trap blocks expressions have.
 pub fn trap_counts(es: &[Expr]) -> u32
@@ -173,7 +171,7 @@ pub fn is_low_at(to: u32, e: &Expr) -> bool
 }
 
 /// How many values a statement keeps in its activation while it computes others. There are at most
-/// 9.
+/// `KEPT_BY_BOTH`.
 #[cycle(kept)]
 fn kept(s: &Stmt) -> u16
     ensures { result ≡ sizes.kept s.now }

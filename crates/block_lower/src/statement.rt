@@ -1,6 +1,8 @@
 // The code of statements.
 
 ghost use Rattle.std.specs.Prelude.{◌≡◌, ◌+◌, ◌<◌, ◌≤◌, ◌++◌, ◌∷◌, [], length, List, Some, OnOk};
+ghost use Rattle.tp_value.specs.declared.limits.TheConstants.{MAX_BLOCKS, MAX_DECLARED_VARIABLES};
+ghost use Rattle.tp_value.specs.declared.limits.TheConstants.{MAX_EXPRESSION_HEIGHT, MAX_TABLES};
 ghost use Rattle.loop_rules.specs.Limits.{height};
 ghost use Rattle.loop_syntax.specs.declared.Expr.{Expr};
 ghost use Rattle.expr_lower.specs.Bodies.{trap_count, literal};
@@ -41,10 +43,10 @@ fn lower_let(
     x: &Name,
     e: &Expr,
 ) -> Result<(), NoMemory>
-    requires few_tables { length scope.old.tables.items ≤ 16 }
-    requires registers { height e.now ≤ 24 }
-    requires labels { writing.next_label out.old + trap_count e.now ≤ 65536 }
-    requires cells { length scope.old.cells.items < 200 }
+    requires few_tables { length scope.old.tables.items ≤ MAX_TABLES }
+    requires registers { height e.now ≤ MAX_EXPRESSION_HEIGHT }
+    requires labels { writing.next_label out.old + trap_count e.now ≤ MAX_BLOCKS }
+    requires cells { length scope.old.cells.items < MAX_DECLARED_VARIABLES }
     ensures labels { OnOk result (writing.next_label out.new ≡ writing.next_label out.old + trap_count e.now) }
     ensures cells { OnOk result (length scope.new.cells.items ≡ length scope.old.cells.items + 1) }
     ensures tables { OnOk result (scope.new.tables ≡ scope.old.tables) }
@@ -66,9 +68,9 @@ fn lower_set(
     x: &Name,
     e: &Expr,
 ) -> Result<(), NoMemory>
-    requires few_tables { length scope.now.tables.items ≤ 16 }
-    requires registers { height e.now ≤ 24 }
-    requires labels { writing.next_label out.old + trap_count e.now ≤ 65536 }
+    requires few_tables { length scope.now.tables.items ≤ MAX_TABLES }
+    requires registers { height e.now ≤ MAX_EXPRESSION_HEIGHT }
+    requires labels { writing.next_label out.old + trap_count e.now ≤ MAX_BLOCKS }
     ensures labels { OnOk result (writing.next_label out.new ≡ writing.next_label out.old + trap_count e.now) }
     ensures code { OnOk result
         ((on : Body) (reduces : List Reduce)
@@ -113,9 +115,9 @@ fn push_fold(
     e: &Expr,
     op: Op,
 ) -> Result<(), NoMemory>
-    requires few_tables { length scope.now.tables.items ≤ 16 }
-    requires registers { height e.now ≤ 24 }
-    requires labels { writing.next_label out.old + trap_count e.now ≤ 65536 }
+    requires few_tables { length scope.now.tables.items ≤ MAX_TABLES }
+    requires registers { height e.now ≤ MAX_EXPRESSION_HEIGHT }
+    requires labels { writing.next_label out.old + trap_count e.now ≤ MAX_BLOCKS }
     ensures labels { OnOk result (writing.next_label out.new ≡ writing.next_label out.old + trap_count e.now) }
     ensures code { OnOk result
         ((on : Body) (reduces : List Reduce)
@@ -147,9 +149,9 @@ fn lower_fold(
     x: &Name,
     e: &Expr,
 ) -> Result<(), NoMemory>
-    requires few_tables { length scope.now.tables.items ≤ 16 }
-    requires registers { height e.now ≤ 24 }
-    requires labels { writing.next_label out.old + trap_count e.now ≤ 65536 }
+    requires few_tables { length scope.now.tables.items ≤ MAX_TABLES }
+    requires registers { height e.now ≤ MAX_EXPRESSION_HEIGHT }
+    requires labels { writing.next_label out.old + trap_count e.now ≤ MAX_BLOCKS }
     ensures labels { OnOk result (writing.next_label out.new ≡ writing.next_label out.old + trap_count e.now) }
     ensures code { OnOk result
         ((on : Body) → Lowers on reduces.now scope.now (Stmt.Fold x.now e.now) out.old out.new) }
@@ -167,9 +169,9 @@ fn lower_print(
     place: Place,
     e: &Expr,
 ) -> Result<(), NoMemory>
-    requires few_tables { length scope.now.tables.items ≤ 16 }
-    requires registers { height e.now ≤ 24 }
-    requires labels { writing.next_label out.old + trap_count e.now ≤ 65536 }
+    requires few_tables { length scope.now.tables.items ≤ MAX_TABLES }
+    requires registers { height e.now ≤ MAX_EXPRESSION_HEIGHT }
+    requires labels { writing.next_label out.old + trap_count e.now ≤ MAX_BLOCKS }
     ensures labels { OnOk result (writing.next_label out.new ≡ writing.next_label out.old + trap_count e.now) }
     ensures code { OnOk result
         ((on : Body) (reduces : List Reduce)
@@ -191,11 +193,11 @@ fn lower_branch(
     body: &[Stmt],
     exit: u32,
 ) -> Result<(), NoMemory>
-    requires few_tables { length scope.old.tables.items ≤ 16 }
+    requires few_tables { length scope.old.tables.items ≤ MAX_TABLES }
     requires low { AllAreLow body.now }
-    requires labels { writing.next_label out.old + (sizes.added_by_list body.now + 1) ≤ 65536 }
+    requires labels { writing.next_label out.old + (sizes.added_by_list body.now + 1) ≤ MAX_BLOCKS }
     requires room { HasRoomFor on.now (sizes.kept_by_list body.now) }
-    requires cells { length scope.old.cells.items + sizes.declared_by_list body.now ≤ 200 }
+    requires cells { length scope.old.cells.items + sizes.declared_by_list body.now ≤ MAX_DECLARED_VARIABLES }
     requires fresh { IsFresh out.old }
     ensures labels { OnOk result
         (writing.next_label out.new
@@ -224,11 +226,11 @@ fn lower_other(
     body: &[Stmt],
     exit: u32,
 ) -> Result<(), NoMemory>
-    requires few_tables { length scope.old.tables.items ≤ 16 }
+    requires few_tables { length scope.old.tables.items ≤ MAX_TABLES }
     requires low { AllAreLow body.now }
-    requires labels { writing.next_label out.old + sizes.added_by_second body.now ≤ 65536 }
+    requires labels { writing.next_label out.old + sizes.added_by_second body.now ≤ MAX_BLOCKS }
     requires room { HasRoomFor on.now (sizes.kept_by_list body.now) }
-    requires cells { length scope.old.cells.items + sizes.declared_by_list body.now ≤ 200 }
+    requires cells { length scope.old.cells.items + sizes.declared_by_list body.now ≤ MAX_DECLARED_VARIABLES }
     requires fresh { IsFresh out.old }
     ensures labels { OnOk result
         (writing.next_label out.new ≡ writing.next_label out.old + sizes.added_by_second body.now) }
@@ -256,13 +258,13 @@ fn lower_while(
     body: &[Stmt],
     e: &Expr,
 ) -> Result<(), NoMemory>
-    requires few_tables { length scope.old.tables.items ≤ 16 }
-    requires low { (height e.now ≤ 24) × AllAreLow body.now }
+    requires few_tables { length scope.old.tables.items ≤ MAX_TABLES }
+    requires low { (height e.now ≤ MAX_EXPRESSION_HEIGHT) × AllAreLow body.now }
     requires labels { writing.next_label out.old
         + (trap_count e.now + 1 + (sizes.added_by_list body.now + 1) + trap_count e.now)
-        ≤ 65536 }
+        ≤ MAX_BLOCKS }
     requires room { HasRoomFor on.now (sizes.kept_by_list body.now) }
-    requires cells { length scope.old.cells.items + sizes.declared_by_list body.now ≤ 200 }
+    requires cells { length scope.old.cells.items + sizes.declared_by_list body.now ≤ MAX_DECLARED_VARIABLES }
     ensures labels { OnOk result
         (writing.next_label out.new
         ≡ writing.next_label out.old
@@ -297,11 +299,11 @@ fn lower_body(
     body: &[Stmt],
     x: &Name,
 ) -> Result<(), NoMemory>
-    requires few_tables { length scope.old.tables.items ≤ 16 }
+    requires few_tables { length scope.old.tables.items ≤ MAX_TABLES }
     requires low { AllAreLow body.now }
-    requires labels { writing.next_label out.old + sizes.added_by_list body.now ≤ 65536 }
+    requires labels { writing.next_label out.old + sizes.added_by_list body.now ≤ MAX_BLOCKS }
     requires room { HasRoomFor on.now (sizes.kept_by_list body.now) }
-    requires cells { length scope.old.cells.items + (sizes.declared_by_list body.now + 1) ≤ 200 }
+    requires cells { length scope.old.cells.items + (sizes.declared_by_list body.now + 1) ≤ MAX_DECLARED_VARIABLES }
     requires fresh { IsFresh out.old }
     ensures labels { OnOk result
         (writing.next_label out.new ≡ writing.next_label out.old + sizes.added_by_list body.now) }
@@ -332,12 +334,12 @@ fn lower_loop_to(
     a: &Expr,
     bound: i64,
 ) -> Result<(), NoMemory>
-    requires few_tables { length scope.old.tables.items ≤ 16 }
-    requires low { (height a.now ≤ 24) × AllAreLow body.now }
+    requires few_tables { length scope.old.tables.items ≤ MAX_TABLES }
+    requires low { (height a.now ≤ MAX_EXPRESSION_HEIGHT) × AllAreLow body.now }
     requires labels { writing.next_label out.old + (trap_count a.now + 1 + (sizes.added_by_list body.now + 1))
-        ≤ 65536 }
+        ≤ MAX_BLOCKS }
     requires room { HasRoomFor on.now (sizes.kept_by_list body.now) }
-    requires cells { length scope.old.cells.items + (sizes.declared_by_list body.now + 1) ≤ 200 }
+    requires cells { length scope.old.cells.items + (sizes.declared_by_list body.now + 1) ≤ MAX_DECLARED_VARIABLES }
     ensures labels { OnOk result
         (writing.next_label out.new
         ≡ writing.next_label out.old
@@ -376,13 +378,13 @@ fn lower_loop(
     a: &Expr,
     b: &Expr,
 ) -> Result<(), NoMemory>
-    requires few_tables { length scope.old.tables.items ≤ 16 }
-    requires low { (height a.now ≤ 24) × (height b.now ≤ 24) × AllAreLow body.now }
+    requires few_tables { length scope.old.tables.items ≤ MAX_TABLES }
+    requires low { (height a.now ≤ MAX_EXPRESSION_HEIGHT) × (height b.now ≤ MAX_EXPRESSION_HEIGHT) × AllAreLow body.now }
     requires labels { writing.next_label out.old
         + (trap_count a.now + trap_count b.now + 1 + (sizes.added_by_list body.now + 1))
-        ≤ 65536 }
+        ≤ MAX_BLOCKS }
     requires room { HasRoomFor on.now (sizes.kept_by_list body.now) }
-    requires cells { length scope.old.cells.items + (sizes.declared_by_list body.now + 1) ≤ 200 }
+    requires cells { length scope.old.cells.items + (sizes.declared_by_list body.now + 1) ≤ MAX_DECLARED_VARIABLES }
     ensures labels { OnOk result
         (writing.next_label out.new
         ≡ writing.next_label out.old
@@ -415,14 +417,14 @@ fn lower_par(
     on: &Body,
     l: &ParLoop,
 ) -> Result<(), NoMemory>
-    requires few_tables { length scope.old.tables.items ≤ 16 }
-    requires low { (height l.now.from ≤ 24) × (height l.now.to ≤ 24) × AllAreLow l.now.body.items }
+    requires few_tables { length scope.old.tables.items ≤ MAX_TABLES }
+    requires low { (height l.now.from ≤ MAX_EXPRESSION_HEIGHT) × (height l.now.to ≤ MAX_EXPRESSION_HEIGHT) × AllAreLow l.now.body.items }
     requires labels { writing.next_label out.old
         + (trap_count l.now.from + trap_count l.now.to + 3
         + (sizes.added_by_list l.now.body.items + 1))
-        ≤ 65536 }
+        ≤ MAX_BLOCKS }
     requires room { HasRoomFor on.now (sizes.kept_by_list l.now.body.items) }
-    requires cells { length scope.old.cells.items + (sizes.declared_by_list l.now.body.items + 1) ≤ 200 }
+    requires cells { length scope.old.cells.items + (sizes.declared_by_list l.now.body.items + 1) ≤ MAX_DECLARED_VARIABLES }
     ensures labels { OnOk result
         (writing.next_label out.new
         ≡ writing.next_label out.old
@@ -457,11 +459,11 @@ fn lower_stmt(
     reduces: &[Reduce],
     s: &Stmt,
 ) -> Result<(), NoMemory>
-    requires few_tables { length scope.old.tables.items ≤ 16 }
+    requires few_tables { length scope.old.tables.items ≤ MAX_TABLES }
     requires low { AreLow s.now }
-    requires labels { writing.next_label out.old + sizes.added s.now ≤ 65536 }
+    requires labels { writing.next_label out.old + sizes.added s.now ≤ MAX_BLOCKS }
     requires room { HasRoomFor on.now (sizes.kept s.now) }
-    requires cells { length scope.old.cells.items + sizes.declared s.now ≤ 200 }
+    requires cells { length scope.old.cells.items + sizes.declared s.now ≤ MAX_DECLARED_VARIABLES }
     ensures labels { OnOk result (writing.next_label out.new ≡ writing.next_label out.old + sizes.added s.now) }
     ensures cells { OnOk result
         (length scope.new.cells.items ≤ length scope.old.cells.items + sizes.declared s.now) }
@@ -506,11 +508,11 @@ pub fn lower_list(
     reduces: &[Reduce],
     body: &[Stmt],
 ) -> Result<(), NoMemory>
-    requires few_tables { length scope.old.tables.items ≤ 16 }
+    requires few_tables { length scope.old.tables.items ≤ MAX_TABLES }
     requires low { AllAreLow body.now }
-    requires labels { writing.next_label out.old + sizes.added_by_list body.now ≤ 65536 }
+    requires labels { writing.next_label out.old + sizes.added_by_list body.now ≤ MAX_BLOCKS }
     requires room { HasRoomFor on.now (sizes.kept_by_list body.now) }
-    requires cells { length scope.old.cells.items + sizes.declared_by_list body.now ≤ 200 }
+    requires cells { length scope.old.cells.items + sizes.declared_by_list body.now ≤ MAX_DECLARED_VARIABLES }
     ensures labels { OnOk result
         (writing.next_label out.new ≡ writing.next_label out.old + sizes.added_by_list body.now) }
     ensures cells { OnOk result

@@ -1,6 +1,8 @@
 // The code of statements on tables.
 
 ghost use Rattle.std.specs.Prelude.{◌≡◌, ◌+◌, ◌≤◌, length, List, OnOk};
+ghost use Rattle.tp_value.specs.declared.limits.TheConstants.{MAX_BLOCKS, MAX_EXPRESSION_HEIGHT};
+ghost use Rattle.tp_value.specs.declared.limits.TheConstants.{MAX_TABLES};
 ghost use Rattle.loop_rules.specs.Limits.{height};
 ghost use Rattle.loop_syntax.specs.declared.Reduce.{Reduce};
 ghost use Rattle.loop_syntax.specs.declared.Stmt;
@@ -32,7 +34,7 @@ fn push_put(
     from: u8,
     place: Place,
 ) -> Result<(), NoMemory>
-    requires { writing.next_label out.old ≤ 65536 }
+    requires { writing.next_label out.old ≤ MAX_BLOCKS }
     ensures labels { OnOk result (writing.next_label out.new ≡ writing.next_label out.old + 1) }
     ensures code { OnOk result (WritesPut table row col from place out.old out.new) }
 {
@@ -61,10 +63,10 @@ fn lower_put_low(
     b: &Expr,
     e: &Expr,
 ) -> Result<(), NoMemory>
-    requires few_tables { length scope.now.tables.items ≤ 16 }
-    requires registers { (height a.now ≤ 24) × (1 + height b.now ≤ 24) × (2 + height e.now ≤ 24) }
+    requires few_tables { length scope.now.tables.items ≤ MAX_TABLES }
+    requires registers { (height a.now ≤ MAX_EXPRESSION_HEIGHT) × (1 + height b.now ≤ MAX_EXPRESSION_HEIGHT) × (2 + height e.now ≤ MAX_EXPRESSION_HEIGHT) }
     requires labels { writing.next_label out.old + (trap_count a.now + trap_count b.now + trap_count e.now + 1)
-        ≤ 65536 }
+        ≤ MAX_BLOCKS }
     ensures labels { OnOk result
         (writing.next_label out.new
         ≡ writing.next_label out.old
@@ -92,10 +94,10 @@ fn lower_put_kept(
     b: &Expr,
     e: &Expr,
 ) -> Result<(), NoMemory>
-    requires few_tables { length scope.now.tables.items ≤ 16 }
-    requires registers { (height a.now ≤ 24) × (height b.now ≤ 24) × (height e.now ≤ 24) }
+    requires few_tables { length scope.now.tables.items ≤ MAX_TABLES }
+    requires registers { (height a.now ≤ MAX_EXPRESSION_HEIGHT) × (height b.now ≤ MAX_EXPRESSION_HEIGHT) × (height e.now ≤ MAX_EXPRESSION_HEIGHT) }
     requires labels { writing.next_label out.old + (trap_count a.now + trap_count b.now + trap_count e.now + 1)
-        ≤ 65536 }
+        ≤ MAX_BLOCKS }
     requires room { HasRoomFor on.now 2 }
     ensures labels { OnOk result
         (writing.next_label out.new
@@ -128,10 +130,10 @@ pub fn lower_put(
     b: &Expr,
     e: &Expr,
 ) -> Result<(), NoMemory>
-    requires few_tables { length scope.now.tables.items ≤ 16 }
+    requires few_tables { length scope.now.tables.items ≤ MAX_TABLES }
     requires low { IsLow a.now × IsLow b.now × IsLow e.now }
     requires labels { writing.next_label out.old + (trap_count a.now + trap_count b.now + trap_count e.now + 1)
-        ≤ 65536 }
+        ≤ MAX_BLOCKS }
     requires room { HasRoomFor on.now (sizes.kept (Stmt.Put t.now a.now b.now e.now)) }
     ensures labels { OnOk result
         (writing.next_label out.new
@@ -150,7 +152,7 @@ pub fn lower_put(
 
 /// The lines of a table.
 pub fn lower_emit(out: &mut Output, scope: &Scope, place: Place, t: &Name) -> Result<(), NoMemory>
-    requires { length scope.now.tables.items ≤ 16 }
+    requires { length scope.now.tables.items ≤ MAX_TABLES }
     ensures labels { OnOk result (writing.next_label out.new ≡ writing.next_label out.old) }
     ensures code { OnOk result
         ((on : Body) (reduces : List Reduce)

@@ -18,19 +18,19 @@ fn a_compiled_program_is_its_code(rt: HostRuntime) -> Result<(), Fail> {
     let cases: [(&str, &str); 4] = [
         (
             "main { }",
-            "b0: plain\n  salloc 3\n  mem[r31+2] := 10000\n  halt\n",
+            "b0: plain\n  salloc 19\n  mem[r31+2] := 10000\n  halt\n",
         ),
         (
             "main { print 2 + 3; }",
-            "b0: plain\n  salloc 3\n  mem[r31+2] := 10000\n  r0 := 2\n  r0 := r0 add 3\n  print r0\n  halt\n",
+            "b0: plain\n  salloc 19\n  mem[r31+2] := 10000\n  r0 := 2\n  r0 := r0 add 3\n  print r0\n  halt\n",
         ),
         (
             "main { print 1 + 2 * 3; print 4; }",
-            "b0: plain\n  salloc 3\n  mem[r31+2] := 10000\n  r0 := 1\n  r1 := 2\n  r1 := r1 mul 3\n  r0 := r0 add r1\n  print r0\n  r0 := 4\n  print r0\n  halt\n",
+            "b0: plain\n  salloc 19\n  mem[r31+2] := 10000\n  r0 := 1\n  r1 := 2\n  r1 := r1 mul 3\n  r0 := r0 add r1\n  print r0\n  r0 := 4\n  print r0\n  halt\n",
         ),
         (
             "main { print 007; }",
-            "b0: plain\n  salloc 3\n  mem[r31+2] := 10000\n  r0 := 7\n  print r0\n  halt\n",
+            "b0: plain\n  salloc 19\n  mem[r31+2] := 10000\n  r0 := 7\n  print r0\n  halt\n",
         ),
     ];
     for (source, text) in cases {
