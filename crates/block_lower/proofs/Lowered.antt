@@ -27,6 +27,7 @@ use Rattle.block_lower.specs.Fitting.{AllFit, IsFree, level_of}
 use Rattle.block_lower.specs.Layout.{value_cell}
 use Rattle.block_lower.specs.Lowering.{WritesValue, WritesOperand, WritesTest, WritesBelow, Lowers, WithBody, LowersAll, LowersBranch, LowersOther, LowersBody}
 use Rattle.block_lower.specs.Names.{Sees, SeesAfter, names_after_list}
+use Rattle.block_lower.specs.Round.{Round}
 use Rattle.block_lower.specs.Writing.{label, IsFresh, Pushes, Closes, Stands, Continues, Leads}
 use Rattle.block_lower.proofs.Fitting.{fit_of_vec, fit_before, fit_last, codes_more}
 use Rattle.block_lower.proofs.Seeing.{as_long, cell_of_level, seen_variable}
@@ -58,7 +59,7 @@ module _ (on : Body) (reduces : List Reduce) where
   -- ---- simple statements
 
   pub let_written : (scope : Scope) (x : Name) (e : Expr) (v : Value) (old valued new : Output) → WritesOperand scope e 0 v old valued → Pushes (store (value_cell (length scope.cells.items)) v ∷ []) valued new → Lowers on reduces scope (Let x e) old new
-  let_written scope x e v old valued new writes push code tables names fixed more last sees fits c =
+  let_written scope x e v old valued new writes push code tables names round more last same sees fits c =
       let cell : ℕ → Instr = λ n. store (value_cell n) v in
       let w : Leads code old (λ instrs end. (end ≡ last) × Operand code (activation on tables) names e 0 v instrs (cell (length scope.cells.items) ∷ more)) =
       writes code (activation on tables) names (cell (length scope.cells.items) ∷ more) last sees fits.1 (pushed code valued new (cell (length scope.cells.items) ∷ []) more last push c) in
@@ -68,7 +69,7 @@ module _ (on : Body) (reduces : List Reduce) where
         instrs = w.instrs;
         end = w.end;
         continues = w.continues;
-        told = subst (λ (t : Term). Code code (activation on tables) reduces names fixed (Let x e) w.instrs w.end more t) w.told.0 (let_code fits.0 operand);
+        told = subst (λ (t : Term). Code code (activation on tables) round names (Let x e) w.instrs w.end more t) w.told.0 (let_code fits.0 operand);
       }
 
   pub cell_is : (scope : Scope) (tables names : List (List ℕ)) (fixed : List ℕ) (x : List ℕ) (code : Listing) → Sees scope names tables → IsFree tables (entries on.callees.items) on.most names fixed x → IsCell code (activation on tables) names fixed x (offset_of scope x)
@@ -84,7 +85,7 @@ module _ (on : Body) (reduces : List Reduce) where
   }
 
   pub set_written : (scope : Scope) (x : Name) (e : Expr) (v : Value) (old valued new : Output) → WritesOperand scope e 0 v old valued → Pushes (store (offset_of scope x.text.items) v ∷ []) valued new → Lowers on reduces scope (Set x e) old new
-  set_written scope x e v old valued new writes push code tables names fixed more last sees fits c =
+  set_written scope x e v old valued new writes push code tables names round more last same sees fits c =
       let cell : Instr = store (offset_of scope x.text.items) v in
       let w : Leads code old (λ instrs end. (end ≡ last) × Operand code (activation on tables) names e 0 v instrs (cell ∷ more)) =
       writes code (activation on tables) names (cell ∷ more) last sees fits.1 (pushed code valued new (cell ∷ []) more last push c) in
@@ -92,69 +93,69 @@ module _ (on : Body) (reduces : List Reduce) where
         instrs = w.instrs;
         end = w.end;
         continues = w.continues;
-        told = subst (λ (t : Term). Code code (activation on tables) reduces names fixed (Set x e) w.instrs w.end more t) w.told.0
-            (set_code (cell_is scope tables names fixed x.text.items code sees fits.0) w.told.1);
+        told = subst (λ (t : Term). Code code (activation on tables) round names (Set x e) w.instrs w.end more t) w.told.0
+            (set_code (cell_is scope tables names round.fixed x.text.items code sees fits.0) w.told.1);
       }
 
   pub print_written : (scope : Scope) (place : Place) (e : Expr) (old valued new : Output) → WritesValue scope e 0 old valued → Pushes (instr.Print 0 ∷ []) valued new → Lowers on reduces scope (Print place e) old new
-  print_written scope place e old valued new writes push code tables names fixed more last sees fits c =
+  print_written scope place e old valued new writes push code tables names round more last same sees fits c =
       let w : Leads code old (λ instrs end. (end ≡ last) × Computes code (activation on tables) names e 0 instrs (instr.Print 0 ∷ more)) =
       writes code (activation on tables) names (instr.Print 0 ∷ more) last sees fits (pushed code valued new (instr.Print 0 ∷ []) more last push c) in
       record {
         instrs = w.instrs;
         end = w.end;
         continues = w.continues;
-        told = subst (λ (t : Term). Code code (activation on tables) reduces names fixed (Print place e) w.instrs w.end more t) w.told.0 (print_code w.told.1);
+        told = subst (λ (t : Term). Code code (activation on tables) round names (Print place e) w.instrs w.end more t) w.told.0 (print_code w.told.1);
       }
 
   -- ---- statements in order
 
   pub none_written : (scope : Scope) (old : Output) → LowersAll on reduces scope [] old old
-  none_written scope old code tables names fixed more last sees fits c = record { instrs = more; end = last; continues = c; told = Codes.none }
+  none_written scope old code tables names round more last same sees fits c = record { instrs = more; end = last; continues = c; told = Codes.none }
 
   pub more_written : (scope between : Scope) (ss : List Stmt) (s : Stmt) (old middle new : Output) → LowersAll on reduces scope ss old middle → SeesAfter (λ names. names_after_list names ss) scope between → Lowers on reduces between s middle new → LowersAll on reduces scope (ss ++ s ∷ []) old new
-  more_written scope between ss s old middle new all keeps one code tables names fixed more last sees fits c =
-      let w : Leads code middle (λ instrs end. Code code (activation on tables) reduces (names_after_list names ss) fixed s instrs end more last) =
-      one code tables (names_after_list names ss) fixed more last (keeps names tables sees) (fit_last tables (entries on.callees.items) on.most names fixed ss s fits) c in
-      let v : Leads code old (λ instrs end. Codes code (activation on tables) reduces names fixed ss instrs end w.instrs w.end) =
-      all code tables names fixed w.instrs w.end sees (fit_before tables (entries on.callees.items) on.most names fixed ss s fits) w.continues in
+  more_written scope between ss s old middle new all keeps one code tables names round more last same sees fits c =
+      let w : Leads code middle (λ instrs end. Code code (activation on tables) round (names_after_list names ss) s instrs end more last) =
+      one code tables (names_after_list names ss) round more last same (keeps names tables sees) (fit_last tables (entries on.callees.items) on.most round names ss s fits) c in
+      let v : Leads code old (λ instrs end. Codes code (activation on tables) round names ss instrs end w.instrs w.end) =
+      all code tables names round w.instrs w.end same sees (fit_before tables (entries on.callees.items) on.most round names ss s fits) w.continues in
       record { instrs = v.instrs; end = v.end; continues = v.continues; told = codes_more v.told w.told }
 
   -- ---- branches
 
   pub branch_written : (scope : Scope) (body : List Stmt) (exit : ℕ) (old inner new : Output) → IsFresh old → LowersAll on reduces scope body old inner → Closes (to exit) inner new → LowersBranch on reduces scope body exit old new
-  branch_written scope body exit old inner new fresh all close code tables names fixed sees fits stands =
-      let w : Leads code old (λ instrs end. Codes code (activation on tables) reduces names fixed body instrs end [] (to exit)) =
-      all code tables names fixed [] (to exit) sees fits (closed_block code inner new (to exit) close stands) in
+  branch_written scope body exit old inner new fresh all close code tables names round same sees fits stands =
+      let w : Leads code old (λ instrs end. Codes code (activation on tables) round names body instrs end [] (to exit)) =
+      all code tables names round [] (to exit) same sees fits (closed_block code inner new (to exit) close stands) in
       (w.continues.closed, branch (fresh_opens code old w.instrs w.end fresh w.continues) w.told)
 
   pub other_written : (scope : Scope) (body : List Stmt) (exit : ℕ) (old new : Output) → LowersBranch on reduces scope body exit old new → LowersOther on reduces scope body exit old new
-  other_written scope body exit old new lowers code tables names fixed sees fits stands exits =
-      let w : Stands code old × Branch code (activation on tables) reduces names fixed body (label old) exit = lowers code tables names fixed sees fits stands in
+  other_written scope body exit old new lowers code tables names round same sees fits stands exits =
+      let w : Stands code old × Branch code (activation on tables) round names body (label old) exit = lowers code tables names round same sees fits stands in
       (w.0, something w.1)
 
   pub no_other_written : (scope : Scope) (exit : ℕ) (old : Output) → LowersOther on reduces scope [] exit old old
-  no_other_written scope exit old code tables names fixed sees fits stands exits =
-      (stands, subst (λ (l : ℕ). Other code (activation on tables) reduces names fixed [] l exit) exits nothing)
+  no_other_written scope exit old code tables names round same sees fits stands exits =
+      (stands, subst (λ (l : ℕ). Other code (activation on tables) round names [] l exit) exits nothing)
 
   pub if_written : (scope second_scope : Scope) (e : Expr) (body other : Vec Stmt Global) (first second exit : ℕ) (old test middle new : Output)
       → WritesTest scope e first second old test → LowersBranch on reduces scope body.items exit test middle → LowersOther on reduces second_scope other.items exit middle new
       → SeesAfter (λ names. names) scope second_scope → IsFresh new → first ≡ label test → second ≡ label middle → exit ≡ label new → Lowers on reduces scope (If e body other) old new
-  if_written scope second_scope e body other first second exit old test middle new tests one two keeps fresh first_is second_is exit_is code tables names fixed more last sees fits c =
-      let v : Stands code middle × Other code (activation on tables) reduces names fixed other.items (label middle) exit =
-      two code tables names fixed (keeps names tables sees) (fit_of_vec tables (entries on.callees.items) on.most names fixed other fits.2) c.closed exit_is in
-      let u : Stands code test × Branch code (activation on tables) reduces names fixed body.items (label test) exit =
-      one code tables names fixed sees (fit_of_vec tables (entries on.callees.items) on.most names fixed body fits.1) v.0 in
+  if_written scope second_scope e body other first second exit old test middle new tests one two keeps fresh first_is second_is exit_is code tables names round more last same sees fits c =
+      let v : Stands code middle × Other code (activation on tables) round names other.items (label middle) exit =
+      two code tables names round same (keeps names tables sees) (fit_of_vec tables (entries on.callees.items) on.most round names other fits.2) c.closed exit_is in
+      let u : Stands code test × Branch code (activation on tables) round names body.items (label test) exit =
+      one code tables names round same sees (fit_of_vec tables (entries on.callees.items) on.most round names body fits.1) v.0 in
       let w : Leads code old (λ instrs end. (end ≡ to second) × Computes code (activation on tables) names e 0 instrs (instr.IfJump 0 first ∷ [])) = tests code (activation on tables) names sees fits.0 u.0 in
       let ends : Opens code exit more last = subst (λ (l : ℕ). Opens code l more last) (sym exit_is) (fresh_opens code new more last fresh c) in
       record {
         instrs = w.instrs;
         end = w.end;
         continues = w.continues;
-        told = subst (λ (t : Term). Code code (activation on tables) reduces names fixed (If e body other) w.instrs t more last) (sym w.told.0)
+        told = subst (λ (t : Term). Code code (activation on tables) round names (If e body other) w.instrs t more last) (sym w.told.0)
             (if_code body other w.told.1
-            (subst (λ (l : ℕ). Branch code (activation on tables) reduces names fixed body.items l exit) (sym first_is) u.1)
-            (subst (λ (l : ℕ). Other code (activation on tables) reduces names fixed other.items l exit) (sym second_is) v.1)
+            (subst (λ (l : ℕ). Branch code (activation on tables) round names body.items l exit) (sym first_is) u.1)
+            (subst (λ (l : ℕ). Other code (activation on tables) round names other.items l exit) (sym second_is) v.1)
             ends);
       }
 
@@ -163,26 +164,26 @@ module _ (on : Body) (reduces : List Reduce) where
   pub while_written : (scope last_scope : Scope) (e : Expr) (body : List Stmt) (again exit : ℕ) (old test tick inner new : Output)
       → WritesTest scope e again exit old test → IsFresh test → again ≡ label test → Pushes (instr.Tick ∷ []) test tick → LowersAll on reduces scope body tick inner
       → SeesAfter (λ names. names) scope last_scope → WritesTest last_scope e again exit inner new → IsFresh new → exit ≡ label new → WithBody body (λ v. Lowers on reduces scope (While e v) old new)
-  while_written scope last_scope e body again exit old test tick inner new first fresh_test again_is ticks all keeps second fresh exit_is v is code tables names fixed more last sees fits c =
-      let inside : AllFit tables (entries on.callees.items) on.most names fixed body = subst (λ (ss : List Stmt). AllFit tables (entries on.callees.items) on.most names fixed ss) is (fit_of_vec tables (entries on.callees.items) on.most names fixed v fits.1) in
+  while_written scope last_scope e body again exit old test tick inner new first fresh_test again_is ticks all keeps second fresh exit_is v is code tables names round more last same sees fits c =
+      let inside : AllFit tables (entries on.callees.items) on.most round names body = subst (λ (ss : List Stmt). AllFit tables (entries on.callees.items) on.most round names ss) is (fit_of_vec tables (entries on.callees.items) on.most round names v fits.1) in
       let q : Leads code inner (λ instrs end. (end ≡ to exit) × Computes code (activation on tables) names e 0 instrs (instr.IfJump 0 again ∷ [])) = second code (activation on tables) names (keeps names tables sees) fits.0 c.closed in
-      let b : Leads code tick (λ instrs end. Codes code (activation on tables) reduces names fixed body instrs end q.instrs q.end) = all code tables names fixed q.instrs q.end sees inside q.continues in
+      let b : Leads code tick (λ instrs end. Codes code (activation on tables) round names body instrs end q.instrs q.end) = all code tables names round q.instrs q.end same sees inside q.continues in
       let starts : Continues code test (instr.Tick ∷ b.instrs) b.end = pushed code test tick (instr.Tick ∷ []) b.instrs b.end ticks b.continues in
       let p : Leads code old (λ instrs end. (end ≡ to exit) × Computes code (activation on tables) names e 0 instrs (instr.IfJump 0 again ∷ [])) = first code (activation on tables) names sees fits.0 starts.closed in
       let begins : Opens code again (instr.Tick ∷ b.instrs) b.end = subst (λ (l : ℕ). Opens code l (instr.Tick ∷ b.instrs) b.end) (sym again_is) (fresh_opens code test (instr.Tick ∷ b.instrs) b.end fresh_test starts) in
       let ends : Opens code exit more last = subst (λ (l : ℕ). Opens code l more last) (sym exit_is) (fresh_opens code new more last fresh c) in
-      let codes : Codes code (activation on tables) reduces names fixed v.items b.instrs b.end q.instrs (to exit) =
-      subst (λ (t : Term). Codes code (activation on tables) reduces names fixed v.items b.instrs b.end q.instrs t) q.told.0 (subst (λ (ss : List Stmt). Codes code (activation on tables) reduces names fixed ss b.instrs b.end q.instrs q.end) (sym is) b.told) in
+      let codes : Codes code (activation on tables) round names v.items b.instrs b.end q.instrs (to exit) =
+      subst (λ (t : Term). Codes code (activation on tables) round names v.items b.instrs b.end q.instrs t) q.told.0 (subst (λ (ss : List Stmt). Codes code (activation on tables) round names ss b.instrs b.end q.instrs q.end) (sym is) b.told) in
       record {
         instrs = p.instrs;
         end = p.end;
         continues = p.continues;
-        told = subst (λ (t : Term). Code code (activation on tables) reduces names fixed (While e v) p.instrs t more last) (sym p.told.0) (while_code v p.told.1 begins codes q.told.1 ends);
+        told = subst (λ (t : Term). Code code (activation on tables) round names (While e v) p.instrs t more last) (sym p.told.0) (while_code v p.told.1 begins codes q.told.1 ends);
       }
 
   pub body_written : (scope inner_scope : Scope) (x : List ℕ) (body : List Stmt) (old tick new : Output) → IsFresh old → SeesAfter (λ names. names ++ x ∷ []) scope inner_scope → Pushes (instr.Tick ∷ []) old tick → LowersAll on reduces inner_scope body tick new → LowersBody on reduces scope x body old new
-  body_written scope inner_scope x body old tick new fresh declares ticks all code tables names fixed more last sees fits c =
-      let b : Leads code tick (λ instrs end. Codes code (activation on tables) reduces (names ++ x ∷ []) (length names ∷ fixed) body instrs end more last) =
-      all code tables (names ++ x ∷ []) (length names ∷ fixed) more last (declares names tables sees) fits c in
+  body_written scope inner_scope x body old tick new fresh declares ticks all code tables names round more last same sees fits c =
+      let b : Leads code tick (λ instrs end. Codes code (activation on tables) round (names ++ x ∷ []) body instrs end more last) =
+      all code tables (names ++ x ∷ []) round more last same (declares names tables sees) fits c in
       let starts : Continues code old (instr.Tick ∷ b.instrs) b.end = pushed code old tick (instr.Tick ∷ []) b.instrs b.end ticks b.continues in
       record { before = starts.closed; instrs = b.instrs; end = b.end; opens = fresh_opens code old (instr.Tick ∷ b.instrs) b.end fresh starts; codes = b.told }

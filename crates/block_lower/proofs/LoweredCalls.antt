@@ -26,6 +26,7 @@ use Rattle.block_lower.specs.Code.{Operand, Arguments, no_argument, one_argument
 use Rattle.block_lower.specs.Fitting.{IsVisible, AreVisible}
 use Rattle.block_lower.specs.Layout.{return_cell, levels_cell, value_cell, kept_cell, Entry, entry_of, Activation, kept_by_both, kept_value}
 use Rattle.block_lower.specs.Lowering.{WritesOperand, WritesArguments, AreBothArguments, WritesBothArguments, WritesPassed, WritesCall, Lowers}
+use Rattle.block_lower.specs.Round.{Round}
 use Rattle.block_lower.specs.Writing.{Pushes, Closes, Stands, Continues, Leads}
 use Rattle.block_lower.proofs.Lowered.{cell_is}
 use Rattle.block_lower.proofs.Writing.{pushed, closed_block}
@@ -147,7 +148,7 @@ module _ (on : Body) (reduces : List Reduce) (scope : Scope) where
   pub call_statement_written : (x : Name) (f : App) (at size first : ℕ) (old allocs stored called new : Output) → IsTarget f.callee.text.items at size → first ≡ on.size + value_cell 0
       → Pushes (instr.Salloc size ∷ []) old allocs → WritesArguments scope f.args.items (λ i. first + i * 2) allocs stored → WritesCall on f.callee.place at size stored called
       → Pushes (store (offset_of scope x.text.items) (value.Reg 0) ∷ []) called new → Lowers on reduces scope (Call x f) old new
-  call_statement_written x f at size first old allocs stored called new target first_is alloc arguments call push code tables names fixed more last sees fits c =
+  call_statement_written x f at size first old allocs stored called new target first_is alloc arguments call push code tables names round more last same sees fits c =
       let act : Activation = activation on tables in
       let own : Instr = store (offset_of scope x.text.items) (value.Reg 0) in
       let w : Leads code stored (λ instrs end. Calls code act f.callee.place fits.1.entry instrs end (own ∷ more) last) =
@@ -156,14 +157,14 @@ module _ (on : Body) (reduces : List Reduce) (scope : Scope) where
       arguments code act names w.instrs w.end sees fits.1.seen w.continues in
       let stored_at : Arguments code act names (parameter_cell code act) 0 f.args.items v.instrs w.instrs =
       arguments_at code act names (λ i. first + i * 2) (parameter_cell code act) (λ i. omega (arith, first_is)) 0 f.args.items v.instrs w.instrs v.told.1 in
-      let is : Code code act reduces names fixed (Call x f) (instr.Salloc fits.1.entry.size ∷ v.instrs) w.end more last =
-      call_code fits.1.is_entry fits.1.arity (cell_is on reduces scope tables names fixed x.text.items code sees fits.0) stored_at w.told in
+      let is : Code code act round names (Call x f) (instr.Salloc fits.1.entry.size ∷ v.instrs) w.end more last =
+      call_code fits.1.is_entry fits.1.arity (cell_is on reduces scope tables names round.fixed x.text.items code sees fits.0) stored_at w.told in
       record {
         instrs = instr.Salloc size ∷ v.instrs;
         end = v.end;
         continues = pushed code old allocs (instr.Salloc size ∷ []) v.instrs v.end alloc v.continues;
-        told = subst (λ (n : ℕ). Code code act reduces names fixed (Call x f) (instr.Salloc n ∷ v.instrs) v.end more last) (sym (target.size_is fits.1.entry fits.1.is_entry))
-            (subst (λ (t : Term). Code code act reduces names fixed (Call x f) (instr.Salloc fits.1.entry.size ∷ v.instrs) t more last) (sym v.told.0) is);
+        told = subst (λ (n : ℕ). Code code act round names (Call x f) (instr.Salloc n ∷ v.instrs) v.end more last) (sym (target.size_is fits.1.entry fits.1.is_entry))
+            (subst (λ (t : Term). Code code act round names (Call x f) (instr.Salloc fits.1.entry.size ∷ v.instrs) t more last) (sym v.told.0) is);
       }
 
   pub both_written : (x y : Name) (f g : App) (first_at first_size second_at second_size : ℕ) (old allocs stored called kept again passes calls loads stores new : Output)
@@ -173,7 +174,7 @@ module _ (on : Body) (reduces : List Reduce) (scope : Scope) where
       → WritesCall on g.callee.place second_at second_size passes calls → Pushes (load 1 (value_cell on.most + kept_value) ∷ []) calls loads → Pushes (store (offset_of scope x.text.items) (value.Reg 1) ∷ []) loads stores
       → Pushes (store (offset_of scope y.text.items) (value.Reg 0) ∷ []) stores new → Lowers on reduces scope (Both x f y g) old new
   both_written x y f g first_at first_size second_at second_size old allocs stored called kept again passes calls loads stores new first second room few
-      alloc arguments call_first keep realloc pass call_second push_load store_x store_y code tables names fixed more last sees fits c =
+      alloc arguments call_first keep realloc pass call_second push_load store_x store_y code tables names round more last same sees fits c =
       let act : Activation = activation on tables in
       let own : List Instr = load 1 (kept_cell act kept_value) ∷ store (offset_of scope x.text.items) (value.Reg 1) ∷ store (offset_of scope y.text.items) (value.Reg 0) ∷ more in
       let ends : Continues code calls own last =
@@ -191,13 +192,13 @@ module _ (on : Body) (reduces : List Reduce) (scope : Scope) where
       subst (λ (n : ℕ). Calls code act f.callee.place fits.2.entry w.instrs w.end (half n) u.end) (second.size_is fits.3.entry fits.3.is_entry) w.told in
       let v : Leads code allocs (λ instrs end. (end ≡ w.end) × AreBothArguments code act names f.args.items g.args.items instrs w.instrs) =
       arguments code tables names w.instrs w.end sees fits.2.seen fits.3.seen w.continues in
-      let is : Code code act reduces names fixed (Both x f y g) (instr.Salloc fits.2.entry.size ∷ v.instrs) w.end more last =
-      both_code room.room fits.2.is_entry fits.2.arity fits.3.is_entry fits.3.arity (cell_is on reduces scope tables names fixed x.text.items code sees fits.0)
-      (cell_is on reduces scope tables names fixed y.text.items code sees fits.1) few v.told.1.first v.told.1.second calls_first u.told in
+      let is : Code code act round names (Both x f y g) (instr.Salloc fits.2.entry.size ∷ v.instrs) w.end more last =
+      both_code room.room fits.2.is_entry fits.2.arity fits.3.is_entry fits.3.arity (cell_is on reduces scope tables names round.fixed x.text.items code sees fits.0)
+      (cell_is on reduces scope tables names round.fixed y.text.items code sees fits.1) few v.told.1.first v.told.1.second calls_first u.told in
       record {
         instrs = instr.Salloc first_size ∷ v.instrs;
         end = v.end;
         continues = pushed code old allocs (instr.Salloc first_size ∷ []) v.instrs v.end alloc v.continues;
-        told = subst (λ (n : ℕ). Code code act reduces names fixed (Both x f y g) (instr.Salloc n ∷ v.instrs) v.end more last) (sym (first.size_is fits.2.entry fits.2.is_entry))
-            (subst (λ (t : Term). Code code act reduces names fixed (Both x f y g) (instr.Salloc fits.2.entry.size ∷ v.instrs) t more last) (sym v.told.0) is);
+        told = subst (λ (n : ℕ). Code code act round names (Both x f y g) (instr.Salloc n ∷ v.instrs) v.end more last) (sym (first.size_is fits.2.entry fits.2.is_entry))
+            (subst (λ (t : Term). Code code act round names (Both x f y g) (instr.Salloc fits.2.entry.size ∷ v.instrs) t more last) (sym v.told.0) is);
       }

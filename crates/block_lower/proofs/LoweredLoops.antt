@@ -29,6 +29,7 @@ use Rattle.block_lower.specs.Fitting.{AllFit}
 use Rattle.block_lower.specs.Layout.{value_cell, bound_cell}
 use Rattle.block_lower.specs.Lowering.{WritesValue, WritesBelow, WritesStart, AreBounds, WritesBounds, WritesSome, WritesWide, Lowers, WithBody, IsBodyAt, LowersBody}
 use Rattle.block_lower.specs.Names.{Sees}
+use Rattle.block_lower.specs.Round.{Round, loop_round, par_round}
 use Rattle.block_lower.specs.Writing.{label, next_label, IsFresh, Pushes, Traps, Closes, Stands, Continues, Leads}
 use Rattle.block_lower.proofs.Fitting.{fit_of_vec}
 use Rattle.block_lower.proofs.Seeing.{as_long}
@@ -81,61 +82,61 @@ module _ (on : Body) (reduces : List Reduce) (scope : Scope) (x : Name) (body : 
     (long : level ≡ length scope.cells.items) (fresh_start : IsFresh start) (again_is : again ≡ label start) (lowers : LowersBody on reduces scope x.text.items body start inner)
     (turn : (code : Listing) → Stands code new → Continues code inner (behind level) (to exit)) (fresh : IsFresh new) (exit_is : exit ≡ label new) where
   -- what a code needs of the blocks of a loop behind its begin
-  record Round (code : Listing) (tables : List (List ℕ)) (names : List (List ℕ)) (fixed : List ℕ) (v : Vec Stmt Global) (more : List Instr) (last : Term) : Type 0 where
+  record Looped (code : Listing) (tables names : List (List ℕ)) (round : Round) (v : Vec Stmt Global) (more : List Instr) (last : Term) : Type 0 where
     before : Stands code start
     instrs : List Instr
     half : Term
     begins : Opens code again (instr.Tick ∷ instrs) half
-    codes : Codes code (activation on tables) reduces (names ++ x.text.items ∷ []) (length names ∷ fixed) v.items instrs half (behind (length names)) (to exit)
+    codes : Codes code (activation on tables) round (names ++ x.text.items ∷ []) v.items instrs half (behind (length names)) (to exit)
     ends : Opens code exit more last
 
-  round : (code : Listing) (tables names : List (List ℕ)) (fixed : List ℕ) (v : Vec Stmt Global) (more : List Instr) (last : Term) → v.items ≡ body → Sees scope names tables
-      → AllFit tables (entries on.callees.items) on.most (names ++ x.text.items ∷ []) (length names ∷ fixed) v.items → Continues code new more last → Round code tables names fixed v more last
-  round code tables names fixed v more last is sees fits c =
+  looped : (code : Listing) (tables names : List (List ℕ)) (round : Round) (v : Vec Stmt Global) (more : List Instr) (last : Term) → round.reduces ≡ reduces → v.items ≡ body → Sees scope names tables
+      → AllFit tables (entries on.callees.items) on.most round (names ++ x.text.items ∷ []) v.items → Continues code new more last → Looped code tables names round v more last
+  looped code tables names round v more last same is sees fits c =
       let deeper : List (List ℕ) = names ++ x.text.items ∷ [] in
-      let b : IsBodyAt code (activation on tables) reduces deeper (length names ∷ fixed) body start (behind level) (to exit) =
-      lowers code tables names fixed (behind level) (to exit) sees (subst (λ (ss : List Stmt). AllFit tables (entries on.callees.items) on.most deeper (length names ∷ fixed) ss) is fits) (turn code c.closed) in
-      let with_vec : Codes code (activation on tables) reduces deeper (length names ∷ fixed) v.items b.instrs b.end (behind level) (to exit) =
-      subst (λ (ss : List Stmt). Codes code (activation on tables) reduces deeper (length names ∷ fixed) ss b.instrs b.end (behind level) (to exit)) (sym is) b.codes in
+      let b : IsBodyAt code (activation on tables) round deeper body start (behind level) (to exit) =
+      lowers code tables names round (behind level) (to exit) same sees (subst (λ (ss : List Stmt). AllFit tables (entries on.callees.items) on.most round deeper ss) is fits) (turn code c.closed) in
+      let with_vec : Codes code (activation on tables) round deeper v.items b.instrs b.end (behind level) (to exit) =
+      subst (λ (ss : List Stmt). Codes code (activation on tables) round deeper ss b.instrs b.end (behind level) (to exit)) (sym is) b.codes in
       record {
         before = b.before;
         instrs = b.instrs;
         half = b.end;
         begins = subst (λ (l : ℕ). Opens code l (instr.Tick ∷ b.instrs) b.end) (sym again_is) b.opens;
-        codes = subst (λ (l : ℕ). Codes code (activation on tables) reduces deeper (length names ∷ fixed) v.items b.instrs b.end (behind l) (to exit)) (long ∙ as_long scope names tables sees) with_vec;
+        codes = subst (λ (l : ℕ). Codes code (activation on tables) round deeper v.items b.instrs b.end (behind l) (to exit)) (long ∙ as_long scope names tables sees) with_vec;
         ends = subst (λ (l : ℕ). Opens code l more last) (sym exit_is) (fresh_opens code new more last fresh c);
       }
 
 pub loop_to_written : (on : Body) (reduces : List Reduce) (scope : Scope) (x : Name) (a b : Expr) (n : ℤ) (body : List Stmt) (level again exit : ℕ) (old start inner new : Output) → literal b ≡ Some n → InRange n
     → level ≡ length scope.cells.items → WritesStart scope a n again exit old start → IsFresh start → again ≡ label start → LowersBody on reduces scope x.text.items body start inner
     → ((code : Listing) → Stands code new → Continues code inner (step_up 0 level (below_test 0 (value.Int n) again)) (to exit)) → IsFresh new → exit ≡ label new → WithBody body (λ v. Lowers on reduces scope (Loop x a b v) old new)
-loop_to_written on reduces scope x a b n body level again exit old start inner new is_literal in_n long starts fresh_start again_is lowers turn fresh exit_is v is code tables names fixed more last sees fits c =
+loop_to_written on reduces scope x a b n body level again exit old start inner new is_literal in_n long starts fresh_start again_is lowers turn fresh exit_is v is code tables names round more last same sees fits c =
     let behind : ℕ → List Instr = λ l. step_up 0 l (below_test 0 (value.Int n) again) in
-    let q : Round on reduces scope x body level again exit start inner new behind long fresh_start again_is lowers turn fresh exit_is code tables names fixed v more last =
-    round on reduces scope x body level again exit start inner new behind long fresh_start again_is lowers turn fresh exit_is code tables names fixed v more last is sees (fit_of_vec tables (entries on.callees.items) on.most (names ++ x.text.items ∷ []) (length names ∷ fixed) v fits.3) c in
+    let q : Looped on reduces scope x body level again exit start inner new behind long fresh_start again_is lowers turn fresh exit_is code tables names (loop_round round (length names)) v more last =
+    looped on reduces scope x body level again exit start inner new behind long fresh_start again_is lowers turn fresh exit_is code tables names (loop_round round (length names)) v more last same is sees (fit_of_vec tables (entries on.callees.items) on.most (loop_round round (length names)) (names ++ x.text.items ∷ []) v fits.3) c in
     let w : Leads code old (λ instrs end. (end ≡ to exit) × Computes code (activation on tables) names a 0 instrs (store (value_cell (length names)) (value.Reg 0) ∷ below_test 0 (value.Int n) again)) =
     starts code (activation on tables) names sees fits.1 q.before in
     record {
       instrs = w.instrs;
       end = w.end;
       continues = w.continues;
-      told = subst (λ (t : Term). Code code (activation on tables) reduces names fixed (Loop x a b v) w.instrs t more last) (sym w.told.0) (loop_to_code v fits.0 is_literal in_n w.told.1 q.begins q.codes q.ends);
+      told = subst (λ (t : Term). Code code (activation on tables) round names (Loop x a b v) w.instrs t more last) (sym w.told.0) (loop_to_code v fits.0 is_literal in_n w.told.1 q.begins q.codes q.ends);
     }
 
 pub loop_written : (on : Body) (reduces : List Reduce) (scope : Scope) (x : Name) (a b : Expr) (body : List Stmt) (level again exit : ℕ) (old bounds start inner new : Output)
     → level ≡ length scope.cells.items → WritesBounds scope a b old bounds → WritesBelow 1 (value.Reg 0) again exit bounds start → IsFresh start → again ≡ label start → LowersBody on reduces scope x.text.items body start inner
     → ((code : Listing) → Stands code new → Continues code inner (step_up 1 level (load 0 (bound_cell level) ∷ below_test 1 (value.Reg 0) again)) (to exit)) → IsFresh new → exit ≡ label new → WithBody body (λ v. Lowers on reduces scope (Loop x a b v) old new)
-loop_written on reduces scope x a b body level again exit old bounds start inner new long starts test fresh_start again_is lowers turn fresh exit_is v is code tables names fixed more last sees fits c =
+loop_written on reduces scope x a b body level again exit old bounds start inner new long starts test fresh_start again_is lowers turn fresh exit_is v is code tables names round more last same sees fits c =
     let behind : ℕ → List Instr = λ l. step_up 1 l (load 0 (bound_cell l) ∷ below_test 1 (value.Reg 0) again) in
-    let q : Round on reduces scope x body level again exit start inner new behind long fresh_start again_is lowers turn fresh exit_is code tables names fixed v more last =
-    round on reduces scope x body level again exit start inner new behind long fresh_start again_is lowers turn fresh exit_is code tables names fixed v more last is sees (fit_of_vec tables (entries on.callees.items) on.most (names ++ x.text.items ∷ []) (length names ∷ fixed) v fits.3) c in
+    let q : Looped on reduces scope x body level again exit start inner new behind long fresh_start again_is lowers turn fresh exit_is code tables names (loop_round round (length names)) v more last =
+    looped on reduces scope x body level again exit start inner new behind long fresh_start again_is lowers turn fresh exit_is code tables names (loop_round round (length names)) v more last same is sees (fit_of_vec tables (entries on.callees.items) on.most (loop_round round (length names)) (names ++ x.text.items ∷ []) v fits.3) c in
     let w : Leads code old (λ instrs end. (end ≡ to exit) × AreBounds code (activation on tables) names a b instrs (below_test 1 (value.Reg 0) again)) =
     starts code (activation on tables) names (below_test 1 (value.Reg 0) again) (to exit) sees fits.1 fits.2 (test code q.before) in
     record {
       instrs = w.instrs;
       end = w.end;
       continues = w.continues;
-      told = subst (λ (t : Term). Code code (activation on tables) reduces names fixed (Loop x a b v) w.instrs t more last) (sym w.told.0) (loop_code v fits.0 w.told.1.from w.told.1.to q.begins q.codes q.ends);
+      told = subst (λ (t : Term). Code code (activation on tables) round names (Loop x a b v) w.instrs t more last) (sym w.told.0) (loop_code v fits.0 w.told.1.from w.told.1.to q.begins q.codes q.ends);
     }
 
 -- ---- `par`
@@ -169,11 +170,11 @@ pub par_written : (on : Body) (reduces : List Reduce) (scope : Scope) (l : ParLo
     → level ≡ length scope.cells.items → WritesBounds scope l.from l.to old bounds → WritesSome check exit bounds start → check ≡ label start → WritesWide l.place again start wide
     → IsFresh wide → again ≡ label wide → LowersBody on l.reduces.items scope l.var.text.items l.body.items wide inner
     → ((code : Listing) → Stands code new → Continues code inner (step_up 1 level (load 0 (bound_cell level) ∷ below_test 1 (value.Reg 0) again)) (to exit)) → IsFresh new → exit ≡ label new → Lowers on reduces scope (Par l) old new
-par_written on reduces scope l level check again exit old bounds start wide inner new long starts test check_is length_test fresh_wide again_is lowers turn fresh exit_is code tables names fixed more last sees fits c =
+par_written on reduces scope l level check again exit old bounds start wide inner new long starts test check_is length_test fresh_wide again_is lowers turn fresh exit_is code tables names round more last same sees fits c =
     let behind : ℕ → List Instr = λ n. step_up 1 n (load 0 (bound_cell n) ∷ below_test 1 (value.Reg 0) again) in
-    let q : Round on l.reduces.items scope l.var l.body.items level again exit wide inner new behind long fresh_wide again_is lowers turn fresh exit_is code tables names fixed l.body more last =
-    round on l.reduces.items scope l.var l.body.items level again exit wide inner new behind long fresh_wide again_is lowers turn fresh exit_is code tables names fixed l.body more last refl sees
-    (fit_of_vec tables (entries on.callees.items) on.most (names ++ l.var.text.items ∷ []) (length names ∷ fixed) l.body fits.3) c in
+    let q : Looped on l.reduces.items scope l.var l.body.items level again exit wide inner new behind long fresh_wide again_is lowers turn fresh exit_is code tables names (par_round round names l.reduces.items) l.body more last =
+    looped on l.reduces.items scope l.var l.body.items level again exit wide inner new behind long fresh_wide again_is lowers turn fresh exit_is code tables names (par_round round names l.reduces.items) l.body more last refl refl sees
+    (fit_of_vec tables (entries on.callees.items) on.most (par_round round names l.reduces.items) (names ++ l.var.text.items ∷ []) l.body fits.3) c in
     let t : Stands code start × Opens code (label start) (wide_test (label start + 1) again) (to (label start + 1)) × AreAt code (label start + 1) (trap_block (label start + 1) Wide l.place ∷ []) = length_test code q.before in
     let some : List Instr = instr.Calc 2 1 Lt (value.Reg 0) ∷ instr.IfJump 2 check ∷ [] in
     let w : Leads code old (λ instrs end. (end ≡ to exit) × AreBounds code (activation on tables) names l.from l.to instrs some) =
@@ -182,7 +183,7 @@ par_written on reduces scope l level check again exit old bounds start wide inne
       instrs = w.instrs;
       end = w.end;
       continues = w.continues;
-      told = subst (λ (e : Term). Code code (activation on tables) reduces names fixed (Par l) w.instrs e more last) (sym w.told.0)
+      told = subst (λ (e : Term). Code code (activation on tables) round names (Par l) w.instrs e more last) (sym w.told.0)
           (par_code l fits.0 w.told.1.from w.told.1.to
           (subst (λ (n : ℕ). Opens code n (wide_test (label start + 1) again) (to (label start + 1))) (sym check_is) t.1)
           t.2 q.begins q.codes q.ends);

@@ -1,5 +1,5 @@
 -- The code of statements on tables, and of `fold`, is written where that of its parts is.
-use Rattle.std.proofs.Common.{◌≡◌, ℕ, List, [], ◌∷◌, ◌++◌, Some, None, refl, subst, ◌∙◌}
+use Rattle.std.proofs.Common.{◌≡◌, ℕ, List, [], ◌∷◌, ◌++◌, Some, None, refl, ap, subst, ◌∙◌}
 use Rattle.std.specs.Prelude.{IsTrue}
 use Rattle.loop_syntax.specs.declared.Name.{Name}
 use Rattle.loop_syntax.specs.declared.Expr.{Expr}
@@ -26,6 +26,7 @@ use Rattle.block_lower.specs.Code.{Computes, Operand, IsTable, Code, put_code, p
 use Rattle.block_lower.specs.Layout.{kept_cell, Activation}
 use Rattle.block_lower.specs.Lowering.{WritesValue, WritesOperand, WritesPut, Lowers}
 use Rattle.block_lower.specs.Names.{Sees}
+use Rattle.block_lower.specs.Round.{Round}
 use Rattle.block_lower.specs.Writing.{next_label, Pushes, Traps, Continues, Leads}
 use Rattle.block_lower.proofs.Lowered.{cell_is}
 use Rattle.block_lower.proofs.Seeing.{seen_table}
@@ -44,7 +45,7 @@ table_is scope act names t code sees seen = record { scope = scope; sees = sees;
 module _ (on : Body) (reduces : List Reduce) (scope : Scope) where
   pub put_written : (t : Name) (a b e : Expr) (old first second third new : Output) → WritesValue scope a 0 old first → WritesValue scope b 1 first second → WritesValue scope e 2 second third
       → WritesPut (table_number scope t.text.items) 0 1 2 t.place third new → Lowers on reduces scope (Put t a b e) old new
-  put_written t a b e old first second third new one two three put code tables names fixed more last sees fits c =
+  put_written t a b e old first second third new one two three put code tables names round more last same sees fits c =
       let act : Activation = activation on tables in
       let table : ℕ = table_number scope t.text.items in
       let tested : List Instr = put_tested table 0 1 2 3 (next_label third) more in
@@ -56,7 +57,7 @@ module _ (on : Body) (reduces : List Reduce) (scope : Scope) where
         instrs = w.instrs;
         end = w.end;
         continues = w.continues;
-        told = subst (λ (end : Term). Code code act reduces names fixed (Put t a b e) w.instrs w.end more end) (w.told.0 ∙ v.told.0 ∙ u.told.0)
+        told = subst (λ (end : Term). Code code act round names (Put t a b e) w.instrs w.end more end) (w.told.0 ∙ v.told.0 ∙ u.told.0)
             (put_code (table_is scope act names t.text.items code sees fits.0) w.told.1 v.told.1 u.told.1 p.1);
       }
 
@@ -65,7 +66,7 @@ module _ (on : Body) (reduces : List Reduce) (scope : Scope) where
       → WritesValue scope b 0 kept_first second → Pushes (store (kept_cell (activation on []) 1) (value.Reg 0) ∷ []) second kept_second
       → WritesValue scope e 0 kept_second third → Pushes (load 1 (kept_cell (activation on []) 0) ∷ []) third loads → Pushes (load 2 (kept_cell (activation on []) 1) ∷ []) loads both
       → WritesPut (table_number scope t.text.items) 1 2 0 t.place both new → Lowers on reduces scope (Put t a b e) old new
-  put_kept_written t a b e old first kept_first second kept_second third loads both new room one keep_first two keep_second three load_first load_second put code tables names fixed more last sees fits c =
+  put_kept_written t a b e old first kept_first second kept_second third loads both new room one keep_first two keep_second three load_first load_second put code tables names round more last same sees fits c =
       let act : Activation = activation on tables in
       let table : ℕ = table_number scope t.text.items in
       let row : ℕ = kept_cell act 0 in
@@ -83,12 +84,12 @@ module _ (on : Body) (reduces : List Reduce) (scope : Scope) where
         instrs = w.instrs;
         end = w.end;
         continues = w.continues;
-        told = subst (λ (end : Term). Code code act reduces names fixed (Put t a b e) w.instrs w.end more end) (w.told.0 ∙ v.told.0 ∙ u.told.0)
+        told = subst (λ (end : Term). Code code act round names (Put t a b e) w.instrs w.end more end) (w.told.0 ∙ v.told.0 ∙ u.told.0)
             (put_kept_code room.room (table_is scope act names t.text.items code sees fits.0) w.told.1 v.told.1 u.told.1 p.1);
       }
 
   pub emit_written : (place : Place) (t : Name) (old new : Output) → Pushes (instr.Emit (table_number scope t.text.items) ∷ []) old new → Lowers on reduces scope (Emit place t) old new
-  emit_written place t old new push code tables names fixed more last sees fits c =
+  emit_written place t old new push code tables names round more last same sees fits c =
       let one : Instr = instr.Emit (table_number scope t.text.items) in
       record {
         instrs = one ∷ more;
@@ -100,7 +101,7 @@ module _ (on : Body) (reduces : List Reduce) (scope : Scope) where
   pub fold_written : (x : Name) (e : Expr) (o : Op) (v : Value) (old valued loads calc new : Output) → operator_of reduces x.text.items ≡ Some o → WritesOperand scope e 0 v old valued
       → Pushes (load 1 (offset_of scope x.text.items) ∷ []) valued loads → Pushes (instr.Calc 1 1 (alu_of o) v ∷ []) loads calc → Pushes (store (offset_of scope x.text.items) (value.Reg 1) ∷ []) calc new
       → Lowers on reduces scope (Fold x e) old new
-  fold_written x e o v old valued loads calc new is writes push_load push_calc push_store code tables names fixed more last sees fits c =
+  fold_written x e o v old valued loads calc new is writes push_load push_calc push_store code tables names round more last same sees fits c =
       let act : Activation = activation on tables in
       let cell : ℕ = offset_of scope x.text.items in
       let third : List Instr = store cell (value.Reg 1) ∷ more in
@@ -113,17 +114,17 @@ module _ (on : Body) (reduces : List Reduce) (scope : Scope) where
         instrs = w.instrs;
         end = w.end;
         continues = w.continues;
-        told = subst (λ (end : Term). Code code act reduces names fixed (Fold x e) w.instrs w.end more end) w.told.0
-            (fold_code is (cell_is on reduces scope tables names fixed x.text.items code sees fits.0) w.told.1);
+        told = subst (λ (end : Term). Code code act round names (Fold x e) w.instrs w.end more end) w.told.0
+            (fold_code (ap (λ rs. operator_of rs x.text.items) same ∙ is) (cell_is on reduces scope tables names round.fixed x.text.items code sees fits.0) w.told.1);
       }
 
   pub fold_nothing_written : (x : Name) (e : Expr) (old new : Output) → operator_of reduces x.text.items ≡ None → WritesValue scope e 0 old new → Lowers on reduces scope (Fold x e) old new
-  fold_nothing_written x e old new is writes code tables names fixed more last sees fits c =
+  fold_nothing_written x e old new is writes code tables names round more last same sees fits c =
       let act : Activation = activation on tables in
       let w : Leads code old (λ instrs end. (end ≡ last) × Computes code act names e 0 instrs more) = writes code act names more last sees fits.1 c in
       record {
         instrs = w.instrs;
         end = w.end;
         continues = w.continues;
-        told = subst (λ (end : Term). Code code act reduces names fixed (Fold x e) w.instrs w.end more end) w.told.0 (fold_nothing_code is w.told.1);
+        told = subst (λ (end : Term). Code code act round names (Fold x e) w.instrs w.end more end) w.told.0 (fold_nothing_code (ap (λ rs. operator_of rs x.text.items) same ∙ is) w.told.1);
       }

@@ -22,6 +22,7 @@ use Rattle.block_lower.specs.Count.{nodes, blocks_of_expr, blocks_of_exprs, bloc
 use Rattle.block_lower.specs.Layout.{Entry, entry_of, value_cell}
 use Rattle.block_lower.specs.Fitting.{AllFit, HasEntry, AreEntriesOf, MainFits, FuncFits, variables_of}
 use Rattle.block_lower.specs.Programs.{most_of, size_of, added_by_funcs, added_by_program, entry_at, entries_from, FuncIsSmall}
+use Rattle.block_lower.specs.Round.{outermost}
 use Rattle.block_lower.specs.Sizes.{trap_counts, added, added_by_all, added_by_other, added_by_list, added_by_func, added_by_decl, added_by_decls, declared, declared_by_list, kept_by_list, kept_by_decls}
 use Rattle.block_lower.proofs.Adding.{few_kept_by_list, few_kept_by_decls}
 
@@ -177,12 +178,12 @@ fitting_main_is_small p fits = omega (arith, declared_as_many p.main.items, fits
 
 -- the statements of a function, and those of main, fit in their activations where the functions stand one behind
 -- another from a label on
-pub fitting_body : (p : Program) (label : ℕ) (f : Func) → FuncFits p f → AllFit (texts (tables_of p)) (entries_from label p.funcs.items) (most_of f) (texts f.params.items) [] f.body.items
+pub fitting_body : (p : Program) (label : ℕ) (f : Func) → FuncFits p f → AllFit (texts (tables_of p)) (entries_from label p.funcs.items) (most_of f) outermost (texts f.params.items) f.body.items
 fitting_body p label f fits =
-    subst (λ (n : ℕ). AllFit (texts (tables_of p)) (entries_from label p.funcs.items) n (texts f.params.items) [] f.body.items) (as_many_variables f)
+    subst (λ (n : ℕ). AllFit (texts (tables_of p)) (entries_from label p.funcs.items) n outermost (texts f.params.items) f.body.items) (as_many_variables f)
     (fits.fits (entries_from label p.funcs.items) (are_entries label p.funcs.items))
 
-pub fitting_main : (p : Program) (label : ℕ) → MainFits p → AllFit (texts (tables_of p)) (entries_from label p.funcs.items) (declared_by_list p.main.items) [] [] p.main.items
+pub fitting_main : (p : Program) (label : ℕ) → MainFits p → AllFit (texts (tables_of p)) (entries_from label p.funcs.items) (declared_by_list p.main.items) outermost [] p.main.items
 fitting_main p label fits =
-    subst (λ (n : ℕ). AllFit (texts (tables_of p)) (entries_from label p.funcs.items) n [] [] p.main.items) (declared_as_many p.main.items)
+    subst (λ (n : ℕ). AllFit (texts (tables_of p)) (entries_from label p.funcs.items) n outermost [] p.main.items) (declared_as_many p.main.items)
     (fits.fits (entries_from label p.funcs.items) (are_entries label p.funcs.items))

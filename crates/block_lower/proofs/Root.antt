@@ -214,7 +214,7 @@ module _ (code : Listing) (heartbeat fuel : ℕ) where
     unfolding main_gives
     main_owed =
         subst (λ ts. Owed code heartbeat 0 (seeing act ts) fuel root [] is.instrs is.end main_gives) is.tables
-        (codes_law code heartbeat 0 act program.funcs.items fuel MAX_CALL_DEPTH expr_law (calls_owe code heartbeat fuel expr_law act.tables act.functions program.funcs.items is.functions MAX_CALL_DEPTH (omega arith)) (main_has_place act is.has_room) is.statements root refl (omega arith) (λ x free. tt) fin (at_halt act (names_after_list [] program.main.items)))
+        (codes_law code heartbeat 0 act program.funcs.items fuel MAX_CALL_DEPTH expr_law (calls_owe code heartbeat fuel expr_law act.tables act.functions program.funcs.items is.functions MAX_CALL_DEPTH (omega arith)) (main_has_place act is.has_room) is.statements root (record { levels = refl; lowest = omega arith; allows = λ x free. tt }) fin (at_halt act (names_after_list [] program.main.items)))
 
     all_made : K.Holds zeroth
     unfolding K with_levels first stack zeroth

@@ -23,6 +23,7 @@ use Rattle.loop_check.proofs.Lists.{Each, each_left, each_right, each_of}
 use Rattle.block_lower.specs.Fitting.{SizesAreVisible, DeclsFit, FuncFits, MainFits, ProgramFits}
 use Rattle.block_lower.specs.Heights.{DeclIsLow}
 use Rattle.block_lower.specs.Names.{names_after_list}
+use Rattle.block_lower.specs.Round.{outermost}
 use Rattle.block_lower.proofs.UnbrokenExpressions.{Keeps, AreShort, whole_visible, whole_low}
 use Rattle.block_lower.proofs.UnbrokenLow.{low_list}
 use Rattle.block_lower.proofs.UnbrokenNames.{texts_more, declares_table, tables_distinct, funcs_distinct, tables_apart}
@@ -104,7 +105,7 @@ func_fits p f short few k =
     let within : length (f.params.items ++ declared_list f.body.items) ≤ MAX_DECLARED_VARIABLES = short_enough MAX_DECLARED_VARIABLES (f.params.items ++ declared_list f.body.items) k.0.limits in
     let named : length (texts f.params.items) ≡ length f.params.items = length-map f.params.items (λ (x : Name). x.text.items) in
     record {
-      fits = λ functions entries. fits_list functions (length f.params.items + length (declared_list f.body.items)) w [] f.body.items entries tt (omega arith) body;
+      fits = λ functions entries. fits_list functions (length f.params.items + length (declared_list f.body.items)) w outermost f.body.items entries tt (omega arith) body;
       seen = whole_visible (with_names w (names_after_list (texts f.params.items) f.body.items)) f.result last;
       low = (low_list w f.body.items short body, whole_low (with_names w (names_after_list (texts f.params.items) f.body.items)) f.result last);
       few_parameters = few;
@@ -144,7 +145,7 @@ module _ (p : Program) (none : NoneBroken p) where
 
   main_fits : MainFits p
   main_fits = record {
-    fits = λ functions entries. fits_list functions (length (declared_list p.main.items)) (main_spot p) [] p.main.items entries tt (omega arith) main_keeps.1;
+    fits = λ functions entries. fits_list functions (length (declared_list p.main.items)) (main_spot p) outermost p.main.items entries tt (omega arith) main_keeps.1;
     low = low_list (main_spot p) p.main.items are_short main_keeps.1;
     few = short_enough MAX_DECLARED_VARIABLES (declared_list p.main.items) main_keeps.0.limits;
   }

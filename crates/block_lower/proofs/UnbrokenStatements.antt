@@ -16,6 +16,7 @@ use Rattle.loop_check.proofs.Lists.{Each, each_left, each_right}
 use Rattle.block_lower.specs.Fitting.{level_of, IsFree, IsCall, Fits, FitInRow, AllFit, HasEntry, AreEntriesOf}
 use Rattle.block_lower.specs.Layout.{Entry}
 use Rattle.block_lower.specs.Names.{names_after}
+use Rattle.block_lower.specs.Round.{Round, loop_round, par_round}
 use Rattle.block_lower.proofs.UnbrokenExpressions.{Keeps, IsCallee, named_table, whole_visible, args_visible, callee_of}
 use Rattle.block_lower.proofs.UnbrokenSpots.{with_names, behind_first, behind_head, long_after, AreLooped, looped_inside, looped_after, at_level, not_fixed}
 
@@ -43,36 +44,36 @@ module _ (functions : List Entry) (most : ℕ) where
       }
 
   mutual
-    fits_stmt : (w : Spot) (fixed : List ℕ) (s : Stmt) → AreEntriesOf functions w.funcs → AreLooped w.scope w.loops fixed → length w.scope + length (declared_in s) ≤ most → Each Keeps (in_stmt w s)
-        → Fits (texts w.tables) functions most w.scope fixed s
-    fits_stmt w fixed (Let x e) entries looped room k = ((let r : length w.scope + 1 ≤ most = room in omega arith), whole_visible w e k.1)
-    fits_stmt w fixed (Set x e) entries looped room k = (free w fixed x looped (omega arith) k.0.names k.0.loops, whole_visible w e k.1)
-    fits_stmt w fixed (Put t a b e) entries looped room k =
+    fits_stmt : (w : Spot) (round : Round) (s : Stmt) → AreEntriesOf functions w.funcs → AreLooped w.scope w.loops round.fixed → length w.scope + length (declared_in s) ≤ most → Each Keeps (in_stmt w s)
+        → Fits (texts w.tables) functions most round w.scope s
+    fits_stmt w round (Let x e) entries looped room k = ((let r : length w.scope + 1 ≤ most = room in omega arith), whole_visible w e k.1)
+    fits_stmt w round (Set x e) entries looped room k = (free w round.fixed x looped (omega arith) k.0.names k.0.loops, whole_visible w e k.1)
+    fits_stmt w round (Put t a b e) entries looped room k =
         let behind : Each Keeps (in_whole w b ++ in_whole w e) = each_right Keeps (in_whole w a) (in_whole w b ++ in_whole w e) k.1.1 in (
           named_table w t k.0,
           whole_visible w a (each_left Keeps (in_whole w a) (in_whole w b ++ in_whole w e) k.1.1),
           whole_visible w b (each_left Keeps (in_whole w b) (in_whole w e) behind),
           whole_visible w e (each_right Keeps (in_whole w b) (in_whole w e) behind),
         )
-    fits_stmt w fixed (If' e p body q other) entries looped room k =
+    fits_stmt w round (If' e p body q other) entries looped room k =
         let inner : Each Keeps (in_all w body ++ in_all w other) = each_right Keeps (in_whole w e) (in_all w body ++ in_all w other) k in
         let both : length (declared_all body ++ declared_all other) ≡ length (declared_all body) + length (declared_all other) = length-append (declared_all body) (declared_all other) in (
           whole_visible w e (each_left Keeps (in_whole w e) (in_all w body ++ in_all w other) k),
-          fits_row w fixed body entries looped (omega arith) (each_left Keeps (in_all w body) (in_all w other) inner),
-          fits_row w fixed other entries looped (omega arith) (each_right Keeps (in_all w body) (in_all w other) inner),
+          fits_row w round body entries looped (omega arith) (each_left Keeps (in_all w body) (in_all w other) inner),
+          fits_row w round other entries looped (omega arith) (each_right Keeps (in_all w body) (in_all w other) inner),
         )
-    fits_stmt w fixed (While' e p body) entries looped room k =
-        (whole_visible w e (each_left Keeps (in_whole w e) (in_all w body) k), fits_row w fixed body entries looped room (each_right Keeps (in_whole w e) (in_all w body) k))
-    fits_stmt w fixed (Loop' x a b p body) entries looped room k =
+    fits_stmt w round (While' e p body) entries looped room k =
+        (whole_visible w e (each_left Keeps (in_whole w e) (in_all w body) k), fits_row w round body entries looped room (each_right Keeps (in_whole w e) (in_all w body) k))
+    fits_stmt w round (Loop' x a b p body) entries looped room k =
         let inside : List Site = in_all (in_loop w x) body in
         let behind : Each Keeps (in_whole w b ++ inside) = each_right Keeps (in_whole w a) (in_whole w b ++ inside) k.1 in
         let r : length w.scope + suc (length (declared_all body)) ≤ most = room in (
           (omega arith),
           whole_visible w a (each_left Keeps (in_whole w a) (in_whole w b ++ inside) k.1),
           whole_visible w b (each_left Keeps (in_whole w b) inside behind),
-          fits_row (in_loop w x) (length w.scope ∷ fixed) body entries (looped_inside w.scope w.loops x.text.items fixed looped) (omega (arith, length-append w.scope (x.text.items ∷ []))) (each_right Keeps (in_whole w b) inside behind),
+          fits_row (in_loop w x) (loop_round round (length w.scope)) body entries (looped_inside w.scope w.loops x.text.items round.fixed looped) (omega (arith, length-append w.scope (x.text.items ∷ []))) (each_right Keeps (in_whole w b) inside behind),
         )
-    fits_stmt w fixed (Par' place x a b carry_place carries reduces p body) entries looped room k =
+    fits_stmt w round (Par' place x a b carry_place carries reduces p body) entries looped room k =
         let clauses : List Site = in_carries w carries.items in
         let within : Spot = in_par w x carries.items reduces.items in
         let behind : Each Keeps (in_whole w b ++ (clauses ++ in_all within body)) = each_right Keeps (in_whole w a) (in_whole w b ++ (clauses ++ in_all within body)) k.1.1 in
@@ -80,38 +81,38 @@ module _ (functions : List Entry) (most : ℕ) where
           (omega arith),
           whole_visible w a (each_left Keeps (in_whole w a) (in_whole w b ++ (clauses ++ in_all within body)) k.1.1),
           whole_visible w b (each_left Keeps (in_whole w b) (clauses ++ in_all within body) behind),
-          fits_row (in_par w x carries.items reduces.items) (length w.scope ∷ fixed) body entries (looped_inside w.scope w.loops x.text.items fixed looped) (omega (arith, length-append w.scope (x.text.items ∷ [])))
+          fits_row (in_par w x carries.items reduces.items) (par_round round w.scope reduces.items) body entries (looped_inside w.scope w.loops x.text.items round.fixed looped) (omega (arith, length-append w.scope (x.text.items ∷ [])))
               (each_right Keeps clauses (in_all within body) (each_right Keeps (in_whole w b) (clauses ++ in_all within body) behind)),
         )
-    fits_stmt w fixed (Fold x e) entries looped room k = (free w fixed x looped (omega arith) k.0.names k.0.loops, whole_visible w e k.1)
-    fits_stmt w fixed (Call x f) entries looped room k = (free w fixed x looped (omega arith) k.0.names k.0.loops, call w f entries k.1)
-    fits_stmt w fixed (Both x f y g) entries looped room k =
+    fits_stmt w round (Fold x e) entries looped room k = (free w round.fixed x looped (omega arith) k.0.names k.0.loops, whole_visible w e k.1)
+    fits_stmt w round (Call x f) entries looped room k = (free w round.fixed x looped (omega arith) k.0.names k.0.loops, call w f entries k.1)
+    fits_stmt w round (Both x f y g) entries looped room k =
         let rest : List Site = site w (Assigns y) ∷ site w (AssignsBoth x y) ∷ in_app w g in
         let second : Each Keeps rest = each_right Keeps (in_app w f) rest k.1 in (
-          free w fixed x looped (omega arith) k.0.names k.0.loops,
-          free w fixed y looped (omega arith) second.0.names second.0.loops,
+          free w round.fixed x looped (omega arith) k.0.names k.0.loops,
+          free w round.fixed y looped (omega arith) second.0.names second.0.loops,
           call w f entries (each_left Keeps (in_app w f) rest k.1),
           call w g entries second.1.1,
         )
-    fits_stmt w fixed (Print place e) entries looped room k = whole_visible w e k.1
-    fits_stmt w fixed (Emit place t) entries looped room k = named_table w t k.1.0
+    fits_stmt w round (Print place e) entries looped room k = whole_visible w e k.1
+    fits_stmt w round (Emit place t) entries looped room k = named_table w t k.1.0
 
-    fits_row : {m : _} (w : Spot) (fixed : List ℕ) (row : Row_of-Stmt m) → AreEntriesOf functions w.funcs → AreLooped w.scope w.loops fixed → length w.scope + length (declared_all row) ≤ most → Each Keeps (in_all w row)
-        → FitInRow (texts w.tables) functions most w.scope fixed row
-    fits_row w fixed end_of-Stmt entries looped room k = tt
-    fits_row w fixed (more_of-Stmt s rest) entries looped room k =
+    fits_row : {m : _} (w : Spot) (round : Round) (row : Row_of-Stmt m) → AreEntriesOf functions w.funcs → AreLooped w.scope w.loops round.fixed → length w.scope + length (declared_all row) ≤ most → Each Keeps (in_all w row)
+        → FitInRow (texts w.tables) functions most round w.scope row
+    fits_row w round end_of-Stmt entries looped room k = tt
+    fits_row w round (more_of-Stmt s rest) entries looped room k =
         let both : length (declared_in s ++ declared_all rest) ≡ length (declared_in s) + length (declared_all rest) = length-append (declared_in s) (declared_all rest) in
         let long : length (names_after w.scope s) ≤ length w.scope + length (declared_in s) = long_after w.scope s in (
-          fits_stmt w fixed s entries looped (omega arith) (each_left Keeps (in_stmt w s) (in_all (spot_after w s) rest) k),
-          fits_row (with_names w (names_after w.scope s)) fixed rest entries (looped_after w.scope w.loops s fixed looped) (omega arith) (behind_first w s rest k),
+          fits_stmt w round s entries looped (omega arith) (each_left Keeps (in_stmt w s) (in_all (spot_after w s) rest) k),
+          fits_row (with_names w (names_after w.scope s)) round rest entries (looped_after w.scope w.loops s round.fixed looped) (omega arith) (behind_first w s rest k),
         )
 
-  pub fits_list : (w : Spot) (fixed : List ℕ) (ss : List Stmt) → AreEntriesOf functions w.funcs → AreLooped w.scope w.loops fixed → length w.scope + length (declared_list ss) ≤ most → Each Keeps (in_list w ss)
-      → AllFit (texts w.tables) functions most w.scope fixed ss
-  fits_list w fixed [] entries looped room k = tt
-  fits_list w fixed (s ∷ ss) entries looped room k =
+  pub fits_list : (w : Spot) (round : Round) (ss : List Stmt) → AreEntriesOf functions w.funcs → AreLooped w.scope w.loops round.fixed → length w.scope + length (declared_list ss) ≤ most → Each Keeps (in_list w ss)
+      → AllFit (texts w.tables) functions most round w.scope ss
+  fits_list w round [] entries looped room k = tt
+  fits_list w round (s ∷ ss) entries looped room k =
       let both : length (declared_in s ++ declared_list ss) ≡ length (declared_in s) + length (declared_list ss) = length-append (declared_in s) (declared_list ss) in
       let long : length (names_after w.scope s) ≤ length w.scope + length (declared_in s) = long_after w.scope s in (
-        fits_stmt w fixed s entries looped (omega arith) (each_left Keeps (in_stmt w s) (in_list (spot_after w s) ss) k),
-        fits_list (with_names w (names_after w.scope s)) fixed ss entries (looped_after w.scope w.loops s fixed looped) (omega arith) (behind_head w s ss k),
+        fits_stmt w round s entries looped (omega arith) (each_left Keeps (in_stmt w s) (in_list (spot_after w s) ss) k),
+        fits_list (with_names w (names_after w.scope s)) round ss entries (looped_after w.scope w.loops s round.fixed looped) (omega arith) (behind_head w s ss k),
       )

@@ -26,6 +26,7 @@ use Rattle.block_lower.specs.Lowering.{WritesValue, LowersAll}
 use Rattle.block_lower.specs.Main.{HasRoom, IsFunction}
 use Rattle.block_lower.specs.Names.{Sees, SeesAfter, names_after_list}
 use Rattle.block_lower.specs.Programs.{most_of, size_of, entry_at, entries_from, added_by_funcs, FuncIsSmall, FuncFitsIn, LowersFunc, AreWritten, LowersFuncs}
+use Rattle.block_lower.specs.Round.{outermost}
 use Rattle.block_lower.specs.Sizes.{added_by_func, kept_by_list}
 use Rattle.block_lower.specs.Writing.{label, next_label, IsFresh, Pushes, Closes, Stands, Continues, Leads}
 use Rattle.block_lower.proofs.Planning.{func_fits}
@@ -106,7 +107,7 @@ func_written on scope declared after f kept old inner valued new room params fre
     let tail : List Instr = load 1 return_cell ∷ [] in
     let v : Leads code inner (λ instrs end. (end ≡ term.Jump (value.Reg 1)) × Computes code act (names_after_list names f.body.items) f.result 0 instrs tail) =
     writes code act (names_after_list names f.body.items) tail (term.Jump (value.Reg 1)) (keeps names tables inside) visible (returns code stands) in
-    let b : Leads code old (λ instrs end. Codes code act [] names [] f.body.items instrs end v.instrs v.end) = all code tables names [] v.instrs v.end inside fits v.continues in (
+    let b : Leads code old (λ instrs end. Codes code act outermost names f.body.items instrs end v.instrs v.end) = all code tables names outermost v.instrs v.end refl inside fits v.continues in (
       b.continues.closed,
       record {
         has_room = room_of on kept tables room;
@@ -115,7 +116,7 @@ func_written on scope declared after f kept old inner valued new room params fre
         end = b.end;
         last = v.instrs;
         begins = fresh_opens code old b.instrs b.end fresh b.continues;
-        statements = subst (λ (t : Term). Codes code act [] names [] f.body.items b.instrs b.end v.instrs t) v.told.0 b.told;
+        statements = subst (λ (t : Term). Codes code act outermost names f.body.items b.instrs b.end v.instrs t) v.told.0 b.told;
         value = v.told.1;
       },
     )
@@ -160,7 +161,7 @@ funcs_written on first scope fs f old middle new most size empty none same fresh
     let own : FuncFitsIn tables (entries on.callees.items) f = (fits_behind tables (entries on.callees.items) fs (f ∷ []) fits).0 in
     let w : Stands code middle × IsFunction code (activation on tables) f (label middle) =
     one code tables (sees_tables first scope empty none same tables sees)
-    (subst (λ (n : ℕ). AllFit tables (entries on.callees.items) n (texts f.params.items) [] f.body.items) (sym most) own.fits) own.seen stands in
+    (subst (λ (n : ℕ). AllFit tables (entries on.callees.items) n outermost (texts f.params.items) f.body.items) (sym most) own.fits) own.seen stands in
     let v : Stands code old × AreWritten code tables (entries on.callees.items) (label old) fs = all code tables sees (fits_before tables (entries on.callees.items) fs (f ∷ []) fits) w.0 in
     let there : label middle ≡ label old + added_by_funcs fs = omega (arith, labels, fresh_label old fresh, fresh_label middle fresh_middle) in
     let act : ℕ → ℕ → Activation = λ m s. record { tables = tables; functions = entries on.callees.items; most = m; size = s } in

@@ -34,6 +34,7 @@ use Rattle.block_lower.specs.Main.{IsFunction, AreFunctions, IsProgram, Makes, t
 use Rattle.block_lower.specs.Names.{Sees, SeesAfter, names_after_list}
 use Rattle.block_lower.specs.Owing.{IsDeclared, AreDeclared, OwesMeaning}
 use Rattle.block_lower.specs.Programs.{most_of, size_of, entries_from, added_by_main, added_by_funcs, FuncFitsIn, AreWritten, LowersFuncs, SeesTables, WritesMakes, IsMainAt, LowersMain}
+use Rattle.block_lower.specs.Round.{outermost}
 use Rattle.block_lower.specs.Sizes.{added_by_func, declared_by_list, kept_by_list, kept_by_decls}
 use Rattle.block_lower.specs.Writing.{label, next_label, IsFresh, Pushes, Closes, Stands, Continues, Leads}
 use Rattle.block_lower.proofs.Makes.{given_tables_are}
@@ -69,7 +70,7 @@ main_written on p scope seen old begins made inner new fit cells none push makes
     let tables : List (List ℕ) = map table_name p.tables.items in
     let act : Activation = activation on tables in
     let nothing : Sees scope [] [] = sees_nothing scope cells none in
-    let w : Leads code made (λ instrs end. Codes code act [] [] [] p.main.items instrs end [] term.Halt) = all code tables [] [] [] term.Halt (keeps [] [] nothing) fits (closed_block code inner new term.Halt close stands) in
+    let w : Leads code made (λ instrs end. Codes code act outermost [] p.main.items instrs end [] term.Halt) = all code tables [] outermost [] term.Halt refl (keeps [] [] nothing) fits (closed_block code inner new term.Halt close stands) in
     let v : Leads code begins (λ instrs end. (end ≡ w.end) × Makes code act [] p.tables.items instrs w.instrs) = makes code tables [] w.instrs w.end nothing fit w.continues in
     record {
       makes = v.instrs;
@@ -118,7 +119,7 @@ are_functions code tables functions at fs same all x e is =
 
 func_fits_in : (p : Program) (label : ℕ) (f : Func) → FuncFits p f → FuncFitsIn (map table_name p.tables.items) (entries_from label p.funcs.items) f
 func_fits_in p label f fits = record {
-  fits = subst (λ (ts : List (List ℕ)). AllFit ts (entries_from label p.funcs.items) (most_of f) (texts f.params.items) [] f.body.items) (names_of_tables p) (fitting_body p label f fits);
+  fits = subst (λ (ts : List (List ℕ)). AllFit ts (entries_from label p.funcs.items) (most_of f) outermost (texts f.params.items) f.body.items) (names_of_tables p) (fitting_body p label f fits);
   seen = subst (λ (ts : List (List ℕ)). IsVisible ts (names_after_list (texts f.params.items) f.body.items) f.result) (names_of_tables p) fits.seen;
 }
 
@@ -149,10 +150,10 @@ program_written p on kept scope old main new fits same most room empty fresh low
     let all_fit : AllByRecursion (FuncFitsIn tables (entries on.callees.items)) p.funcs.items =
     subst (λ (es : List Entry). AllByRecursion (FuncFitsIn tables es) p.funcs.items) (sym same) (funcs_fit_in p (added_by_main p) p.funcs.items fits.functions) in
     let f : Stands code main × AreWritten code tables (entries on.callees.items) (label main) p.funcs.items = functions code tables sees all_fit stands in
-    let fit_named : AllFit tables own (declared_by_list p.main.items) [] [] p.main.items =
-    subst (λ (ts : List (List ℕ)). AllFit ts own (declared_by_list p.main.items) [] [] p.main.items) (names_of_tables p) (fitting_main p (added_by_main p) fits.main) in
-    let fit_entries : AllFit tables (entries on.callees.items) (declared_by_list p.main.items) [] [] p.main.items = subst (λ (es : List Entry). AllFit tables es (declared_by_list p.main.items) [] [] p.main.items) (sym same) fit_named in
-    let fit_main : AllFit tables (entries on.callees.items) on.most [] [] p.main.items = subst (λ (n : ℕ). AllFit tables (entries on.callees.items) n [] [] p.main.items) (sym most) fit_entries in
+    let fit_named : AllFit tables own (declared_by_list p.main.items) outermost [] p.main.items =
+    subst (λ (ts : List (List ℕ)). AllFit ts own (declared_by_list p.main.items) outermost [] p.main.items) (names_of_tables p) (fitting_main p (added_by_main p) fits.main) in
+    let fit_entries : AllFit tables (entries on.callees.items) (declared_by_list p.main.items) outermost [] p.main.items = subst (λ (es : List Entry). AllFit tables es (declared_by_list p.main.items) outermost [] p.main.items) (sym same) fit_named in
+    let fit_main : AllFit tables (entries on.callees.items) on.most outermost [] p.main.items = subst (λ (n : ℕ). AllFit tables (entries on.callees.items) n outermost [] p.main.items) (sym most) fit_entries in
     let m : IsMainAt code (activation on tables) p old = lowers code fit_main f.0 in
     let none : length old.blocks.items ≡ 0 = ap (λ (bs : List Block). length bs) empty in
     let there : label main ≡ added_by_main p = omega (arith, labels, none, fresh_label old fresh, fresh_label main fresh_main) in

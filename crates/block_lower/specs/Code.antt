@@ -10,7 +10,6 @@ use Rattle.loop_syntax.specs.declared.Expr.{Expr}
 use Rattle.loop_syntax.specs.declared.Stmt.{Stmt}
 use Rattle.loop_syntax.specs.declared.ParLoop.{ParLoop}
 use Rattle.loop_syntax.specs.declared.App.{App}
-use Rattle.loop_syntax.specs.declared.Reduce.{Reduce}
 use Rattle.loop_syntax.specs.declared.Stmt.TheVariants.{Let, Set, Put, If, While, Loop, Par, Fold}
 use Rattle.loop_syntax.specs.declared.Stmt.TheVariants.{Call, Both, Print, Emit}
 use Rattle.loop_rules.specs.Limits.{height}
@@ -43,6 +42,7 @@ use Rattle.block_lower.specs.Layout.{base_register, return_cell, levels_cell, va
 use Rattle.block_lower.specs.Layout.{bound_cell, kept_cell, kept_value, kept_by_both, Entry}
 use Rattle.block_lower.specs.Layout.{entry_of, Activation}
 use Rattle.block_lower.specs.Names.{Sees, names_after}
+use Rattle.block_lower.specs.Round.{Round, loop_round, par_round}
 
 -- the block at a label is not promotion-ready, and has these instructions and this end
 pub record Opens (code : Listing) (label : ℕ) (instrs : List Instr) (end : Term) : Type 0 where
@@ -190,30 +190,29 @@ module _ (code : Listing) (act : Activation) where
     pub behind : Opens code return (call_exit entry.size act.size back) last
 
   mutual
-    -- The code of a statement, where the nearest `par` round it reduces these, these variables are
-    -- visible and those at the fixed levels are the variables of loops: from some instructions and
-    -- an end to others.
-    pub data Code : List Reduce → List (List ℕ) → List ℕ → Stmt → List Instr → Term → List Instr
+    -- The code of a statement, where this stands round it and these variables are visible: from some
+    -- instructions and an end to others.
+    pub data Code : Round → List (List ℕ) → Stmt → List Instr → Term → List Instr
         → Term → Type 0 where
-      let_code : {reduces : List Reduce} {names : List (List ℕ)} {fixed : List ℕ} {x : Name}
+      let_code : {round : Round} {names : List (List ℕ)} {x : Name}
           {e : Expr} {v : Value} {instrs more : List Instr} {end : Term}
           → length names < act.most
           → Operand names e 0 v instrs (store (value_cell (length names)) v ∷ more)
-          → Code reduces names fixed (Let x e) instrs end more end
-      set_code : {reduces : List Reduce} {names : List (List ℕ)} {fixed : List ℕ} {x : Name}
+          → Code round names (Let x e) instrs end more end
+      set_code : {round : Round} {names : List (List ℕ)} {x : Name}
           {e : Expr} {v : Value} {cell : ℕ} {instrs more : List Instr} {end : Term}
-          → IsCell names fixed x.text.items cell
+          → IsCell names round.fixed x.text.items cell
           → Operand names e 0 v instrs (store cell v ∷ more)
-          → Code reduces names fixed (Set x e) instrs end more end
-      put_code : {reduces : List Reduce} {names : List (List ℕ)} {fixed : List ℕ} {t : Name}
+          → Code round names (Set x e) instrs end more end
+      put_code : {round : Round} {names : List (List ℕ)} {t : Name}
           {a b e : Expr} {table trap : ℕ} {instrs second third more : List Instr} {end : Term}
           → IsTable names t.text.items table
           → Computes names a 0 instrs second
           → Computes names b 1 second third
           → Computes names e 2 third (put_tested table 0 1 2 3 trap more)
           → AreAt code trap (trap_block trap Index t.place ∷ [])
-          → Code reduces names fixed (Put t a b e) instrs end more end
-      put_kept_code : {reduces : List Reduce} {names : List (List ℕ)} {fixed : List ℕ} {t : Name}
+          → Code round names (Put t a b e) instrs end more end
+      put_kept_code : {round : Round} {names : List (List ℕ)} {t : Name}
           {a b e : Expr} {table trap : ℕ} {instrs second third more : List Instr} {end : Term}
           → Keeps 2
           → IsTable names t.text.items table
@@ -223,25 +222,25 @@ module _ (code : Listing) (act : Activation) where
           (load 1 (kept_cell act 0) ∷ load 2 (kept_cell act 1)
           ∷ put_tested table 1 2 0 3 trap more)
           → AreAt code trap (trap_block trap Index t.place ∷ [])
-          → Code reduces names fixed (Put t a b e) instrs end more end
-      if_code : {reduces : List Reduce} {names : List (List ℕ)} {fixed : List ℕ} {e : Expr}
+          → Code round names (Put t a b e) instrs end more end
+      if_code : {round : Round} {names : List (List ℕ)} {e : Expr}
           (body other : Vec Stmt Global) {first second exit : ℕ} {instrs more : List Instr}
           {end : Term}
           → Computes names e 0 instrs (instr.IfJump 0 first ∷ [])
-          → Branch reduces names fixed body.items first exit
-          → Other reduces names fixed other.items second exit
+          → Branch round names body.items first exit
+          → Other round names other.items second exit
           → Opens code exit more end
-          → Code reduces names fixed (If e body other) instrs (to second) more end
-      while_code : {reduces : List Reduce} {names : List (List ℕ)} {fixed : List ℕ} {e : Expr}
+          → Code round names (If e body other) instrs (to second) more end
+      while_code : {round : Round} {names : List (List ℕ)} {e : Expr}
           (body : Vec Stmt Global) {again exit : ℕ} {instrs inner test more : List Instr}
           {last end : Term}
           → Computes names e 0 instrs (instr.IfJump 0 again ∷ [])
           → Opens code again (instr.Tick ∷ inner) last
-          → Codes reduces names fixed body.items inner last test (to exit)
+          → Codes round names body.items inner last test (to exit)
           → Computes names e 0 test (instr.IfJump 0 again ∷ [])
           → Opens code exit more end
-          → Code reduces names fixed (While e body) instrs (to exit) more end
-      loop_code : {reduces : List Reduce} {names : List (List ℕ)} {fixed : List ℕ} {x : Name}
+          → Code round names (While e body) instrs (to exit) more end
+      loop_code : {round : Round} {names : List (List ℕ)} {x : Name}
           {a b : Expr} (body : Vec Stmt Global) {again exit : ℕ}
           {instrs second inner more : List Instr} {last end : Term}
           → length names < act.most
@@ -250,13 +249,13 @@ module _ (code : Listing) (act : Activation) where
           (store (bound_cell (length names)) (value.Reg 0) ∷ load 1 (value_cell (length names))
           ∷ below_test 1 (value.Reg 0) again)
           → Opens code again (instr.Tick ∷ inner) last
-          → Codes reduces (names ++ x.text.items ∷ []) (length names ∷ fixed) body.items inner last
+          → Codes (loop_round round (length names)) (names ++ x.text.items ∷ []) body.items inner last
           (step_up 1 (length names)
           (load 0 (bound_cell (length names)) ∷ below_test 1 (value.Reg 0) again))
           (to exit)
           → Opens code exit more end
-          → Code reduces names fixed (Loop x a b body) instrs (to exit) more end
-      loop_to_code : {reduces : List Reduce} {names : List (List ℕ)} {fixed : List ℕ} {x : Name}
+          → Code round names (Loop x a b body) instrs (to exit) more end
+      loop_to_code : {round : Round} {names : List (List ℕ)} {x : Name}
           {a b : Expr} (body : Vec Stmt Global) {n : ℤ} {again exit : ℕ}
           {instrs inner more : List Instr} {last end : Term}
           → length names < act.most
@@ -264,11 +263,11 @@ module _ (code : Listing) (act : Activation) where
           → Computes names a 0 instrs
           (store (value_cell (length names)) (value.Reg 0) ∷ below_test 0 (value.Int n) again)
           → Opens code again (instr.Tick ∷ inner) last
-          → Codes reduces (names ++ x.text.items ∷ []) (length names ∷ fixed) body.items inner last
+          → Codes (loop_round round (length names)) (names ++ x.text.items ∷ []) body.items inner last
           (step_up 0 (length names) (below_test 0 (value.Int n) again)) (to exit)
           → Opens code exit more end
-          → Code reduces names fixed (Loop x a b body) instrs (to exit) more end
-      par_code : {reduces : List Reduce} {names : List (List ℕ)} {fixed : List ℕ} (l : ParLoop)
+          → Code round names (Loop x a b body) instrs (to exit) more end
+      par_code : {round : Round} {names : List (List ℕ)} (l : ParLoop)
           {check wide again exit : ℕ} {instrs second inner more : List Instr} {last end : Term}
           → length names < act.most
           → Computes names l.from 0 instrs
@@ -279,34 +278,34 @@ module _ (code : Listing) (act : Activation) where
           → Opens code check (wide_test wide again) (to wide)
           → AreAt code wide (trap_block wide Wide l.place ∷ [])
           → Opens code again (instr.Tick ∷ inner) last
-          → Codes l.reduces.items (names ++ l.var.text.items ∷ []) (length names ∷ fixed)
+          → Codes (par_round round names l.reduces.items) (names ++ l.var.text.items ∷ [])
           l.body.items inner last
           (step_up 1 (length names)
           (load 0 (bound_cell (length names)) ∷ below_test 1 (value.Reg 0) again))
           (to exit)
           → Opens code exit more end
-          → Code reduces names fixed (Par l) instrs (to exit) more end
-      fold_code : {reduces : List Reduce} {names : List (List ℕ)} {fixed : List ℕ} {x : Name}
+          → Code round names (Par l) instrs (to exit) more end
+      fold_code : {round : Round} {names : List (List ℕ)} {x : Name}
           {e : Expr} {o : Op} {v : Value} {cell : ℕ} {instrs more : List Instr} {end : Term}
-          → operator_of reduces x.text.items ≡ Some o
-          → IsCell names fixed x.text.items cell
+          → operator_of round.reduces x.text.items ≡ Some o
+          → IsCell names round.fixed x.text.items cell
           → Operand names e 0 v instrs
           (load 1 cell ∷ instr.Calc 1 1 (alu_of o) v ∷ store cell (value.Reg 1) ∷ more)
-          → Code reduces names fixed (Fold x e) instrs end more end
-      fold_nothing_code : {reduces : List Reduce} {names : List (List ℕ)} {fixed : List ℕ}
+          → Code round names (Fold x e) instrs end more end
+      fold_nothing_code : {round : Round} {names : List (List ℕ)}
           {x : Name} {e : Expr} {instrs more : List Instr} {end : Term}
-          → operator_of reduces x.text.items ≡ None
+          → operator_of round.reduces x.text.items ≡ None
           → Computes names e 0 instrs more
-          → Code reduces names fixed (Fold x e) instrs end more end
-      call_code : {reduces : List Reduce} {names : List (List ℕ)} {fixed : List ℕ} {x : Name}
+          → Code round names (Fold x e) instrs end more end
+      call_code : {round : Round} {names : List (List ℕ)} {x : Name}
           {f : App} {entry : Entry} {cell : ℕ} {arguments test more : List Instr} {last end : Term}
           → entry_of act.functions f.callee.text.items ≡ Some entry
           → length f.args.items ≡ entry.parameters
-          → IsCell names fixed x.text.items cell
+          → IsCell names round.fixed x.text.items cell
           → Arguments names parameter_cell 0 f.args.items arguments test
           → Calls f.callee.place entry test last (store cell (value.Reg 0) ∷ more) end
-          → Code reduces names fixed (Call x f) (instr.Salloc entry.size ∷ arguments) last more end
-      both_code : {reduces : List Reduce} {names : List (List ℕ)} {fixed : List ℕ} {x y : Name}
+          → Code round names (Call x f) (instr.Salloc entry.size ∷ arguments) last more end
+      both_code : {round : Round} {names : List (List ℕ)} {x y : Name}
           {f g : App} {first second : Entry} {x_cell y_cell : ℕ}
           {arguments others test_first test_second more : List Instr} {last half end : Term}
           → Keeps kept_by_both
@@ -314,8 +313,8 @@ module _ (code : Listing) (act : Activation) where
           → length f.args.items ≡ first.parameters
           → entry_of act.functions g.callee.text.items ≡ Some second
           → length g.args.items ≡ second.parameters
-          → IsCell names fixed x.text.items x_cell
-          → IsCell names fixed y.text.items y_cell
+          → IsCell names round.fixed x.text.items x_cell
+          → IsCell names round.fixed y.text.items y_cell
           → length g.args.items ≤ MAX_PARAMETERS
           → Arguments names parameter_cell 0 f.args.items arguments others
           → Arguments names (kept_cell act) 0 g.args.items others test_first
@@ -327,42 +326,42 @@ module _ (code : Listing) (act : Activation) where
           (load 1 (kept_cell act kept_value) ∷ store x_cell (value.Reg 1) ∷ store y_cell (value.Reg 0)
           ∷ more)
           end
-          → Code reduces names fixed (Both x f y g) (instr.Salloc first.size ∷ arguments) last more
+          → Code round names (Both x f y g) (instr.Salloc first.size ∷ arguments) last more
           end
-      print_code : {reduces : List Reduce} {names : List (List ℕ)} {fixed : List ℕ} {place : Place}
+      print_code : {round : Round} {names : List (List ℕ)} {place : Place}
           {e : Expr} {instrs more : List Instr} {end : Term}
           → Computes names e 0 instrs (instr.Print 0 ∷ more)
-          → Code reduces names fixed (Print place e) instrs end more end
-      emit_code : {reduces : List Reduce} {names : List (List ℕ)} {fixed : List ℕ} {place : Place}
+          → Code round names (Print place e) instrs end more end
+      emit_code : {round : Round} {names : List (List ℕ)} {place : Place}
           {t : Name} {table : ℕ} {more : List Instr} {end : Term}
           → IsTable names t.text.items table
-          → Code reduces names fixed (Emit place t) (instr.Emit table ∷ more) end more end
+          → Code round names (Emit place t) (instr.Emit table ∷ more) end more end
 
     -- the code of statements in order
-    pub data Codes : List Reduce → List (List ℕ) → List ℕ → List Stmt → List Instr → Term
+    pub data Codes : Round → List (List ℕ) → List Stmt → List Instr → Term
         → List Instr → Term → Type 0 where
-      none : {reduces : List Reduce} {names : List (List ℕ)} {fixed : List ℕ} {instrs : List Instr}
+      none : {round : Round} {names : List (List ℕ)} {instrs : List Instr}
           {end : Term}
-          → Codes reduces names fixed [] instrs end instrs end
-      one_more : {reduces : List Reduce} {names : List (List ℕ)} {fixed : List ℕ} {s : Stmt}
+          → Codes round names [] instrs end instrs end
+      one_more : {round : Round} {names : List (List ℕ)} {s : Stmt}
           {ss : List Stmt} {instrs middle more : List Instr} {end half last : Term}
-          → Code reduces names fixed s instrs end middle half
-          → Codes reduces (names_after names s) fixed ss middle half more last
-          → Codes reduces names fixed (s ∷ ss) instrs end more last
+          → Code round names s instrs end middle half
+          → Codes round (names_after names s) ss middle half more last
+          → Codes round names (s ∷ ss) instrs end more last
 
     -- the block of a branch, and what goes on at the exit
-    pub data Branch : List Reduce → List (List ℕ) → List ℕ → List Stmt → ℕ → ℕ → Type 0 where
-      branch : {reduces : List Reduce} {names : List (List ℕ)} {fixed : List ℕ} {body : List Stmt}
+    pub data Branch : Round → List (List ℕ) → List Stmt → ℕ → ℕ → Type 0 where
+      branch : {round : Round} {names : List (List ℕ)} {body : List Stmt}
           {label exit : ℕ} {instrs : List Instr} {end : Term}
           → Opens code label instrs end
-          → Codes reduces names fixed body instrs end [] (to exit)
-          → Branch reduces names fixed body label exit
+          → Codes round names body instrs end [] (to exit)
+          → Branch round names body label exit
 
     -- a branch with no statements has no block
-    pub data Other : List Reduce → List (List ℕ) → List ℕ → List Stmt → ℕ → ℕ → Type 0 where
-      nothing : {reduces : List Reduce} {names : List (List ℕ)} {fixed : List ℕ} {exit : ℕ}
-          → Other reduces names fixed [] exit exit
-      something : {reduces : List Reduce} {names : List (List ℕ)} {fixed : List ℕ}
+    pub data Other : Round → List (List ℕ) → List Stmt → ℕ → ℕ → Type 0 where
+      nothing : {round : Round} {names : List (List ℕ)} {exit : ℕ}
+          → Other round names [] exit exit
+      something : {round : Round} {names : List (List ℕ)}
           {body : List Stmt} {label exit : ℕ}
-          → Branch reduces names fixed body label exit
-          → Other reduces names fixed body label exit
+          → Branch round names body label exit
+          → Other round names body label exit

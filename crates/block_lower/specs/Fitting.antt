@@ -1,5 +1,5 @@
--- What the code of statements asks of them: their variables and tables are visible, no variable of
--- a loop round them is set, and there is room for those that they declare. What the code of a
+-- What the code of statements asks of them: their variables and tables are visible, none
+-- is set that is fixed there, and there is room for those that they declare. What the code of a
 -- program asks of it.
 use Rattle.std.specs.Prelude.{◌≡◌, ◌≢◌, ℕ, suc, ◌+◌, ◌<◌, ◌≤◌, cond, IsTrue, ⊤, List, [], ◌∷◌, ◌++◌}
 use Rattle.std.specs.Prelude.{length, bytes_eq, Some}
@@ -22,6 +22,7 @@ use Rattle.loop_rules.specs.Sites.{tables_of}
 use Rattle.block_lower.specs.Heights.{AllAreLow, FuncIsLow, DeclIsLow}
 use Rattle.block_lower.specs.Layout.{Entry, entry_of}
 use Rattle.block_lower.specs.Names.{names_after, names_after_list}
+use Rattle.block_lower.specs.Round.{Round, outermost, loop_round, par_round}
 
 -- how many variables stand before the first one of that name
 abbrev pub level_of : List (List ℕ) → List ℕ → ℕ
@@ -58,48 +59,47 @@ module _ (tables : List (List ℕ)) (functions : List Entry) (most : ℕ) where
     pub arity : length f.args.items ≡ entry.parameters
     pub seen : AreVisible tables names f.args.items
 
-  -- a statement fits where these variables are visible, and those at the fixed levels are the
-  -- variables of loops
+  -- a statement fits where this stands round it and these variables are visible
   abbrev mutual
-    pub Fits : List (List ℕ) → List ℕ → Stmt → Type 0
-    Fits names fixed (Let x e) = (length names < most) × IsVisible tables names e
-    Fits names fixed (Set x e) = IsFree names fixed x.text.items × IsVisible tables names e
-    Fits names fixed (Put t a b e) =
+    pub Fits : Round → List (List ℕ) → Stmt → Type 0
+    Fits round names (Let x e) = (length names < most) × IsVisible tables names e
+    Fits round names (Set x e) = IsFree names round.fixed x.text.items × IsVisible tables names e
+    Fits round names (Put t a b e) =
         IsTrue (is_in tables t.text.items)
         × IsVisible tables names a
         × IsVisible tables names b
         × IsVisible tables names e
-    Fits names fixed (If' e p body q other) =
-        IsVisible tables names e × FitInRow names fixed body × FitInRow names fixed other
-    Fits names fixed (While' e p body) = IsVisible tables names e × FitInRow names fixed body
-    Fits names fixed (Loop' x a b p body) =
+    Fits round names (If' e p body q other) =
+        IsVisible tables names e × FitInRow round names body × FitInRow round names other
+    Fits round names (While' e p body) = IsVisible tables names e × FitInRow round names body
+    Fits round names (Loop' x a b p body) =
         (length names < most)
         × IsVisible tables names a
         × IsVisible tables names b
-        × FitInRow (names ++ x.text.items ∷ []) (length names ∷ fixed) body
-    Fits names fixed (Par' place x a b carry_place carries reduces p body) =
+        × FitInRow (loop_round round (length names)) (names ++ x.text.items ∷ []) body
+    Fits round names (Par' place x a b carry_place carries reduces p body) =
         (length names < most)
         × IsVisible tables names a
         × IsVisible tables names b
-        × FitInRow (names ++ x.text.items ∷ []) (length names ∷ fixed) body
-    Fits names fixed (Fold x e) = IsFree names fixed x.text.items × IsVisible tables names e
-    Fits names fixed (Call x f) = IsFree names fixed x.text.items × IsCall names f
-    Fits names fixed (Both x f y g) =
-        IsFree names fixed x.text.items
-        × IsFree names fixed y.text.items
+        × FitInRow (par_round round names reduces.items) (names ++ x.text.items ∷ []) body
+    Fits round names (Fold x e) = IsFree names round.fixed x.text.items × IsVisible tables names e
+    Fits round names (Call x f) = IsFree names round.fixed x.text.items × IsCall names f
+    Fits round names (Both x f y g) =
+        IsFree names round.fixed x.text.items
+        × IsFree names round.fixed y.text.items
         × IsCall names f
         × IsCall names g
-    Fits names fixed (Print place e) = IsVisible tables names e
-    Fits names fixed (Emit place t) = IsTrue (is_in tables t.text.items)
+    Fits round names (Print place e) = IsVisible tables names e
+    Fits round names (Emit place t) = IsTrue (is_in tables t.text.items)
 
-    pub FitInRow : {m : _} → List (List ℕ) → List ℕ → Row_of-Stmt m → Type 0
-    FitInRow names fixed end_of-Stmt = ⊤
-    FitInRow names fixed (more_of-Stmt first rest) =
-        Fits names fixed first × FitInRow (names_after names first) fixed rest
+    pub FitInRow : {m : _} → Round → List (List ℕ) → Row_of-Stmt m → Type 0
+    FitInRow round names end_of-Stmt = ⊤
+    FitInRow round names (more_of-Stmt first rest) =
+        Fits round names first × FitInRow round (names_after names first) rest
 
-  abbrev pub AllFit : List (List ℕ) → List ℕ → List Stmt → Type 0
-  AllFit names fixed [] = ⊤
-  AllFit names fixed (s ∷ ss) = Fits names fixed s × AllFit (names_after names s) fixed ss
+  abbrev pub AllFit : Round → List (List ℕ) → List Stmt → Type 0
+  AllFit round names [] = ⊤
+  AllFit round names (s ∷ ss) = Fits round names s × AllFit round (names_after names s) ss
 
 -- ---- functions
 
@@ -121,7 +121,7 @@ variables_of f = length f.params.items + length (declared_list f.body.items)
 pub record FuncFits (p : Program) (f : Func) : Type 0 where
   pub fits : (functions : List Entry)
       → AreEntriesOf functions p.funcs.items
-      → AllFit (texts (tables_of p)) functions (variables_of f) (texts f.params.items) []
+      → AllFit (texts (tables_of p)) functions (variables_of f) outermost (texts f.params.items)
       f.body.items
   pub seen : IsVisible (texts (tables_of p)) (names_after_list (texts f.params.items) f.body.items)
       f.result
@@ -135,7 +135,7 @@ pub record FuncFits (p : Program) (f : Func) : Type 0 where
 pub record MainFits (p : Program) : Type 0 where
   pub fits : (functions : List Entry)
       → AreEntriesOf functions p.funcs.items
-      → AllFit (texts (tables_of p)) functions (length (declared_list p.main.items)) [] []
+      → AllFit (texts (tables_of p)) functions (length (declared_list p.main.items)) outermost []
       p.main.items
   pub low : AllAreLow p.main.items
   pub few : length (declared_list p.main.items) ≤ MAX_DECLARED_VARIABLES

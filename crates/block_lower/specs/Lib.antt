@@ -6,6 +6,8 @@ pub mod Count
 pub mod Layout
 -- which variables and tables are visible where
 pub mod Names
+-- what stands round a statement
+pub mod Round
 -- which code is the code of a statement
 pub mod Code
 -- which code is the code of a program

@@ -27,6 +27,7 @@ use Rattle.block_lower.specs.Code.{wide_test, put_tested}
 use Rattle.block_lower.specs.Fitting.{IsVisible, AreVisible, Fits, AllFit}
 use Rattle.block_lower.specs.Layout.{value_cell, bound_cell, kept_cell, Entry, Activation}
 use Rattle.block_lower.specs.Names.{Sees}
+use Rattle.block_lower.specs.Round.{Round}
 use Rattle.block_lower.specs.Writing.{label, next_label, Stands, Continues, Leads}
 
 -- ---- expressions
@@ -168,13 +169,14 @@ WritesCall on place at size old new =
 -- the code of a statement was written
 abbrev pub Lowers : Body → List Reduce → Scope → Stmt → Output → Output → Type 0
 Lowers on reduces scope s old new =
-    (code : Listing) (tables names : List (List ℕ)) (fixed : List ℕ) (more : List Instr)
+    (code : Listing) (tables names : List (List ℕ)) (round : Round) (more : List Instr)
     (last : Term)
+    → round.reduces ≡ reduces
     → Sees scope names tables
-    → Fits tables (entries on.callees.items) on.most names fixed s
+    → Fits tables (entries on.callees.items) on.most round names s
     → Continues code new more last
     → Leads code old
-    (λ instrs end. Code code (activation on tables) reduces names fixed s instrs end more last)
+    (λ instrs end. Code code (activation on tables) round names s instrs end more last)
 
 -- what holds of a vector with these statements
 abbrev pub WithBody : List Stmt → (Vec Stmt Global → Type 0) → Type 0
@@ -183,52 +185,54 @@ WithBody body holds = (v : Vec Stmt Global) → v.items ≡ body → holds v
 -- the code of statements in order was written
 abbrev pub LowersAll : Body → List Reduce → Scope → List Stmt → Output → Output → Type 0
 LowersAll on reduces scope ss old new =
-    (code : Listing) (tables names : List (List ℕ)) (fixed : List ℕ) (more : List Instr)
+    (code : Listing) (tables names : List (List ℕ)) (round : Round) (more : List Instr)
     (last : Term)
+    → round.reduces ≡ reduces
     → Sees scope names tables
-    → AllFit tables (entries on.callees.items) on.most names fixed ss
+    → AllFit tables (entries on.callees.items) on.most round names ss
     → Continues code new more last
     → Leads code old
-    (λ instrs end. Codes code (activation on tables) reduces names fixed ss instrs end more
+    (λ instrs end. Codes code (activation on tables) round names ss instrs end more
     last)
 
 -- a branch, which goes on at a label, was written and closed; the open block was to be its first
 abbrev pub LowersBranch : Body → List Reduce → Scope → List Stmt → ℕ → Output → Output → Type 0
 LowersBranch on reduces scope body exit old new =
-    (code : Listing) (tables names : List (List ℕ)) (fixed : List ℕ)
+    (code : Listing) (tables names : List (List ℕ)) (round : Round)
+    → round.reduces ≡ reduces
     → Sees scope names tables
-    → AllFit tables (entries on.callees.items) on.most names fixed body
+    → AllFit tables (entries on.callees.items) on.most round names body
     → Stands code new
-    → Stands code old × Branch code (activation on tables) reduces names fixed body (label old) exit
+    → Stands code old × Branch code (activation on tables) round names body (label old) exit
 
 -- the same of a second branch, which may have no block; the exit is behind it
 abbrev pub LowersOther : Body → List Reduce → Scope → List Stmt → ℕ → Output → Output → Type 0
 LowersOther on reduces scope body exit old new =
-    (code : Listing) (tables names : List (List ℕ)) (fixed : List ℕ)
+    (code : Listing) (tables names : List (List ℕ)) (round : Round)
+    → round.reduces ≡ reduces
     → Sees scope names tables
-    → AllFit tables (entries on.callees.items) on.most names fixed body
+    → AllFit tables (entries on.callees.items) on.most round names body
     → Stands code new
     → exit ≡ label new
-    → Stands code old × Other code (activation on tables) reduces names fixed body (label old) exit
+    → Stands code old × Other code (activation on tables) round names body (label old) exit
 
 -- a block that begins with the code of the body of a loop, which the open one was to be
-pub record IsBodyAt (code : Listing) (act : Activation) (reduces : List Reduce)
-    (names : List (List ℕ)) (fixed : List ℕ) (body : List Stmt) (out : Output) (more : List Instr)
+pub record IsBodyAt (code : Listing) (act : Activation) (round : Round)
+    (names : List (List ℕ)) (body : List Stmt) (out : Output) (more : List Instr)
     (last : Term) : Type 0 where
   pub before : Stands code out
   pub instrs : List Instr
   pub end : Term
   pub opens : Opens code (label out) (Tick ∷ instrs) end
-  pub codes : Codes code act reduces names fixed body instrs end more last
+  pub codes : Codes code act round names body instrs end more last
 
--- the body of a loop over a variable was written
+-- the body of a loop over a variable was written, for what stands round that body
 abbrev pub LowersBody : Body → List Reduce → Scope → List ℕ → List Stmt → Output → Output → Type 0
 LowersBody on reduces scope x body old new =
-    (code : Listing) (tables names : List (List ℕ)) (fixed : List ℕ) (more : List Instr)
+    (code : Listing) (tables names : List (List ℕ)) (round : Round) (more : List Instr)
     (last : Term)
+    → round.reduces ≡ reduces
     → Sees scope names tables
-    → AllFit tables (entries on.callees.items) on.most (names ++ x ∷ []) (length names ∷ fixed)
-    body
+    → AllFit tables (entries on.callees.items) on.most round (names ++ x ∷ []) body
     → Continues code new more last
-    → IsBodyAt code (activation on tables) reduces (names ++ x ∷ []) (length names ∷ fixed) body old
-    more last
+    → IsBodyAt code (activation on tables) round (names ++ x ∷ []) body old more last

@@ -20,6 +20,7 @@ use Rattle.block_lower.specs.Layout.{return_cell, levels_cell, value_cell, kept_
 use Rattle.block_lower.specs.Layout.{entry_of, Activation}
 use Rattle.block_lower.specs.Names.{names_after_list}
 use Rattle.block_lower.specs.Owing.{AreDeclared}
+use Rattle.block_lower.specs.Round.{outermost}
 
 -- the variables of an activation, and all that a statement keeps, have room in it
 pub record HasRoom (act : Activation) : Type 0 where
@@ -65,7 +66,7 @@ pub record IsFunction (code : Listing) (act : Activation) (f : Func) (label : �
   pub end : Term
   pub last : List Instr
   pub begins : Opens code label instrs end
-  pub statements : Codes code act [] (texts f.params.items) [] f.body.items instrs end last
+  pub statements : Codes code act outermost (texts f.params.items) f.body.items instrs end last
       (term.Jump (value.Reg 1))
   pub value : Computes code act (names_after_list (texts f.params.items) f.body.items) f.result 0
       last (load 1 return_cell ∷ [])
@@ -110,4 +111,4 @@ pub record IsProgram (code : Listing) (p : Program) : Type 0 where
   pub begins : Opens code 0
       (instr.Salloc act.size ∷ store levels_cell (value.Int (pos MAX_CALL_DEPTH)) ∷ makes) end
   pub made : Makes code act [] p.tables.items makes instrs
-  pub statements : Codes code act [] [] [] p.main.items instrs end [] term.Halt
+  pub statements : Codes code act outermost [] p.main.items instrs end [] term.Halt

@@ -22,6 +22,7 @@ use Rattle.block_lower.specs.Code.{Codes, store}
 use Rattle.block_lower.specs.Layout.{value_cell, levels_cell, Entry, Activation}
 use Rattle.block_lower.specs.Main.{IsFunction, Makes, table_name}
 use Rattle.block_lower.specs.Names.{Sees, names_after_list}
+use Rattle.block_lower.specs.Round.{outermost}
 use Rattle.block_lower.specs.Sizes.{added_by_list, added_by_func, added_by_decls, declared_by_list}
 use Rattle.block_lower.specs.Sizes.{kept_by_list}
 use Rattle.block_lower.specs.Writing.{label, Stands, Continues, Leads}
@@ -64,7 +65,7 @@ pub record FuncIsSmall (f : Func) : Type 0 where
 
 -- a function's statements and its result fit in an activation of its own
 pub record FuncFitsIn (tables : List (List ℕ)) (functions : List Entry) (f : Func) : Type 0 where
-  pub fits : AllFit tables functions (most_of f) (texts f.params.items) [] f.body.items
+  pub fits : AllFit tables functions (most_of f) outermost (texts f.params.items) f.body.items
   pub seen : IsVisible tables (names_after_list (texts f.params.items) f.body.items) f.result
 
 -- the code of a function was written and closed; the open block was to be its first
@@ -72,7 +73,7 @@ abbrev pub LowersFunc : Body → Scope → Func → Output → Output → Type 0
 LowersFunc on scope f old new =
     (code : Listing) (tables : List (List ℕ))
     → Sees scope [] tables
-    → AllFit tables (entries on.callees.items) on.most (texts f.params.items) [] f.body.items
+    → AllFit tables (entries on.callees.items) on.most outermost (texts f.params.items) f.body.items
     → IsVisible tables (names_after_list (texts f.params.items) f.body.items) f.result
     → Stands code new
     → Stands code old × IsFunction code (activation on tables) f (label old)
@@ -122,7 +123,7 @@ pub record IsMainAt (code : Listing) (act : Activation) (p : Program) (out : Out
   pub begins : Continues code out
       (Salloc act.size ∷ store levels_cell (value.Int (pos MAX_CALL_DEPTH)) ∷ makes) end
   pub made : Makes code act [] p.tables.items makes instrs
-  pub statements : Codes code act [] [] [] p.main.items instrs end [] Halt
+  pub statements : Codes code act outermost [] p.main.items instrs end [] Halt
 
 -- how many blocks main has, with those of the sizes of the tables
 abbrev pub added_by_main : Program → ℕ
@@ -136,7 +137,7 @@ added_by_program p = added_by_main p + added_by_funcs p.funcs.items
 abbrev pub LowersMain : Body → Program → Output → Output → Type 0
 LowersMain on p old new =
     (code : Listing)
-    → AllFit (map table_name p.tables.items) (entries on.callees.items) on.most [] []
+    → AllFit (map table_name p.tables.items) (entries on.callees.items) on.most outermost []
     p.main.items
     → Stands code new
     → IsMainAt code (activation on (map table_name p.tables.items)) p old
