@@ -6,7 +6,8 @@ use Rattle.std.proofs.lemmas.List.{length-append}
 use Rattle.loop_syntax.specs.declared.Reduce.{Reduce}
 use Rattle.tpal_syntax.specs.Listing.{Listing}
 use Rattle.block_lower.specs.Layout.{value_cell, bound_cell}
-use Rattle.block_lower.specs.Round.{Round, loop_round, par_round}
+use Rattle.block_lower.specs.Round.{Round, loop_round, unreduced, par_round}
+use Rattle.block_lower.proofs.Lists.{all_behind}
 use Rattle.block_lower.proofs.Loops.{inside, MayIn}
 use Rattle.block_lower.proofs.Scene.{Scene}
 use Rattle.block_lower.proofs.Ticks.{later_in}
@@ -68,5 +69,6 @@ module _ (code : Listing) (heartbeat z room : ℕ) where
       admits_par reduces = record {
         levels = admits.levels;
         lowest = deeper;
-        allows = λ y free. other_cell y free.0 (admits.allows y free.1);
+        allows = λ y free. other_cell y free.0
+            (admits.allows y (all_behind _ (unreduced names 0 reduces) round.fixed free.1));
       }

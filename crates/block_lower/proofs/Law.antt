@@ -80,7 +80,7 @@ module _ (code : Listing) (heartbeat z : ℕ) (act : Activation) (fs : List Func
         put_law code heartbeat z act (setting round) expr_law S names admits.lowest k t a b e table trap _ _ _ _ _ is c d f traps post
     law (put_kept_code {round} {names} {t = t} {a} {b} {e} {table} {trap} keeps is c d f traps) S admits k post =
         put_kept_law code heartbeat z act (setting round) expr_law S names admits.lowest k t a b e table trap _ _ _ _ _ keeps is c d f traps post
-    law (par_code {round} {names} l {check} {wide} {again} {exit} room_left c d tests traps begins inner_code ends) S admits k post =
+    law (par_code {round} {names} l {check} {wide} {again} {exit} shallow room_left c d tests traps begins inner_code ends) S admits k post =
         par_law code heartbeat z act (setting round) expr_law S names (names_after_list (names ++ l.var.text.items ∷ []) l.body.items) admits.lowest room_left (first_names_in names l.var.text.items l.body.items) k l check wide again exit _ _ _ _ _ _ c d tests traps begins ends post
         (λ j m f after_it. codes_law inner_code (inside code heartbeat z S (length names) admits.lowest m (Some j)) (admits_par code heartbeat z room admits l.var.text.items m (Some j) l.reduces.items) f after_it)
     law (fold_code {round} {names} {x = x} {e} {o} {v} {cell} is_op is c) S admits k post =

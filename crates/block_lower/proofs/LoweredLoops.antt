@@ -174,17 +174,17 @@ par_written on reduces scope l level check again exit old bounds start wide inne
     let behind : ℕ → List Instr = λ n. step_up 1 n (load 0 (bound_cell n) ∷ below_test 1 (value.Reg 0) again) in
     let q : Looped on l.reduces.items scope l.var l.body.items level again exit wide inner new behind long fresh_wide again_is lowers turn fresh exit_is code tables names (par_round round names l.reduces.items) l.body more last =
     looped on l.reduces.items scope l.var l.body.items level again exit wide inner new behind long fresh_wide again_is lowers turn fresh exit_is code tables names (par_round round names l.reduces.items) l.body more last refl refl sees
-    (fit_of_vec tables (entries on.callees.items) on.most (par_round round names l.reduces.items) (names ++ l.var.text.items ∷ []) l.body fits.3) c in
+    (fit_of_vec tables (entries on.callees.items) on.most (par_round round names l.reduces.items) (names ++ l.var.text.items ∷ []) l.body fits.4) c in
     let t : Stands code start × Opens code (label start) (wide_test (label start + 1) again) (to (label start + 1)) × AreAt code (label start + 1) (trap_block (label start + 1) Wide l.place ∷ []) = length_test code q.before in
     let some : List Instr = instr.Calc 2 1 Lt (value.Reg 0) ∷ instr.IfJump 2 check ∷ [] in
     let w : Leads code old (λ instrs end. (end ≡ to exit) × AreBounds code (activation on tables) names l.from l.to instrs some) =
-    starts code (activation on tables) names some (to exit) sees fits.1 fits.2 (test code t.0) in
+    starts code (activation on tables) names some (to exit) sees fits.2 fits.3 (test code t.0) in
     record {
       instrs = w.instrs;
       end = w.end;
       continues = w.continues;
       told = subst (λ (e : Term). Code code (activation on tables) round names (Par l) w.instrs e more last) (sym w.told.0)
-          (par_code l fits.0 w.told.1.from w.told.1.to
+          (par_code l fits.0 fits.1 w.told.1.from w.told.1.to
           (subst (λ (n : ℕ). Opens code n (wide_test (label start + 1) again) (to (label start + 1))) (sym check_is) t.1)
           t.2 q.begins q.codes q.ends);
     }

@@ -1,5 +1,5 @@
 -- The tables of a state, by name, wholly held by a task or read by an expression.
-use Rattle.std.proofs.Common.{◌≡◌, ℕ, zero, suc, Bool, true, false, List, [], ◌∷◌, ◌++◌, map, Vec, refl}
+use Rattle.std.proofs.Common.{◌≡◌, ℕ, zero, suc, Bool, true, false, List, [], ◌∷◌, map, Vec, refl}
 use Rattle.std.specs.Prelude.{ℤ, pos, negsuc, ⊤, int_div, int_rem}
 use Rattle.std.specs.List.{AllByRecursion}
 use Rattle.std.specs.declared.alloc.Global.{Global}
@@ -19,6 +19,7 @@ use Rattle.loop_meaning.specs.State.{Note, Reads, Writes, Emits, Chance, table_o
 use Rattle.expr_lower.specs.declared.scope.Scope.{Scope}
 use Rattle.expr_lower.specs.Scopes.{IsIn, HasTable}
 use Rattle.block_lower.specs.Owing.{IsWholeOf}
+use Rattle.block_lower.proofs.Lists.{all_both}
 
 -- each table is wholly held, under its number
 abbrev pub AreWhole : List Holding → List Table → Type 0
@@ -35,12 +36,8 @@ listed_names us = map (λ (u : Vec ℕ Global). u.items) us
 -- ---- what expressions read
 
 module _ (P : Note → Type 0) where
-  all_both : (ns ms : List Note) → AllByRecursion P ns → AllByRecursion P ms → AllByRecursion P (ns ++ ms)
-  all_both [] ms first second = second
-  all_both (n ∷ ns) ms first second = (first.0, all_both ns ms first.1 second)
-
   all_bind : (a : Answer) (ns : List Note) (f : ℤ → Value) → AllByRecursion P ns → ((n : ℤ) → AllByRecursion P (f n).notes) → AllByRecursion P (bind_answer a ns f).notes
-  all_bind (Number n) ns f first others = all_both ns (f n).notes first (others n)
+  all_bind (Number n) ns f first others = all_both P ns (f n).notes first (others n)
   all_bind (Traps kind place) ns f first others = first
 
   all_divided : (f : ℤ → ℤ → ℤ) (p : Place) (a b : ℤ) → AllByRecursion P (divided f p a b).notes

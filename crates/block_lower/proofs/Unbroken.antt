@@ -1,5 +1,5 @@
 -- What the code of a program asks of it holds where it breaks no rule.
-use Rattle.std.proofs.Common.{◌≡◌, ℕ, zero, suc, ◌+◌, ◌≤◌, Bool, true, false, cond, List, [], ◌∷◌, ◌++◌, length, drop, bytes_eq, Some, subst, arith, Contains}
+use Rattle.std.proofs.Common.{◌≡◌, ℕ, zero, suc, ◌+◌, ◌≤◌, Bool, true, false, cond, List, [], ◌∷◌, ◌++◌, length, drop, bytes_eq, Some, refl, subst, arith, Contains}
 use Rattle.std.specs.Prelude.{nat_eq}
 use Rattle.std.specs.List.{AllByRecursion}
 use Rattle.std.proofs.lemmas.Bool.Decides.{nat_tests}
@@ -11,10 +11,11 @@ use Rattle.loop_syntax.specs.declared.Program.{Program}
 use Rattle.loop_syntax.specs.declared.TableDecl.{TableDecl}
 use Rattle.loop_syntax.specs.declared.TableDecl.TheVariants.{Input, Made}
 use Rattle.loop_rules.specs.declared.part.Part.TheVariants.{OfSize, OfFunc}
-use Rattle.loop_rules.specs.Broken.{C1', C10', C11'}
+use Rattle.loop_rules.specs.Broken.{C1', C2', C3', C10', C11'}
 use Rattle.loop_rules.specs.Declarations.{declared_list, table_of_decl}
 use Rattle.loop_rules.specs.Limits.{first_name, past, c11}
 use Rattle.loop_rules.specs.Names.{texts, func_of}
+use Rattle.loop_rules.specs.Reductions.{c2, c3}
 use Rattle.loop_rules.specs.Scopes.{at, c1, c10}
 use Rattle.loop_rules.specs.Sites.{Spot, Site, in_whole, in_list, in_params, in_decl, in_decls, in_func, in_funcs, in_main, sites, tables_of, top, func_spot, main_spot, spot_of_list}
 use Rattle.loop_check.specs.Unbroken.{NoneBroken}
@@ -105,7 +106,7 @@ func_fits p f short few k =
     let within : length (f.params.items ++ declared_list f.body.items) ≤ MAX_DECLARED_VARIABLES = short_enough MAX_DECLARED_VARIABLES (f.params.items ++ declared_list f.body.items) k.0.limits in
     let named : length (texts f.params.items) ≡ length f.params.items = length-map f.params.items (λ (x : Name). x.text.items) in
     record {
-      fits = λ functions entries. fits_list functions (length f.params.items + length (declared_list f.body.items)) w outermost f.body.items entries tt (omega arith) body;
+      fits = λ functions entries. fits_list functions (length f.params.items + length (declared_list f.body.items)) w outermost f.body.items entries (record { deep = refl; kept = tt }) (omega arith) body;
       seen = whole_visible (with_names w (names_after_list (texts f.params.items) f.body.items)) f.result last;
       low = (low_list w f.body.items short body, whole_low (with_names w (names_after_list (texts f.params.items) f.body.items)) f.result last);
       few_parameters = few;
@@ -124,6 +125,8 @@ module _ (p : Program) (none : NoneBroken p) where
   keeps_at : (s : Site) → Contains (sites p) s → Keeps s
   keeps_at s h = record {
     names = none_of (c1 s.act s.spot) (λ q k. none.unbroken C1' q (record { where_at = s; stands = h; breaks = k }));
+    sets = none_of (c2 s.act s.spot) (λ q k. none.unbroken C2' q (record { where_at = s; stands = h; breaks = k }));
+    reductions = none_of (c3 s.act s.spot) (λ q k. none.unbroken C3' q (record { where_at = s; stands = h; breaks = k }));
     loops = none_of (c10 s.act s.spot) (λ q k. none.unbroken C10' q (record { where_at = s; stands = h; breaks = k }));
     limits = none_of (c11 s.act s.spot) (λ q k. none.unbroken C11' q (record { where_at = s; stands = h; breaks = k }));
   }
@@ -145,7 +148,7 @@ module _ (p : Program) (none : NoneBroken p) where
 
   main_fits : MainFits p
   main_fits = record {
-    fits = λ functions entries. fits_list functions (length (declared_list p.main.items)) (main_spot p) outermost p.main.items entries tt (omega arith) main_keeps.1;
+    fits = λ functions entries. fits_list functions (length (declared_list p.main.items)) (main_spot p) outermost p.main.items entries (record { deep = refl; kept = tt }) (omega arith) main_keeps.1;
     low = low_list (main_spot p) p.main.items are_short main_keeps.1;
     few = short_enough MAX_DECLARED_VARIABLES (declared_list p.main.items) main_keeps.0.limits;
   }

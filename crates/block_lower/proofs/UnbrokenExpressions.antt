@@ -12,6 +12,7 @@ use Rattle.loop_syntax.specs.declared.Expr.TheVariants.{Int, Var, Cell', Rows, C
 use Rattle.loop_syntax.specs.declared.Func.{Func}
 use Rattle.loop_rules.specs.Limits.{height, first_place, c11}
 use Rattle.loop_rules.specs.Names.{is_in, texts, func_of}
+use Rattle.loop_rules.specs.Reductions.{c2, c3}
 use Rattle.loop_rules.specs.Scopes.{misfits, c1, c10}
 use Rattle.loop_rules.specs.Sites.{NamesTable, Calls, Spot, Site, site, in_expr, in_whole, in_args, in_app}
 use Rattle.loop_check.proofs.Bools.{not_false}
@@ -20,9 +21,12 @@ use Rattle.loop_check.proofs.Lists.{Each, each_left, each_right}
 use Rattle.block_lower.specs.Fitting.{IsVisible, AreVisible}
 use Rattle.block_lower.specs.Heights.{IsLow, AreLowArguments}
 
--- what is done at a place keeps the rules on names, limits and variables of loops
+-- what is done at a place keeps the rules on names, on variables round a `par`, on variables of loops
+-- and on limits
 pub record Keeps (s : Site) : Type 0 where
   pub names : c1 s.act s.spot ≡ []
+  pub sets : c2 s.act s.spot ≡ []
+  pub reductions : c3 s.act s.spot ≡ []
   pub loops : c10 s.act s.spot ≡ []
   pub limits : c11 s.act s.spot ≡ []
 
@@ -45,7 +49,7 @@ visible w (Bin' o place p a q b) k = (visible w a (each_left Keeps (in_expr w a)
 pub whole_visible : (w : Spot) (e : Expr) → Each Keeps (in_whole w e) → IsVisible (texts w.tables) w.scope e
 whole_visible w e k = visible w e k.1
 
-chosen_none : (b : Bool) (p : Place) → cond b (p ∷ []) [] ≡ [] → b ≡ false
+pub chosen_none : (b : Bool) (p : Place) → cond b (p ∷ []) [] ≡ [] → b ≡ false
 chosen_none true p h = absurd (cc)
 chosen_none false p h = refl
 

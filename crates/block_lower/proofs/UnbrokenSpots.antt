@@ -1,15 +1,13 @@
--- Where statements stand in a program: what is visible behind a statement, and the levels of the variables of
--- the loops round it.
-use Rattle.std.proofs.Common.{◌≡◌, ◌≢◌, ℕ, zero, suc, ◌+◌, ◌<◌, ◌≤◌, Bool, true, false, cond, List, [], ◌∷◌, ◌++◌, length, bytes_eq, refl, sym, ap, subst, ◌∙◌, arith}
-use Rattle.std.specs.Prelude.{◌||◌, IsTrue, slice_index_or}
-use Rattle.std.specs.List.{AllByRecursion}
+-- Where statements stand in a program: what is visible behind a statement, and at which levels.
+use Rattle.std.proofs.Common.{◌≡◌, ℕ, zero, suc, ◌+◌, ◌<◌, ◌≤◌, Bool, true, false, cond, List, [], ◌∷◌, ◌++◌, length, bytes_eq, refl, ap, subst, ◌∙◌, arith}
+use Rattle.std.specs.Prelude.{◌||◌, slice_index_or}
 use Rattle.std.proofs.lemmas.List.{length-append}
 use Rattle.loop_syntax.specs.declared.Stmt.{Stmt, Row_of-Stmt}
 use Rattle.loop_syntax.specs.declared.Stmt.TheVariants.{Let}
 use Rattle.loop_rules.specs.Declarations.{declared_in}
 use Rattle.loop_rules.specs.Names.{is_in}
 use Rattle.loop_rules.specs.Sites.{Spot, in_stmt, in_all, in_list, spot_after, spot_of_list}
-use Rattle.loop_check.proofs.Found.{eq_is, is_in_end, is_in_more}
+use Rattle.loop_check.proofs.Found.{eq_is}
 use Rattle.loop_check.proofs.Lists.{Each, each_right}
 use Rattle.block_lower.specs.Fitting.{level_of}
 use Rattle.block_lower.specs.Names.{names_after, names_after_list}
@@ -40,42 +38,16 @@ pub long_after : (names : List (List ℕ)) (s : Stmt) → length (names_after na
 long_after names (Let x e) = omega (arith, length-append names (x.text.items ∷ []))
 long_after names _ = omega arith
 
--- ---- the levels of the variables of loops
+-- ---- levels
 
--- the variable at each of these levels is that of a loop
-abbrev pub AreLooped : List (List ℕ) → List (List ℕ) → List ℕ → Type 0
-AreLooped names loops fixed = AllByRecursion (λ j. (j < length names) × IsTrue (is_in loops (slice_index_or names j []))) fixed
-
-get_before : (names : List (List ℕ)) (x : List ℕ) (j : ℕ) → j < length names → slice_index_or (names ++ x ∷ []) j [] ≡ slice_index_or names j []
+pub get_before : (names : List (List ℕ)) (x : List ℕ) (j : ℕ) → j < length names → slice_index_or (names ++ x ∷ []) j [] ≡ slice_index_or names j []
 get_before [] x j h = absurd (omega arith)
 get_before (y ∷ ys) x zero h = refl
 get_before (y ∷ ys) x (suc j) h = get_before ys x j (omega arith)
 
-get_last : (names : List (List ℕ)) (x : List ℕ) → slice_index_or (names ++ x ∷ []) (length names) [] ≡ x
+pub get_last : (names : List (List ℕ)) (x : List ℕ) → slice_index_or (names ++ x ∷ []) (length names) [] ≡ x
 get_last [] x = refl
 get_last (y ∷ ys) x = get_last ys x
-
-looped_declared : (names loops : List (List ℕ)) (x : List ℕ) (fixed : List ℕ) → AreLooped names loops fixed → AreLooped (names ++ x ∷ []) loops fixed
-looped_declared names loops x [] h = tt
-looped_declared names loops x (j ∷ js) h = (
-  (omega (arith, length-append names (x ∷ []), h.0.0), subst (λ (y : List ℕ). is_in loops y ≡ true) (sym (get_before names x j h.0.0)) h.0.1),
-  looped_declared names loops x js h.1,
-)
-
-looped_more : (names loops : List (List ℕ)) (x : List ℕ) (fixed : List ℕ) → AreLooped names loops fixed → AreLooped names (loops ++ x ∷ []) fixed
-looped_more names loops x [] h = tt
-looped_more names loops x (j ∷ js) h = ((h.0.0, is_in_more loops x (slice_index_or names j []) h.0.1), looped_more names loops x js h.1)
-
--- in the body of a loop over x
-pub looped_inside : (names loops : List (List ℕ)) (x : List ℕ) (fixed : List ℕ) → AreLooped names loops fixed → AreLooped (names ++ x ∷ []) (loops ++ x ∷ []) (length names ∷ fixed)
-looped_inside names loops x fixed h = (
-  (omega (arith, length-append names (x ∷ [])), subst (λ (y : List ℕ). is_in (loops ++ x ∷ []) y ≡ true) (sym (get_last names x)) (is_in_end loops x)),
-  looped_declared names (loops ++ x ∷ []) x fixed (looped_more names loops x fixed h),
-)
-
-pub looped_after : (names loops : List (List ℕ)) (s : Stmt) (fixed : List ℕ) → AreLooped names loops fixed → AreLooped (names_after names s) loops fixed
-looped_after names loops (Let x e) fixed h = looped_declared names loops x.text.items fixed h
-looped_after names loops _ fixed h = h
 
 -- a visible name stands at its level
 pub at_level : (names : List (List ℕ)) (x : List ℕ) → is_in names x ≡ true → (level_of names x < length names) × (slice_index_or names (level_of names x) [] ≡ x)
@@ -86,13 +58,3 @@ at_level (n ∷ ns) x h = go (bytes_eq n x) refl h (at_level ns x)
         → (cond b 0 (suc (level_of ns x)) < length (n ∷ ns)) × (slice_index_or (n ∷ ns) (cond b 0 (suc (level_of ns x))) [] ≡ x)
     go true e h k = (omega arith, eq_is n x e)
     go false e h k = (let below : level_of ns x < length ns = (k h).0 in omega arith, (k h).1)
-
-pub not_fixed : (names loops : List (List ℕ)) (x : List ℕ) (fixed : List ℕ) → is_in names x ≡ true → is_in loops x ≡ false → AreLooped names loops fixed → AllByRecursion (λ j. j ≢ level_of names x) fixed
-not_fixed names loops x [] seen none h = tt
-not_fixed names loops x (j ∷ js) seen none h = (
-  λ (e : j ≡ level_of names x).
-      let is : slice_index_or names j [] ≡ x = ap (λ (k : ℕ). slice_index_or names k []) e ∙ (at_level names x seen).1 in
-      let looped : is_in loops x ≡ true = subst (λ (y : List ℕ). is_in loops y ≡ true) is h.0.1 in
-      cc,
-  not_fixed names loops x js seen none h.1,
-)

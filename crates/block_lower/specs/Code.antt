@@ -16,7 +16,8 @@ use Rattle.loop_rules.specs.Limits.{height}
 use Rattle.loop_rules.specs.Names.{operator_of}
 use Rattle.loop_meaning.specs.InRange.{InRange, ExprInRange}
 use Rattle.tp_value.specs.declared.limits.TheConstants.{MAX_EXPRESSION_HEIGHT}
-use Rattle.tp_value.specs.declared.limits.TheConstants.{MAX_PAR_LENGTH, MAX_PARAMETERS}
+use Rattle.tp_value.specs.declared.limits.TheConstants.{MAX_PAR_LENGTH, MAX_PAR_NESTING}
+use Rattle.tp_value.specs.declared.limits.TheConstants.{MAX_PARAMETERS}
 use Rattle.tp_value.specs.declared.Op.{Op}
 use Rattle.tp_value.specs.declared.Op.TheVariants as op
 use Rattle.tp_value.specs.declared.Place.{Place}
@@ -269,6 +270,7 @@ module _ (code : Listing) (act : Activation) where
           → Code round names (Loop x a b body) instrs (to exit) more end
       par_code : {round : Round} {names : List (List ℕ)} (l : ParLoop)
           {check wide again exit : ℕ} {instrs second inner more : List Instr} {last end : Term}
+          → round.depth < MAX_PAR_NESTING
           → length names < act.most
           → Computes names l.from 0 instrs
           (store (value_cell (length names)) (value.Reg 0) ∷ second)

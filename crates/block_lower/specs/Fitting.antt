@@ -5,6 +5,7 @@ use Rattle.std.specs.Prelude.{◌≡◌, ◌≢◌, ℕ, suc, ◌+◌, ◌<◌, 
 use Rattle.std.specs.Prelude.{length, bytes_eq, Some}
 use Rattle.std.specs.List.{AllByRecursion, IsDistinct}
 use Rattle.tp_value.specs.declared.limits.TheConstants.{MAX_TABLES, MAX_PARAMETERS}
+use Rattle.tp_value.specs.declared.limits.TheConstants.{MAX_PAR_NESTING}
 use Rattle.tp_value.specs.declared.limits.TheConstants.{MAX_DECLARED_VARIABLES}
 use Rattle.loop_syntax.specs.declared.App.{App}
 use Rattle.loop_syntax.specs.declared.Expr.{Expr}
@@ -78,7 +79,8 @@ module _ (tables : List (List ℕ)) (functions : List Entry) (most : ℕ) where
         × IsVisible tables names b
         × FitInRow (loop_round round (length names)) (names ++ x.text.items ∷ []) body
     Fits round names (Par' place x a b carry_place carries reduces p body) =
-        (length names < most)
+        (round.depth < MAX_PAR_NESTING)
+        × (length names < most)
         × IsVisible tables names a
         × IsVisible tables names b
         × FitInRow (par_round round names reduces.items) (names ++ x.text.items ∷ []) body

@@ -1,6 +1,8 @@
 -- What stands round a statement in its function or in main, as far as its code depends on it.
-use Rattle.std.specs.Prelude.{ℕ, suc, List, [], ◌∷◌, length}
+use Rattle.std.specs.Prelude.{ℕ, suc, cond, List, [], ◌∷◌, ◌++◌, length}
 use Rattle.loop_syntax.specs.declared.Reduce.{Reduce}
+use Rattle.loop_rules.specs.Names.{operator_of}
+use Rattle.loop_rules.specs.Reductions.{some_op}
 
 pub record Round : Type 0 where
   -- what the nearest `par` reduces
@@ -18,7 +20,18 @@ outermost = record { reduces = []; fixed = []; depth = 0 }
 abbrev pub loop_round : Round → ℕ → Round
 loop_round round level = record round { fixed = level ∷ round.fixed }
 
--- round the body of a `par` where these variables are visible, which reduces these
+-- the levels of those of these variables that aren't reduced, where the first one stands at a level
+abbrev pub unreduced : List (List ℕ) → ℕ → List Reduce → List ℕ
+unreduced [] level reduces = []
+unreduced (x ∷ xs) level reduces =
+    cond (some_op (operator_of reduces x)) [] (level ∷ []) ++ unreduced xs (suc level) reduces
+
+-- Round the body of a `par` where these variables are visible, which reduces these: besides its own
+-- variable all the others are fixed.
 abbrev pub par_round : Round → List (List ℕ) → List Reduce → Round
 par_round round names reduces =
-    record { reduces = reduces; fixed = length names ∷ round.fixed; depth = suc round.depth }
+    record {
+      reduces = reduces;
+      fixed = length names ∷ unreduced names 0 reduces ++ round.fixed;
+      depth = suc round.depth;
+    }
