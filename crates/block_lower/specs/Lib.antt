@@ -14,6 +14,8 @@ pub mod Code
 pub mod Main
 -- how many blocks a statement adds, and how many variables it declares
 pub mod Sizes
+-- where no task is cut
+pub mod Quiet
 -- which expressions are low enough for the registers
 pub mod Heights
 -- how far a code that is being written has come, and what of it stands in a whole code

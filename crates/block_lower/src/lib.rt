@@ -16,6 +16,7 @@ mod make;
 mod output;
 mod piece;
 mod program;
+mod quiet;
 mod scope;
 mod sizes;
 mod statement;
