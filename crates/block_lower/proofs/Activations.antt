@@ -1,6 +1,7 @@
 -- Stacks with an activation more on top, and without it again.
 use Rattle.std.proofs.Common.{◌≡◌, ℕ, zero, suc, ◌+◌, ◌-◌, ◌<◌, ◌≤◌, Bool, true, false, List, [], ◌∷◌, ◌++◌, length, take, Option, None, Some, refl, ap, ◌∙◌, arith}
 use Rattle.std.specs.Prelude.{pos, nat_le, slice_get, replicate}
+use Rattle.std.specs.List.{AllByRecursion}
 use Rattle.std.proofs.lemmas.Bool.Decides.{nat_tests}
 use Rattle.std.proofs.lemmas.List.{length-append, length-replicate, length-take-le, take_at}
 use Rattle.tpal_syntax.specs.declared.words.Word.{Word}
@@ -73,3 +74,11 @@ clear_above (m ∷ ms) a b le clear = go (λ others. clear_above ms a b le other
         let others : is_marked_from ms a ≡ false = rw e at clear in
         let lower : nat_le b m.at ≡ false = grind (arith, nat_tests) in
         rw lower (rest others)
+
+-- a mark stands at a cell or above
+abbrev pub StandsFrom : ℕ → Mark → Type 0
+StandsFrom a m = a ≤ m.at
+
+pub marks_from : (marks : List Mark) (a b : ℕ) → a ≤ b → AllByRecursion (StandsFrom b) marks → AllByRecursion (StandsFrom a) marks
+marks_from [] a b le from = tt
+marks_from (m ∷ ms) a b le from = (omega (arith, le, from.0), marks_from ms a b le from.1)

@@ -104,7 +104,7 @@ module _ (code : Listing) (heartbeat z : ℕ) (act : Activation) (fuel : ℕ) (f
       assigns (S.owing w.world (k (set_var x v (back_with w.state.vars u)))) w.world (back_with w.state.vars u) back fixed x cell 0 v more end shows_back c may is fits here
       (λ after registers shows_after here_after. post w.world (set_var x v (back_with w.state.vars u)) after shows_after here_after))
       room levels calls place
-      (record { world = i; state = st; value = tt; named = shows.named; few = shows.few })
+      (record { world = i; state = st; value = tt; named = shows.named; few = shows.few; tall = shows.tall })
       (record { task = task; numbers = ns; shows = shows_task; many = many ∙ arity; stored = stored.are; also = tt }) left))
 
   -- ---- two calls
@@ -182,7 +182,7 @@ module _ (code : Listing) (heartbeat z : ℕ) (act : Activation) (fuel : ℕ) (f
         (λ last_task shows_last stored left.
         calls_law code heartbeat z act fuel S names second First (first_kept room_kept) (λ a u t. done (set_var y u (set_var x a.value t))) k lowest fs g.callee is_second [] (λ w r u holds. holds) test_second _ half end second_call sets_both
         room levels calls place
-        (record { world = i; state = st; value = record { value = v; fits = fits }; named = shows.named; few = shows.few })
+        (record { world = i; state = st; value = record { value = v; fits = fits }; named = shows.named; few = shows.few; tall = shows.tall })
         (record {
           task = last_task;
           numbers = ms;
@@ -235,7 +235,7 @@ module _ (code : Listing) (heartbeat z : ℕ) (act : Activation) (fuel : ℕ) (f
         calls_law code heartbeat z act fuel S names first (Second (length g.args.items)) (second_kept (length g.args.items) eight room_kept) (λ a v t. follows v a.numbers t) k lowest fs f.callee is_first (Chance ∷ []) S.passes test_first _ last half first_call
         (λ w v u task fits shows_task also is here. makes_second w.world (back_with w.state.vars u) task v w.value.numbers w.value.as_many fits shows_task also is here)
         room levels calls place
-        (record { world = i; state = st; value = record { numbers = ms; as_many = as_many }; named = shows.named; few = shows.few })
+        (record { world = i; state = st; value = record { numbers = ms; as_many = as_many }; named = shows.named; few = shows.few; tall = shows.tall })
         (record {
           task = three;
           numbers = ns;

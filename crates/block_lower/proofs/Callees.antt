@@ -26,7 +26,7 @@ use Rattle.block_lower.proofs.Arguments.{wider}
 use Rattle.block_lower.proofs.Called.{with_value, value_then, body_set}
 use Rattle.block_lower.proofs.Choices.{OwedAt}
 use Rattle.block_lower.proofs.Results.{fin, result, then}
-use Rattle.block_lower.proofs.Scene.{Scene, Shows, ShowsIn}
+use Rattle.block_lower.proofs.Scene.{Scene, Shows, ShowsIn, header}
 use Rattle.block_lower.proofs.Variables.{AreHeld}
 use Rattle.loop_meaning.specs.declared.value.Variable.{Variable}
 
@@ -47,6 +47,7 @@ module _ (code : Listing) (heartbeat z : ℕ) where
     base = h.base;
     limit = h.limit;
     limited = h.limited;
+    tall = omega (arith, h.tall);
     ticks = h.ticks;
     within = h.within;
     begun = h.begun;
@@ -59,6 +60,7 @@ module _ (code : Listing) (heartbeat z : ℕ) where
     few = h.few;
     tabled = h.tabled;
     held = h.held;
+    can = h.can;
     ranged = h.ranged;
     levels = word_pushed stack n (z + 2) (word.Int (pos S.levels)) h.levels;
     unmarked = clear_above stack.marks (z + act.size) (z + (act.size + n)) (omega arith) h.unmarked;
@@ -98,7 +100,7 @@ module _ (code : Listing) (heartbeat fuel : ℕ) (tables : List (List ℕ)) (ent
   -- a function owes what its body and its result give, in every scene with so many levels of calls left, where it returns
   abbrev pub FunctionOwes : (x : List ℕ) (entry : Entry) → FunctionAt code tables entries fs x entry → ℕ → Type 1
   FunctionOwes x entry f room =
-      (z : ℕ) → HasPlace z (activation_of x entry f) room → (C : Scene code heartbeat z) → C.levels ≡ room → C.lowest ≡ 0 → ((y : ℕ) → C.may (value_cell y)) → Returns code heartbeat fuel z (activation_of x entry f) C
+      (z : ℕ) → HasPlace z (activation_of x entry f) room → (C : Scene code heartbeat z) → C.levels ≡ room → C.lowest ≡ 0 → ((c : ℕ) → header ≤ c → C.may c) → Returns code heartbeat fuel z (activation_of x entry f) C
       → OwedAt code heartbeat z (activation_of x entry f) fuel C (texts f.func.params.items) entry.label (λ st. then (result (run_list (body_set fs fuel room) f.func.body.items st)) (value_then f.func.result))
 
   -- each function owes so, where calls have so many levels left

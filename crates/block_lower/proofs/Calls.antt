@@ -2,6 +2,7 @@
 use Rattle.std.proofs.Common.{◌≡◌, ◌≢◌, ℕ, zero, suc, ◌+◌, ◌-◌, ◌<◌, ◌≤◌, ◌^◌, false, List, [], ◌∷◌, length, Option, Some, Ok, refl, sym, ap, subst, ◌∙◌, arith, ◌⊎◌, inl, inr}
 use Rattle.std.specs.Prelude.{ℤ, pos, ◌-ℤ◌, ◌+ℤ◌, ⊤, slice_set}
 use Rattle.std.specs.Int.{w64}
+use Rattle.std.specs.List.{AllByRecursion}
 use Rattle.std.proofs.lemmas.Bool.{cases_lt}
 use Rattle.std.proofs.lemmas.Int.{ints, int_wrap_fits}
 use Rattle.std.proofs.lemmas.List.{length-map, length-set}
@@ -23,7 +24,7 @@ use Rattle.loop_rules.specs.Names.{texts}
 use Rattle.loop_meaning.specs.Calls.{enter, call_at}
 use Rattle.loop_meaning.specs.InRange.{InRange}
 use Rattle.loop_meaning.specs.State as meaning
-use Rattle.loop_meaning.specs.State.{Note, Chance, Ran, after, tick, trapped}
+use Rattle.loop_meaning.specs.State.{Note, Ran, Writes, after, tick, trapped}
 use Rattle.loop_meaning.specs.Statements.{run_list, with_call}
 use Rattle.tpal_syntax.specs.declared.instructions.Alu.TheVariants as alu
 use Rattle.tpal_syntax.specs.declared.instructions.Instr.{Instr}
@@ -48,15 +49,17 @@ use Rattle.expr_lower.proofs.Standing.{next, behind, regrouped}
 use Rattle.block_lower.specs.Code.{Opens, Calls, call_test, call_entry, call_exit, parameter_cell, store, to}
 use Rattle.block_lower.specs.Layout.{return_cell, levels_cell, value_cell, Entry, entry_of, Activation}
 use Rattle.block_lower.specs.Main.{HasRoom, FunctionAt}
-use Rattle.block_lower.proofs.Activations.{word_popped, popped_length, clear_above}
+use Rattle.block_lower.proofs.Activations.{word_popped, popped_length, clear_above, marks_from}
 use Rattle.block_lower.proofs.Arguments.{AreIn, are_in_same, held_bound, names_bound, wider}
 use Rattle.block_lower.proofs.Called.{with_value, value_then, back_with, going_back, body_set, entered_with, enter_is, deep_call, open_call}
 use Rattle.block_lower.proofs.Callees.{Returns, HasPlace, CallsOwe}
 use Rattle.block_lower.proofs.Choices.{above_zero}
 use Rattle.block_lower.proofs.Moves.{opened, calm, jumps, traps}
 use Rattle.block_lower.proofs.Loops.{Passes}
-use Rattle.block_lower.proofs.Results.{Result, fin, noting, noting_then, out, result, then}
-use Rattle.block_lower.proofs.Scene.{Scene, Near, Shows, ShowsIn, runs_kept}
+use Rattle.block_lower.proofs.Promises.{following}
+use Rattle.block_lower.proofs.Regions.{Covers, all_front}
+use Rattle.block_lower.proofs.Results.{Result, fin, noting_then, notes_behind, notes_then, out, result, then}
+use Rattle.block_lower.proofs.Scene.{Scene, Near, Shows, ShowsIn, header, runs_kept}
 use Rattle.block_lower.proofs.Showing.{as_many, shows_words, shows_ticked}
 use Rattle.block_lower.proofs.Simple.{stores_in}
 use Rattle.block_lower.proofs.Ticks.{ticks}
@@ -142,6 +145,7 @@ module _ (code : Listing) (heartbeat z : ℕ) (act : Activation) (fuel : ℕ) (S
     pub value : A
     pub named : var_names state.vars ≡ names
     pub few : length names ≤ act.most
+    pub tall : S.size ≤ act.size
 
   -- how an activation keeps a value, in cells behind those of the variables
   pub record Keeping (A : Type 0) : Type 1 where
@@ -173,7 +177,7 @@ module _ (code : Listing) (heartbeat z : ℕ) (act : Activation) (fuel : ℕ) (S
     pub label : word_at s (pos (z + act.size + return_cell)) ≡ Some (word.Label back)
     pub also : kept.Holds w.value s
 
-  pub kept_same : (w : Behind) (s t : StackValue) → t.base ≡ s.base → ((a : ℕ) → a < z + act.size + value_cell 0 → word_at t (pos a) ≡ word_at s (pos a)) → Kept w s → Kept w t
+  pub kept_same : (w : Behind) (s t : StackValue) → t.base ≡ s.base → ((a : ℕ) → a < z + act.size + header → word_at t (pos a) ≡ word_at s (pos a)) → Kept w s → Kept w t
   kept_same w s t base at h = record {
     keeps = S.stable w.world (length names) s t lowest (record { base = base; at = λ a lt others. at a (omega (arith, lt, w.few, has_room.room)) }) h.keeps;
     low = omega (arith, base, h.low);
@@ -199,7 +203,7 @@ module _ (code : Listing) (heartbeat z : ℕ) (act : Activation) (fuel : ℕ) (S
       near_cell x (inr above) = near.above (z + value_cell x) (omega (arith, above))
 
   -- such a cut changes nothing of the function's activation
-  pub near_up : (w : Behind) (s t : StackValue) → Near z S.may S.lowest s t → Near (z + act.size) (λ c. value_cell 0 ≤ c) 0 s t
+  pub near_up : (w : Behind) (s t : StackValue) → Near z S.may S.lowest s t → Near (z + act.size) (λ c. header ≤ c) 0 s t
   near_up w s t near = record {
     low = omega (arith, near.low);
     top = near.top;
@@ -217,9 +221,6 @@ module _ (code : Listing) (heartbeat z : ℕ) (act : Activation) (fuel : ℕ) (S
   abbrev pub follows : Behind → meaning.State → Result
   follows w = going_back w.state.vars (next_in w.value) k
 
-  pub noted_first : (w : Behind) (ns : List Note) (r : Result) (state : machine.State) → (S.owing w.world (noting ns (then r (follows w)))).Holds state → (S.owing w.world (then (noting ns r) (follows w))).Holds state
-  noted_first w ns r state holds = subst (λ (q : Result). (S.owing w.world q).Holds state) (sym (noting_then ns r (follows w))) holds
-
   -- behind the function its caller goes on with the value, at a label
   abbrev pub callee : Scene code heartbeat (z + act.size)
   callee = record {
@@ -227,26 +228,33 @@ module _ (code : Listing) (heartbeat z : ℕ) (act : Activation) (fuel : ℕ) (S
     levels = room;
     fuel = S.fuel;
     dispatch = S.dispatch;
-    owing = λ w r. S.owing w.world (then r (follows w));
-    diverted = λ w r. S.diverted w.world (then r (follows w));
-    marks = λ w. S.marks w.world;
-    goal = λ w. S.goal w.world;
-    before = λ w. S.before w.world;
-    since = λ w. S.since w.world;
-    region = λ w. S.region w.world;
-    kept = Kept;
+    size = 0;
+    promise = following code heartbeat S.promise (λ w. w.world) follows;
+    around = record {
+      marks = λ w. S.marks w.world;
+      goal = λ w. S.goal w.world;
+      before = λ w. S.before w.world;
+      since = λ w. S.since w.world;
+      region = λ w. S.region w.world;
+      kept = Kept;
+      can = λ w. S.can w.world;
+    };
     lowest = 0;
-    may = λ c. value_cell 0 ≤ c;
+    may = λ c. header ≤ c;
     cut = λ w n printed. record w { world = S.cut w.world n printed };
     stable = λ w level s t low same h. kept_same w s t same.base (λ a lt. same.at a (omega (arith, lt)) (λ c m q. absurd (omega (arith, lt, q, m)))) h;
     below = λ w. clear w (z + act.size + value_cell 0) (omega arith);
     stops = λ w. S.stops w.world;
-    touches = λ w ns r state quiet go. noted_first w ns r state (S.touches w.world ns (then r (follows w)) state quiet go);
-    points = λ w ns r state after one at calm_step loud_step holds. noted_first w ns r state (S.points w.world ns (then r (follows w)) state after one at calm_step loud_step holds);
-    passes = λ w r state holds. noted_first w (Chance ∷ []) r state (S.passes w.world (then r (follows w)) state holds);
-    handles = λ w more r st state marked diverted runs goes_back cut. S.handles w.world more (then r (follows w)) st state marked diverted (runs_kept runs (S.kept w.world) runs.keeps.keeps) goes_back
+    stopped = λ w. S.stopped w.world;
+    covers = λ w r given. all_front (Covers (S.region w.world)) r.notes (notes_behind r (follows w)) (subst (AllByRecursion (Covers (S.region w.world))) (notes_then r (follows w)) (S.covers w.world (then r (follows w)) given));
+    allows = λ w t a b n ts r given. S.allows w.world t a b n ts (then r (follows w)) (subst (S.given w.world) (noting_then (Writes t a b ∷ []) r (follows w)) given);
+    is_open = S.is_open;
+    handles = λ opened w more r st state marked from diverted runs goes_back cut.
+        S.handles opened w.world more (then r (follows w)) st state marked (marks_from more (z + value_cell S.lowest) (z + act.size + value_cell 0) (omega (arith, lowest, w.few, has_room.room)) from) diverted
+        (runs_kept runs z S.size (S.kept w.world) runs.keeps.low (omega (arith, runs.tall, w.tall)) runs.keeps.keeps) goes_back
         (λ n u gone near runs_u. cut n u gone (near_up w state.stack u.stack near)
-        (runs_kept runs_u (Kept (record w { world = S.cut w.world n st.output })) (kept_near w (S.cut w.world n st.output) state.stack u.stack near runs_u.keeps runs.keeps)));
+        (runs_kept runs_u (z + act.size) 0 (Kept (record w { world = S.cut w.world n st.output })) (omega (arith, runs_u.low)) (omega (arith, runs.tall, near.top))
+        (kept_near w (S.cut w.world n st.output) state.stack u.stack near runs_u.keeps runs.keeps)));
   }
 
   -- the activation of the function, with room for so many variables
@@ -311,6 +319,7 @@ module _ (code : Listing) (heartbeat z : ℕ) (act : Activation) (fuel : ℕ) (S
       base = base;
       limit = h.limit;
       limited = h.limited;
+      tall = omega arith;
       ticks = h.ticks;
       within = h.within;
       begun = h.begun;
@@ -323,6 +332,7 @@ module _ (code : Listing) (heartbeat z : ℕ) (act : Activation) (fuel : ℕ) (S
       few = few;
       tabled = h.tabled;
       held = h.held;
+      can = h.can;
       ranged = h.ranged;
       levels = levels_there (omega (arith, room_in.room));
       unmarked = subst (λ (a : ℕ). is_marked_from c.task.stack.marks a ≡ false) (omega arith) h.unmarked;
@@ -353,6 +363,7 @@ module _ (code : Listing) (heartbeat z : ℕ) (act : Activation) (fuel : ℕ) (S
           base = base;
           limit = h.limit;
           limited = h.limited;
+          tall = w.tall;
           ticks = h.ticks;
           within = h.within;
           begun = h.begun;
@@ -365,6 +376,7 @@ module _ (code : Listing) (heartbeat z : ℕ) (act : Activation) (fuel : ℕ) (S
           few = w.few;
           tabled = h.tabled;
           held = h.held;
+          can = h.can;
           ranged = h.ranged;
           levels = caller_cells (z + levels_cell) (omega (arith, has_room.room)) ∙ same.levels;
           unmarked = subst (λ (ms : List Mark). is_marked_from ms (z + act.size) ≡ false) (sym h.marked) (clear w (z + act.size) (omega arith));
@@ -482,7 +494,7 @@ module _ (code : Listing) (heartbeat z : ℕ) (act : Activation) (fuel : ℕ) (S
         (on_if code heartbeat K one 0 call.go (pos (suc room)) (next code one _ _ term.Halt here) is_left (above_zero room) (calm code call.go _ _ call.enters)
         (entering code heartbeat z act fuel room call.return K two entry.label there.is.instrs there.is.end there.is.begins (opened code call.go _ _ call.enters) shows.size shows.base is_left (omega (arith, calls.few)) low shows.low (omega (arith, shows.top, there.is.has_room.room))
         (λ words_in beat_in many base.
-        calls.owe f.text.items entry is_entry (z + act.size) place_in (callee code heartbeat z act fuel S names lowest place.has_room A kept next_in k room call.return) refl refl (λ y. omega arith) (returns lowest place.has_room low room call.return there.most more last call.behind goes) w (entered_with there.func c.numbers (later w.state))
+        calls.owe f.text.items entry is_entry (z + act.size) place_in (callee code heartbeat z act fuel S names lowest place.has_room A kept next_in k room call.return) refl refl (λ c from. from) (returns lowest place.has_room low room call.return there.most more last call.behind goes) w (entered_with there.func c.numbers (later w.state))
         (record two { registers = words_in; stack = entered_stack z act.size room call.return c.task.stack; beat = beat_in; block = entry.label; at = 0 })
         (shows_callee code heartbeat z act fuel S names lowest place.has_room A kept next_in k room call.return entry w c there.most there.func words_in spent (later w.state) there.arity (omega (arith, there.is.params, length-map there.func.params.items (λ (x : Name). x.text.items))) there.is.has_room
         (shows_words code heartbeat z (wider act entry.size) fuel S w.world shows c.task.registers (c.shows.size ∙ sym shows.size) (c.shows.base ∙ sym shows.base)) many base) refl refl))))))

@@ -1,6 +1,6 @@
 -- Cells of a table, and of what is held of it.
-use Rattle.std.proofs.Common.{◌≡◌, ◌≢◌, ℕ, ◌+◌, ◌*◌, ◌/◌, ◌%◌, ◌<◌, Bool, true, false, cond, List, [], ◌∷◌, length, None, Some, bytes_eq, Vec, refl, ap, sym, subst, ◌∙◌, arith}
-use Rattle.std.specs.Prelude.{ℤ, pos, negsuc, ◌&&◌, nat_lt, slice_set, slice_index_or, All}
+use Rattle.std.proofs.Common.{◌≡◌, ◌≢◌, ℕ, ◌+◌, ◌*◌, ◌/◌, ◌%◌, ◌<◌, Bool, true, false, cond, List, [], ◌∷◌, length, Option, None, Some, bytes_eq, Vec, refl, ap, sym, subst, ◌∙◌, arith}
+use Rattle.std.specs.Prelude.{ℤ, pos, negsuc, ◌&&◌, nat_lt, slice_get, slice_set, slice_index_or, All}
 use Rattle.std.specs.declared.cmp.Ordering.{Ordering}
 use Rattle.std.specs.declared.cmp.Ordering.TheVariants.{Less, Equal, Greater}
 use Rattle.std.specs.declared.alloc.Global.{Global}
@@ -13,16 +13,18 @@ use Rattle.std.proofs.lemmas.Slice.Eq.{bytes_eq-Decides}
 use Rattle.std.proofs.lemmas.List.{get_or-set_same, get_or-set_other, length-set}
 use Rattle.std.proofs.lemmas.List.Elements.{All-nil, All-cons, All-head, All-tail, All-set}
 use Rattle.std.proofs.lemmas.Nat.{div-mul-add, mod-mul-add}
-use Rattle.slices.specs.Cells.{place_cmp}
+use Rattle.std.proofs.lemmas.Option.{slice_get-get_or}
+use Rattle.slices.specs.Cells.{at_place, first_cells, place_cmp}
 use Rattle.slices.specs.Holding as held
 use Rattle.slices.specs.Holding.{Holding, cell_at}
-use Rattle.slices.proofs.Maps.{place_total, place_only, inside_size}
+use Rattle.slices.proofs.Maps.{first_cells_at, inside_size, place_inside, place_only, place_total}
 use Rattle.tp_value.specs.declared.Table.{Table}
 use Rattle.loop_meaning.specs.InRange.{InRange, TableInRange}
 use Rattle.loop_meaning.specs.State.{table_of, has_cell, cell_of, cell_number, with_cell, write_cell}
 use Rattle.tpal_machine.specs.Reading.{table_at}
 use Rattle.expr_lower.specs.Scopes.{number_in, has_table_in}
-use Rattle.block_lower.proofs.Regions.{Region, IsShown, AreShown}
+use Rattle.block_lower.specs.Owing.{IsWholeOf}
+use Rattle.block_lower.proofs.Regions.{Extent, Wholly, Has, Unknown, Region, HasCell, IsPart, IsShown, AreShown, part_cell}
 use Rattle.block_lower.proofs.Tables.{table_names, listed_names}
 
 -- ---- the cells that a table has
@@ -72,6 +74,32 @@ same_cell t i j a b has other same = go (inside t i j has) (inside t a b other)
         let cols : k.col ≡ h.col = sym (mod-mul-add k.row t.cols k.col k.left) ∙ (ap (λ n. n % t.cols) numbers ∙ mod-mul-add h.row t.cols h.col h.left) in
         λ n. ((k.is_row ∙ (ap pos rows ∙ sym h.is_row)) n, (k.is_col ∙ (ap pos cols ∙ sym h.is_col)) n)
 
+-- ---- tables that are wholly held
+
+-- the counting row by row gives nothing outside the table
+place_outside : (t : Table) (value_of : ℕ → Option ℤ) (i j : ℤ) → has_cell t i j ≡ false → at_place t.rows t.cols value_of i j ≡ None
+place_outside t value_of (pos r) (pos c) is_not = rw is_not refl
+place_outside t value_of (pos r) (negsuc c) is_not = refl
+place_outside t value_of (negsuc r) (pos c) is_not = refl
+place_outside t value_of (negsuc r) (negsuc c) is_not = refl
+
+-- what is held of all cells, counted row by row, where these are the table's
+pub counted_whole : (t : Table) (value_of : ℕ → Option ℤ) → length t.cells ≡ t.rows * t.cols → ((r c : ℕ) → r < t.rows → c < t.cols → value_of (r * t.cols + c) ≡ Some (cell_of t (pos r) (pos c)))
+    → IsWholeOf (record { rows = t.rows; cols = t.cols; cells = first_cells t.cols value_of (t.rows * t.cols); owned = true }) t
+counted_whole t value_of full are = record { rows = refl; cols = refl; full = full; cells = λ i j has. at_cell i j (inside t i j has); outside = none_at }
+  where
+    at_cell : (i j : ℤ) → Inside t i j → cell_at (record { rows = t.rows; cols = t.cols; cells = first_cells t.cols value_of (t.rows * t.cols); owned = true }) i j ≡ Some (cell_of t i j)
+    at_cell i j h =
+        first_cells_at t.rows t.cols value_of i j
+        ∙ rw (h.is_row, h.is_col) (place_inside t.rows t.cols value_of h.row h.col h.low h.left ∙ are h.row h.col h.low h.left)
+
+    none_at : (i j : ℤ) → has_cell t i j ≡ false → cell_at (record { rows = t.rows; cols = t.cols; cells = first_cells t.cols value_of (t.rows * t.cols); owned = true }) i j ≡ None
+    none_at i j is_not = first_cells_at t.rows t.cols value_of i j ∙ place_outside t value_of i j is_not
+
+-- so it is where the cells are listed
+pub listed_whole : (t : Table) → length t.cells ≡ t.rows * t.cols → IsWholeOf (record { rows = t.rows; cols = t.cols; cells = first_cells t.cols (slice_get t.cells) (t.rows * t.cols); owned = true }) t
+listed_whole t full = counted_whole t (slice_get t.cells) full (λ r c low left. slice_get-get_or t.cells (r * t.cols + c) (pos 0) (omega (arith, full, inside_size t.rows t.cols r c low left)))
+
 -- ---- one cell set
 
 is_tie : (o : Ordering) → is_eq o ≡ true → o ≡ Equal
@@ -79,33 +107,37 @@ is_tie Less tie = absurd (true≢false (sym tie))
 is_tie Equal tie = refl
 is_tie Greater tie = absurd (true≢false (sym tie))
 
-pub shown_with : (has_it : ℤ → ℤ → Bool) (h : Holding) (t : Table) (i j n : ℤ) → IsShown has_it h t → has_cell t i j ≡ true → has_it i j ≡ true → IsShown has_it (held.with_cell h i j n) (with_cell t i j n)
-shown_with has_it h t i j n shown has covered = record {
-  rows = shown.rows;
-  cols = shown.cols;
-  full = length-set t.cells (cell_number t i j) n ∙ shown.full;
-  cells = λ a b other in_it. get-insert place_total h.cells (i, j) n (a, b) ∙ by_tie a b other in_it (eq_by_cmp place_cmp (a, b) (i, j)) refl;
-  others = λ a b outside. get-insert place_total h.cells (i, j) n (a, b) ∙ by_other a b outside (eq_by_cmp place_cmp (a, b) (i, j)) refl;
+part_with : (test : ℤ → ℤ → Bool) (h : Holding) (t : Table) (i j n : ℤ) → IsPart test h t → has_cell t i j ≡ true → test i j ≡ true → IsPart test (held.with_cell h i j n) (with_cell t i j n)
+part_with test h t i j n part has covered = record {
+  size = record { rows = part.size.rows; cols = part.size.cols; full = full };
+  cells = λ a b. get-insert place_total h.cells (i, j) n (a, b) ∙ by_tie a b (eq_by_cmp place_cmp (a, b) (i, j)) refl;
 }
   where
-    by_tie : (a b : ℤ) → has_cell t a b ≡ true → has_it a b ≡ true → (same : Bool) → eq_by_cmp place_cmp (a, b) (i, j) ≡ same → cond same (Some n) (cell_at h a b) ≡ Some (cell_of (with_cell t i j n) a b)
-    by_tie a b other in_it true is =
-        let place : ◌≡◌ {A = ℤ × ℤ} (a, b) (i, j) = place_only (a, b) (i, j) (is_tie (place_cmp (a, b) (i, j)) is) in
-        let number : cell_number t a b ≡ cell_number t i j = ap (λ (p : ℤ × ℤ). cell_number t p.0 p.1) place in
-        ap Some (sym (ap (λ k. slice_index_or (slice_set t.cells (cell_number t i j) n) k (pos 0)) number ∙ get_or-set_same t.cells (cell_number t i j) n (pos 0) (number_inside t i j shown.full has)))
-    by_tie a b other in_it false is =
-        let apart : cell_number t a b ≢ cell_number t i j = λ (q : cell_number t a b ≡ cell_number t i j).
-        true≢false (sym (subst (λ (p : ℤ × ℤ). eq_by_cmp place_cmp (a, b) p ≡ true) (same_cell t i j a b has other q) ((eq_by_cmp_equiv place_total).refl (a, b))) ∙ is) in
-        shown.cells a b other in_it ∙ ap Some (sym (get_or-set_other t.cells (cell_number t i j) (cell_number t a b) n (pos 0) apart))
+    full : length (with_cell t i j n).cells ≡ t.rows * t.cols
+    full = length-set t.cells (cell_number t i j) n ∙ part.size.full
 
-    by_other : (a b : ℤ) → has_it a b ≡ false → (same : Bool) → eq_by_cmp place_cmp (a, b) (i, j) ≡ same → cond same (Some n) (cell_at h a b) ≡ None
-    by_other a b outside true is =
+    -- another cell has the number that it had
+    others : (a b : ℤ) → eq_by_cmp place_cmp (a, b) (i, j) ≡ false → (in_it : Bool) → has_cell t a b ≡ in_it → part_cell test t a b ≡ part_cell test (with_cell t i j n) a b
+    others a b is false out = rw out refl
+    others a b is true in_it =
+        let apart : cell_number t a b ≢ cell_number t i j = λ (q : cell_number t a b ≡ cell_number t i j).
+        true≢false (sym (subst (λ (p : ℤ × ℤ). eq_by_cmp place_cmp (a, b) p ≡ true) (same_cell t i j a b has in_it q) ((eq_by_cmp_equiv place_total).refl (a, b))) ∙ is) in
+        ap (λ (m : ℤ). cond (has_cell t a b && test a b) (Some m) None) (sym (get_or-set_other t.cells (cell_number t i j) (cell_number t a b) n (pos 0) apart))
+
+    by_tie : (a b : ℤ) (same : Bool) → eq_by_cmp place_cmp (a, b) (i, j) ≡ same → cond same (Some n) (cell_at h a b) ≡ part_cell test (with_cell t i j n) a b
+    by_tie a b true is =
         let place : ◌≡◌ {A = ℤ × ℤ} (a, b) (i, j) = place_only (a, b) (i, j) (is_tie (place_cmp (a, b) (i, j)) is) in
-        absurd (true≢false (sym covered ∙ (sym (ap (λ (p : ℤ × ℤ). has_it p.0 p.1) place) ∙ outside)))
-    by_other a b outside false is = shown.others a b outside
+        let here : part_cell test (with_cell t i j n) i j ≡ Some n = rw (has, covered) (ap Some (get_or-set_same t.cells (cell_number t i j) n (pos 0) (number_inside t i j part.size.full has))) in
+        sym (ap (λ (p : ℤ × ℤ). part_cell test (with_cell t i j n) p.0 p.1) place ∙ here)
+    by_tie a b false is = part.cells a b ∙ others a b is (has_cell t a b) refl
+
+shown_with : (extent : Extent) (h : Holding) (t : Table) (i j n : ℤ) → IsShown extent h t → has_cell t i j ≡ true → HasCell extent i j → IsShown extent (held.with_cell h i j n) (with_cell t i j n)
+shown_with Wholly h t i j n shown has covered = part_with (λ a b. true) h t i j n shown has refl
+shown_with (Has test) h t i j n shown has covered = part_with test h t i j n shown has covered
+shown_with Unknown h t i j n shown has covered = absurd covered
 
 -- a cell of a table set, in the state and in what is held
-pub write_shown : (region : Region) (hs : List Holding) (ts : List Table) (us : List (Vec ℕ Global)) (x : List ℕ) (i j n : ℤ) → AreShown region hs ts → listed_names us ≡ table_names ts → has_table_in us x ≡ true → has_cell (table_of ts x) i j ≡ true → region x i j ≡ true
+pub write_shown : (region : Region) (hs : List Holding) (ts : List Table) (us : List (Vec ℕ Global)) (x : List ℕ) (i j n : ℤ) → AreShown region hs ts → listed_names us ≡ table_names ts → has_table_in us x ≡ true → has_cell (table_of ts x) i j ≡ true → HasCell (region x) i j
     → AreShown region (slice_set hs (number_in us x) (held.with_cell (table_at hs (number_in us x)) i j n)) (write_cell ts x i j n)
 write_shown region hs ts [] x i j n shown named has cell covered = cc
 write_shown region hs [] (u ∷ us) x i j n shown named has cell covered = cc
@@ -123,7 +155,7 @@ write_shown region (h ∷ hs) (t ∷ ts) (u ∷ us) x i j n shown named has cell
         let f : bytes_eq t.name x ≡ true = rw alike at e in
         let there : has_cell t i j ≡ true = rw f at cell in
         let same : x ≡ t.name = sym ((bytes_eq-Decides t.name x).0 f) in
-        let in_it : region t.name i j ≡ true = subst (λ (y : List ℕ). region y i j ≡ true) same covered in
+        let in_it : HasCell (region t.name) i j = subst (λ (y : List ℕ). HasCell (region y) i j) same covered in
         rw (e, f, write_cell) (shown_with (region t.name) h t i j n shown.0 there in_it, shown.1)
     go behind false e =
         let f : bytes_eq t.name x ≡ false = rw alike at e in

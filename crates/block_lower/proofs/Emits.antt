@@ -25,7 +25,7 @@ use Rattle.expr_lower.specs.Scopes.{table_number}
 use Rattle.expr_lower.proofs.Standing.{next, behind}
 use Rattle.block_lower.specs.Code.{IsTable}
 use Rattle.block_lower.specs.Layout.{Activation}
-use Rattle.block_lower.proofs.Results.{Result, result, then}
+use Rattle.block_lower.proofs.Results.{Result, noting, result, then}
 use Rattle.block_lower.proofs.Scene.{Scene, Owed}
 use Rattle.block_lower.proofs.Showing.{shows_output}
 use Rattle.block_lower.proofs.TableSteps.{on_emit}
@@ -82,9 +82,10 @@ module _ (code : Listing) (heartbeat z : ℕ) (act : Activation) (set : Setting)
   emit_law place t table more end is post i st state shows stands =
       let meant : Table = table_of st.tables t.text.items in
       let text : List ℕ = row_lines meant.rows meant.cols meant.cells in
-      S.touches i (Emits t.text.items ∷ []) (k (print_table meant st)) state (tt, tt) (λ covered.
+      S.touches i (Emits t.text.items ∷ []) (k (print_table meant st)) state (tt, tt) (λ given.
       let held : IsWholeOf (table_at state.tables table) meant =
       subst (λ n. IsWholeOf (table_at state.tables n) meant) (sym is.is)
-      (shown_whole (table_at state.tables (table_number is.scope t.text.items)) meant (S.region i t.text.items) (shown code heartbeat z act set.fuel S i names st state shows is.scope is.sees t.text.items is.inside) covered.0) in
+      (shown_whole (S.region i t.text.items) (table_at state.tables (table_number is.scope t.text.items)) meant (shown code heartbeat z act set.fuel S i names st state shows is.scope is.sees t.text.items is.inside)
+      (S.covers i (noting (Emits t.text.items ∷ []) (k (print_table meant st))) given).0) in
       on_emit code heartbeat (S.owing i (k (print_table meant st))) state table text (next code state _ more end stands) (lines_are (table_at state.tables table) meant held)
       (post i (print_table meant st) (effect.with_output (advanced state) text) (shows_output code heartbeat z act set.fuel S i shows text) (behind code state.block state.at _ more end stands)))

@@ -23,7 +23,7 @@ use Rattle.expr_lower.specs.Standing.{Remains}
 use Rattle.expr_lower.proofs.Registers.{register_set, register_other}
 use Rattle.expr_lower.proofs.Standing.{next, behind, at_end}
 use Rattle.block_lower.specs.Code.{load}
-use Rattle.block_lower.specs.Layout.{return_cell, Entry, Activation}
+use Rattle.block_lower.specs.Layout.{return_cell, value_cell, Entry, Activation}
 use Rattle.block_lower.specs.Main.{IsFunction, FunctionAt, AreFunctions}
 use Rattle.block_lower.specs.Names.{names_after_list}
 use Rattle.block_lower.proofs.Called.{with_value, value_then, body_set}
@@ -58,7 +58,7 @@ module _ (code : Listing) (heartbeat fuel : ℕ) (expr_law : ExprLaw code heartb
   pub function_law : (room : ℕ) → CallsOwe code heartbeat fuel tables entries fs room → (x : List ℕ) (entry : Entry) (f : FunctionAt code tables entries fs x entry) → FunctionOwes code heartbeat fuel tables entries fs x entry f room
   function_law room calls x entry f z place C levels lowest may returns =
       enters code heartbeat z act fuel C (texts f.func.params.items) entry.label f.is.instrs f.is.end (λ st. then (result (run_list (body_set fs fuel room) f.func.body.items st)) (value_then f.func.result)) f.is.begins
-      (codes_law code heartbeat z act fs fuel room expr_law calls place f.is.statements C (record { levels = levels; lowest = omega (arith, lowest); allows = λ y free. may y }) (value_then f.func.result) (gives_value code heartbeat z act fuel expr_law C returns f.func entry.label f.is))
+      (codes_law code heartbeat z act fs fuel room expr_law calls place f.is.statements C (record { levels = levels; lowest = omega (arith, lowest); allows = λ y free. may (value_cell y) (omega arith) }) (value_then f.func.result) (gives_value code heartbeat z act fuel expr_law C returns f.func entry.label f.is))
     where
       act : Activation
       act = record { tables = tables; functions = entries; most = f.most; size = entry.size }

@@ -47,7 +47,7 @@ use Rattle.block_lower.proofs.Gaps.{IsGap, gap_is, gap_next, gap_more, gap_none,
 use Rattle.block_lower.proofs.Moves.{opened, calm, jumps}
 use Rattle.block_lower.proofs.Results.{Result, result, then, left, after_then, noting, noting_then}
 use Rattle.block_lower.proofs.Scene.{Scene, Same, Near, Shows, ShowsIn, Owed, runs_kept}
-use Rattle.block_lower.proofs.Activations.{clear_above}
+use Rattle.block_lower.proofs.Activations.{clear_above, marks_from}
 use Rattle.block_lower.proofs.Showing.{as_many, shows_words, shows_new, shows_declared, shows_ticked, shows_left}
 use Rattle.block_lower.proofs.Simple.{stores, still_shows}
 use Rattle.block_lower.proofs.Ticks.{ticks}
@@ -100,34 +100,31 @@ module _ (code : Listing) (heartbeat z : ℕ) where
     levels = S.levels;
     fuel = S.fuel;
     dispatch = S.dispatch;
-    owing = S.owing;
-    diverted = S.diverted;
-    marks = S.marks;
-    goal = S.goal;
-    before = S.before;
-    since = S.since;
-    region = S.region;
-    kept = λ w s. KeptIn z level m held (S.kept w) s;
+    size = S.size;
+    promise = S.promise;
+    around = record S.around { kept = λ w s. KeptIn z level m held (S.kept w) s };
     lowest = suc level;
     may = MayIn level S.may;
     cut = S.cut;
     below = λ w. clear_above (S.marks w) (z + value_cell S.lowest) (z + value_cell (suc level)) (omega (arith, lowest)) (S.below w);
-    touches = S.touches;
-    points = S.points;
-    passes = S.passes;
-    handles = λ w more r st state marked diverted runs back cut. S.handles w more r st state marked diverted (runs_kept runs (S.kept w) runs.keeps.0) back
-        (λ k u gone near runs_u. cut k u gone (nearer z S.may S.lowest level state.stack u.stack lowest near)
-        (runs_kept runs_u (KeptIn z level m held (S.kept (S.cut w k st.output))) (
-          runs_u.keeps,
-          near.above (z + value_cell level) (omega (arith, lowest)) ∙ runs.keeps.1,
-          bound_near z S.may S.lowest level held state.stack u.stack lowest near runs.keeps.2,
-        )));
     stable = λ w other s t low same k. (
       S.stable w other s t (omega (arith, lowest, low)) (record { base = same.base; at = λ a lt others. same.at a lt (λ c m. others c m.2) }) k.0,
       same.at (z + value_cell level) (omega (arith, low)) (λ c m q. m.0 (omega (arith, q))) ∙ k.1,
       bound_kept z level held (MayIn level S.may) other s t low (λ c m. m.1) same k.2,
     );
     stops = S.stops;
+    stopped = S.stopped;
+    covers = S.covers;
+    allows = S.allows;
+    is_open = S.is_open;
+    handles = λ opened w more r st state marked from diverted runs back cut.
+        S.handles opened w more r st state marked (marks_from more (z + value_cell S.lowest) (z + value_cell (suc level)) (omega (arith, lowest)) from) diverted (runs_kept runs z S.size (S.kept w) runs.low runs.tall runs.keeps.0) back
+        (λ k u gone near runs_u. cut k u gone (nearer z S.may S.lowest level state.stack u.stack lowest near)
+        (runs_kept runs_u z S.size (KeptIn z level m held (S.kept (S.cut w k st.output))) runs_u.low runs_u.tall (
+          runs_u.keeps,
+          near.above (z + value_cell level) (omega (arith, lowest)) ∙ runs.keeps.1,
+          bound_near z S.may S.lowest level held state.stack u.stack lowest near runs.keeps.2,
+        )));
   }
 
   module _ (act : Activation) (fuel : ℕ) (S : Scene code heartbeat z) (level : ℕ) (lowest : S.lowest ≤ level) (m : ℤ) (held : Option ℤ) (i : S.World) (names : List (List ℕ)) (st : meaning.State) (state : machine.State) where
@@ -137,6 +134,7 @@ module _ (code : Listing) (heartbeat z : ℕ) where
       base = h.base;
       limit = h.limit;
       limited = h.limited;
+      tall = h.tall;
       ticks = h.ticks;
       within = h.within;
       begun = h.begun;
@@ -149,6 +147,7 @@ module _ (code : Listing) (heartbeat z : ℕ) where
       few = h.few;
       tabled = h.tabled;
       held = h.held;
+      can = h.can;
       ranged = h.ranged;
       levels = h.levels;
       unmarked = h.unmarked;
@@ -165,6 +164,7 @@ module _ (code : Listing) (heartbeat z : ℕ) where
       base = h.base;
       limit = h.limit;
       limited = h.limited;
+      tall = h.tall;
       ticks = h.ticks;
       within = h.within;
       begun = h.begun;
@@ -177,6 +177,7 @@ module _ (code : Listing) (heartbeat z : ℕ) where
       few = h.few;
       tabled = h.tabled;
       held = h.held;
+      can = h.can;
       ranged = h.ranged;
       levels = h.levels;
       unmarked = h.unmarked;

@@ -8,9 +8,8 @@ use Rattle.std.proofs.lemmas.List.{get_or-replicate, length-append, length-repli
 use Rattle.std.proofs.lemmas.List.Elements.{All-nil, All-cons, All-append, All-replicate}
 use Rattle.beat_count.specs.BeatState.{BeatState}
 use Rattle.beat_count.specs.FuelState.{FuelState}
-use Rattle.slices.specs.Cells.{first_cells}
-use Rattle.slices.specs.Holding.{Holding, cell_at}
-use Rattle.slices.proofs.Maps.{first_cells_at, place_inside, inside_size}
+use Rattle.slices.specs.Holding.{Holding}
+use Rattle.slices.proofs.Maps.{inside_size}
 use Rattle.stack_marks.specs.Stacks.{StackValue, with_word}
 use Rattle.tp_value.specs.declared.limits.TheConstants.{MAX_TABLE_CELLS}
 use Rattle.tp_value.specs.declared.Place.{Place}
@@ -24,7 +23,7 @@ use Rattle.loop_syntax.specs.declared.TableDecl.TheVariants.{Input, Made}
 use Rattle.loop_meaning.specs.InRange.{InRange, TableInRange}
 use Rattle.loop_meaning.specs.Meaning.{add_table, input_cells, is_bad_size, is_too_large, make_tables, unless_large, zero_table}
 use Rattle.loop_meaning.specs.State as meaning
-use Rattle.loop_meaning.specs.State.{Ran, cell_of, has_cell, table_of}
+use Rattle.loop_meaning.specs.State.{Ran, table_of}
 use Rattle.loop_meaning.specs.Statements.{given}
 use Rattle.tpal_syntax.specs.declared.blocks.CodeTable.{CodeTable}
 use Rattle.tpal_syntax.specs.declared.blocks.CodeTable.TheVariants as code_table
@@ -50,7 +49,7 @@ use Rattle.expr_lower.proofs.Standing.{next, behind}
 use Rattle.block_lower.specs.Code.{Computes, store, load}
 use Rattle.block_lower.specs.Layout.{kept_cell, Activation}
 use Rattle.block_lower.specs.Main.{Makes, no_table, input_table, made_table, made_kept_table, table_name}
-use Rattle.block_lower.proofs.Cells.{Inside, inside}
+use Rattle.block_lower.proofs.Cells.{counted_whole}
 use Rattle.block_lower.proofs.Results.{Result, result, then}
 use Rattle.block_lower.proofs.Scene.{Scene, Shows, ShowsIn, Owed}
 use Rattle.block_lower.proofs.Showing.{shows_words, shows_new}
@@ -63,16 +62,6 @@ use Rattle.block_lower.proofs.Values.{ExprLaw, computes}
 use Rattle.block_lower.proofs.Words.{word_same}
 
 -- ---- tables that are wholly held
-
--- what is held of all cells, counted row by row, where these are the table's
-counted_whole : (t : Table) (value_of : ℕ → Option ℤ) → length t.cells ≡ t.rows * t.cols → ((r c : ℕ) → r < t.rows → c < t.cols → value_of (r * t.cols + c) ≡ Some (cell_of t (pos r) (pos c)))
-    → IsWholeOf (record { rows = t.rows; cols = t.cols; cells = first_cells t.cols value_of (t.rows * t.cols); owned = true }) t
-counted_whole t value_of full are = record { rows = refl; cols = refl; full = full; cells = λ i j has. at_cell i j (inside t i j has) }
-  where
-    at_cell : (i j : ℤ) → Inside t i j → cell_at (record { rows = t.rows; cols = t.cols; cells = first_cells t.cols value_of (t.rows * t.cols); owned = true }) i j ≡ Some (cell_of t i j)
-    at_cell i j h =
-        first_cells_at t.rows t.cols value_of i j
-        ∙ rw (h.is_row, h.is_col) (place_inside t.rows t.cols value_of h.row h.col h.low h.left ∙ are h.row h.col h.low h.left)
 
 zeros_whole : (x : Name) (m n : ℕ) → IsWholeOf (zeros m n) (zero_table x (pos m) (pos n))
 zeros_whole x m n = counted_whole (zero_table x (pos m) (pos n)) (λ i. Some (pos 0)) (length-replicate (m * n) (pos 0))
@@ -191,12 +180,13 @@ seeing act seen = record act { tables = seen }
 module _ (code : Listing) (heartbeat z : ℕ) (act : Activation) (fuel : ℕ) (S : Scene code heartbeat z) (i : S.World) (seen : List (List ℕ)) where
   -- one table more
   shows_added : {names : List (List ℕ)} {st : meaning.State} {words : List Word} {stack : StackValue} {holdings : List Holding} {spent : FuelState} {output : List ℕ} {goal_now : Goal} {ties : Option Tie × Option Tie} → Shows code heartbeat z (seeing act seen) fuel S i names st words stack holdings spent output goal_now ties
-      → (x : List ℕ) (t : Table) (others : List Holding) → t.name ≡ x → AreShown (S.region i) others (st.tables ++ t ∷ []) → TableInRange t → Shows code heartbeat z (seeing act (seen ++ x ∷ [])) fuel S i names (add_table t st) words stack others spent output goal_now ties
-  shows_added {st = st} h x t others is held ranged = record {
+      → (x : List ℕ) (t : Table) (others : List Holding) → t.name ≡ x → AreShown (S.region i) others (st.tables ++ t ∷ []) → S.can i (st.tables ++ t ∷ []) → TableInRange t → Shows code heartbeat z (seeing act (seen ++ x ∷ [])) fuel S i names (add_table t st) words stack others spent output goal_now ties
+  shows_added {st = st} h x t others is held can ranged = record {
     size = h.size;
     base = h.base;
     limit = h.limit;
     limited = h.limited;
+    tall = h.tall;
     ticks = h.ticks;
     within = h.within;
     begun = h.begun;
@@ -209,6 +199,7 @@ module _ (code : Listing) (heartbeat z : ℕ) (act : Activation) (fuel : ℕ) (S
     few = h.few;
     tabled = map-append (λ (u : Table). u.name) st.tables (t ∷ []) ∙ (ap (λ ns. ns ++ t.name ∷ []) h.tabled ∙ ap (λ n. seen ++ n ∷ []) is);
     held = held;
+    can = can;
     ranged = All-append TableInRange st.tables (t ∷ []) h.ranged (All-cons TableInRange t [] ranged (All-nil TableInRange));
     levels = h.levels;
     unmarked = h.unmarked;
@@ -219,7 +210,7 @@ module _ (code : Listing) (heartbeat z : ℕ) (act : Activation) (fuel : ℕ) (S
     keeps = h.keeps;
   }
 
-module _ (code : Listing) (heartbeat z : ℕ) (act : Activation) (fuel : ℕ) (expr_law : ExprLaw code heartbeat) (S : Scene code heartbeat z) (lowest : S.lowest ≤ 0) (roots : (i : S.World) → S.goal i ≡ goal.Root) (all : (i : S.World) → S.region i ≡ everywhere) (given_tables : List Table) where
+module _ (code : Listing) (heartbeat z : ℕ) (act : Activation) (fuel : ℕ) (expr_law : ExprLaw code heartbeat) (S : Scene code heartbeat z) (lowest : S.lowest ≤ 0) (roots : (i : S.World) → S.goal i ≡ goal.Root) (all : (i : S.World) → S.region i ≡ everywhere) (can : (i : S.World) (ts : List Table) → S.can i ts) (given_tables : List Table) where
   -- a task that has made the tables up to here
   pub record Making (i : S.World) (seen : List (List ℕ)) (cells : ℕ) (ds : List TableDecl) (st : meaning.State) (state : machine.State) : Type 0 where
     pub shows : ShowsIn code heartbeat z (seeing act seen) fuel S i [] st state
@@ -271,7 +262,8 @@ module _ (code : Listing) (heartbeat z : ℕ) (act : Activation) (fuel : ℕ) (e
       by_rest (g ∷ gs) left tables = record {
         shows = shows_added code heartbeat z act fuel S i seen h.shows x.text.items (table_of given_tables x.text.items) state.tables is.named
             (shown_all i state.tables (st.tables ++ table_of given_tables x.text.items ∷ [])
-            (subst (λ hs. AreWhole hs (st.tables ++ table_of given_tables x.text.items ∷ [])) (sym tables) (whole_append h.before gs st.tables g (table_of given_tables x.text.items) h.as_tables h.held left.0))) is.is.ranged;
+            (subst (λ hs. AreWhole hs (st.tables ++ table_of given_tables x.text.items ∷ [])) (sym tables) (whole_append h.before gs st.tables g (table_of given_tables x.text.items) h.as_tables h.held left.0)))
+            (can i (st.tables ++ table_of given_tables x.text.items ∷ [])) is.is.ranged;
         before = h.before ++ g ∷ [];
         as_many = omega (arith, h.as_many, length-append h.before (g ∷ []), length-append seen (x.text.items ∷ []));
         as_tables = omega (arith, h.as_tables, length-append h.before (g ∷ []), length-append st.tables (table_of given_tables x.text.items ∷ []));
@@ -304,7 +296,8 @@ module _ (code : Listing) (heartbeat z : ℕ) (act : Activation) (fuel : ℕ) (e
           record {
             shows = shows_added code heartbeat z act fuel S i seen h.shows x.text.items t (slice_set state.tables (length seen) (zeros m n)) refl
                 (shown_all i (slice_set state.tables (length seen) (zeros m n)) (st.tables ++ t ∷ [])
-                (subst (λ hs. AreWhole hs (st.tables ++ t ∷ [])) (sym set) (whole_append h.before gs st.tables (zeros m n) t h.as_tables h.held (zeros_whole x m n)))) (zero_in_range x m n in_m in_n);
+                (subst (λ hs. AreWhole hs (st.tables ++ t ∷ [])) (sym set) (whole_append h.before gs st.tables (zeros m n) t h.as_tables h.held (zeros_whole x m n))))
+                (can i (st.tables ++ t ∷ [])) (zero_in_range x m n in_m in_n);
             before = h.before ++ zeros m n ∷ [];
             as_many = omega (arith, h.as_many, length-append h.before (zeros m n ∷ []), length-append seen (x.text.items ∷ []));
             as_tables = omega (arith, h.as_tables, length-append h.before (zeros m n ∷ []), length-append st.tables (t ∷ []));

@@ -38,7 +38,8 @@ use Rattle.block_lower.specs.Code.{Computes, IsTable, put_tested, store, load}
 use Rattle.block_lower.specs.Layout.{kept_cell, Activation}
 use Rattle.block_lower.proofs.Cells.{write_shown, names_write, write_in_range}
 use Rattle.block_lower.proofs.Moves.{traps}
-use Rattle.block_lower.proofs.Results.{Result, result, then}
+use Rattle.block_lower.proofs.Regions.{HasCell, cell_shown}
+use Rattle.block_lower.proofs.Results.{Result, noting, result, then}
 use Rattle.block_lower.proofs.Scene.{Scene, ShowsIn, Owed}
 use Rattle.block_lower.proofs.Showing.{shows_words, shows_new, shows_tables}
 use Rattle.block_lower.proofs.Simple.{stores_in, still_shows}
@@ -89,14 +90,16 @@ module _ (code : Listing) (heartbeat z : ℕ) (act : Activation) (fuel : ℕ) (S
           let task : machine.State = moved state words beat at in
           let shows_task : ShowsIn code heartbeat z act fuel S i names st task = still_shows code heartbeat z act fuel S i names st state test words beat at shows keeps in
           subst (λ (r : Ran). (S.owing i (then (result r) k)).Holds task) (sym (put_in t a b n st is_so))
-          (S.touches i (Writes t.text.items a b ∷ []) (k (put_state t a b n st)) task (tt, tt) (λ covered.
+          (S.touches i (Writes t.text.items a b ∷ []) (k (put_state t a b n st)) task (tt, tt) (λ given_it.
+          let covered : HasCell (S.region i t.text.items) a b = (S.covers i (noting (Writes t.text.items a b ∷ []) (k (put_state t a b n st))) given_it).0 in
           on_put code heartbeat (S.owing i (k (put_state t a b n st))) task at_number row col number a b n _ (next code task _ more end left)
           (keeps.below row row_low ∙ row_in) (keeps.below col col_low ∙ col_in) (keeps.below number number_low ∙ number_in)
-          ((shown code heartbeat z act fuel S i names st state shows is.scope is.sees t.text.items is.inside).cells a b is_so covered.0)
+          (cell_shown (S.region i t.text.items) (table_at state.tables at_number) (table_of st.tables t.text.items) a b (shown code heartbeat z act fuel S i names st state shows is.scope is.sees t.text.items is.inside) is_so covered)
           (post i (put_state t a b n st) (effect.with_table (advanced task) at_number (held.with_cell (table_at state.tables at_number) a b n))
           (shows_tables code heartbeat z act fuel S i shows_task (write_cell st.tables t.text.items a b n) (slice_set state.tables at_number (held.with_cell (table_at state.tables at_number) a b n))
           (names_write st.tables t.text.items a b n)
-          (write_shown (S.region i) state.tables st.tables is.scope.tables.items t.text.items a b n shows.held (is.sees.listed ∙ sym shows.tabled) is.inside is_so covered.0)
+          (write_shown (S.region i) state.tables st.tables is.scope.tables.items t.text.items a b n shows.held (is.sees.listed ∙ sym shows.tabled) is.inside is_so covered)
+          (S.allows i t.text.items a b n st.tables (k (put_state t a b n st)) given_it shows.can)
           (write_in_range st.tables t.text.items a b n in_n shows.ranged))
           (behind code state.block at _ more end left))))
 

@@ -1,5 +1,5 @@
 -- How a run ends, as far as a task tells it, and what follows it.
-use Rattle.std.proofs.Common.{◌≡◌, ℕ, List, [], ◌++◌, take, refl, ap, append-nil, append_assoc}
+use Rattle.std.proofs.Common.{◌≡◌, ℕ, List, [], ◌++◌, take, refl, sym, ap, append-nil, append_assoc}
 use Rattle.tp_value.specs.declared.Stop.{Stop}
 use Rattle.tp_value.specs.declared.Stop.TheVariants.{Done, Trap, NoFuel}
 use Rattle.loop_meaning.specs.State as meaning
@@ -54,6 +54,21 @@ noting_end ns ms (Out stop ticks output) k = refl
 -- notes made before a run stand before what follows it too
 pub noting_then : (ns : List Note) (r : Result) (k : meaning.State → Result) → then (noting ns r) k ≡ noting ns (then r k)
 noting_then ns r k = noting_end ns r.notes r.end k
+
+-- what is noted where a run goes on stands behind its own notes
+abbrev pub behind_end : End → (meaning.State → Result) → List Note
+behind_end (Fin s) k = (k s).notes
+behind_end (Out stop ticks output) k = []
+
+abbrev pub notes_behind : Result → (meaning.State → Result) → List Note
+notes_behind r k = behind_end r.end k
+
+notes_of_end : (ns : List Note) (e : End) (k : meaning.State → Result) → (then_end ns e k).notes ≡ ns ++ behind_end e k
+notes_of_end ns (Fin s) k = refl
+notes_of_end ns (Out stop ticks output) k = sym (append-nil ns)
+
+pub notes_then : (r : Result) (k : meaning.State → Result) → (then r k).notes ≡ r.notes ++ notes_behind r k
+notes_then r k = notes_of_end r.notes r.end k
 
 pub out_noting : (ns : List Note) (stop : Stop) (s : meaning.State) → noting ns (out stop s) ≡ record { notes = ns; end = Out stop s.ticks s.output }
 out_noting ns stop s = ap (λ (ks : List Note). record { notes = ks; end = Out stop s.ticks s.output }) (append-nil ns)

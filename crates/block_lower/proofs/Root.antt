@@ -1,5 +1,5 @@
--- The first task of a code that is the code of a program owes the meaning where nothing is diverted.
-use Rattle.std.proofs.Common.{◌≡◌, ℕ, suc, ◌+◌, ◌<◌, false, List, [], ◌∷◌, length, map, refl, sym, ap, subst, ◌∙◌, arith}
+-- The first task of a code that is the code of a program is bound to its meaning, whatever is diverted.
+use Rattle.std.proofs.Common.{◌≡◌, ℕ, suc, ◌+◌, ◌<◌, true, false, List, [], ◌∷◌, length, map, refl, sym, ap, subst, ◌∙◌, arith}
 use Rattle.std.specs.Prelude.{pos, ⊤}
 use Rattle.std.specs.List.{AllByRecursion}
 use Rattle.std.proofs.lemmas.List.{length-replicate}
@@ -29,15 +29,16 @@ use Rattle.tpal_syntax.specs.declared.words.Word.TheVariants as word
 use Rattle.tpal_syntax.specs.Listing.{Listing}
 use Rattle.tpal_machine.specs.declared.ends.Ending.TheVariants as ending
 use Rattle.tpal_machine.specs.declared.ends.Goal.TheVariants as goal
-use Rattle.tpal_machine.specs.Belongs.{BelongsTo}
 use Rattle.tpal_machine.specs.Effect as effect
 use Rattle.tpal_machine.specs.Ended.{ended, ended_at}
-use Rattle.tpal_machine.specs.Serial.{BoundSerially, OwesSerially}
-use Rattle.tpal_machine.specs.Serial as serial
+use Rattle.tpal_machine.specs.Owes.{Bound}
+use Rattle.tpal_machine.specs.Owes as owes
+use Rattle.tpal_machine.specs.Serial.{OwesSerially}
 use Rattle.tpal_machine.specs.State as machine
 use Rattle.tpal_machine.specs.State.{first_state}
 use Rattle.tpal_machine.specs.Step.{Ends, advanced}
-use Rattle.tpal_machine.proofs.Kit.{Back, owing_serially, on_salloc, halts}
+use Rattle.tpal_machine.proofs.Kit.{Back, on_salloc, halts}
+use Rattle.tpal_machine.proofs.Undiverted.{owes_serially}
 use Rattle.expr_lower.specs.Standing.{Remains}
 use Rattle.expr_lower.proofs.Standing.{next, behind, at_end}
 use Rattle.block_lower.specs.Code.{store}
@@ -50,6 +51,7 @@ use Rattle.block_lower.proofs.Functions.{calls_owe}
 use Rattle.block_lower.proofs.Law.{codes_law}
 use Rattle.block_lower.proofs.Makes.{Making, AreGiven, count_held, makes_law, seeing}
 use Rattle.block_lower.proofs.Moves.{opened}
+use Rattle.block_lower.proofs.Promises.{CanRun, Terms, promised}
 use Rattle.block_lower.proofs.Regions.{Covers, everywhere}
 use Rattle.block_lower.proofs.Results.{End, Result, Fin, Out, after_then, end_by, fin, result, then, then_end}
 use Rattle.block_lower.proofs.Scene.{Scene, Owed}
@@ -86,13 +88,26 @@ as_many_held (d ∷ ds) (t ∷ ts) given [] declared held = absurd held
 as_many_held (Input x ∷ ds) (t ∷ ts) given (h ∷ hs) declared held = ap suc (as_many_held ds ts given hs declared.1 held.1)
 as_many_held (Made x a b ∷ ds) (t ∷ ts) given (h ∷ hs) declared held = ap suc (as_many_held ds ts given hs declared.1 held.2)
 
+covers_all : (ns : List Note) → AllByRecursion (Covers everywhere) ns
+covers_all [] = tt
+covers_all (Reads t i j ∷ ns) = (tt, covers_all ns)
+covers_all (Writes t i j ∷ ns) = (tt, covers_all ns)
+covers_all (Emits t ∷ ns) = (tt, covers_all ns)
+covers_all (Chance ∷ ns) = (tt, covers_all ns)
+
 module _ (code : Listing) (heartbeat fuel : ℕ) where
-  covers_all : (ns : List Note) → AllByRecursion (Covers everywhere) ns
-  covers_all [] = tt
-  covers_all (Reads t i j ∷ ns) = (refl, covers_all ns)
-  covers_all (Writes t i j ∷ ns) = (refl, covers_all ns)
-  covers_all (Emits t ∷ ns) = (λ i j. refl, covers_all ns)
-  covers_all (Chance ∷ ns) = (tt, covers_all ns)
+  -- main owes its outcome, and no promotion point
+  abbrev whole_terms : Terms code heartbeat ⊤
+  whole_terms = record {
+    given = λ i r. ⊤;
+    least = λ i r. 0;
+    ending = λ i r. ending.Root (outcome_by r);
+    blind = λ i ns r. refl;
+    fewer = λ i ns r given. tt;
+    quietly = λ i ns r quiet. omega arith;
+    at_most = λ i ns r one. omega arith;
+    uncounted = λ i r. omega arith;
+  }
 
   -- nothing goes on round main
   abbrev root : Scene code heartbeat 0
@@ -101,31 +116,35 @@ module _ (code : Listing) (heartbeat fuel : ℕ) where
     levels = MAX_CALL_DEPTH;
     fuel = fuel;
     dispatch = 0;
-    owing = λ i r. owing_serially code heartbeat 0 (ending.Root (outcome_by r));
-    diverted = λ i r state. ⊥;
-    marks = λ i. [];
-    goal = λ i. goal.Root;
-    before = λ i. [];
-    since = λ i. 0;
-    region = λ i. everywhere;
-    kept = λ i s. ⊤;
+    size = 0;
+    promise = promised code heartbeat whole_terms;
+    around = record {
+      marks = λ i. [];
+      goal = λ i. goal.Root;
+      before = λ i. [];
+      since = λ i. 0;
+      region = λ i. everywhere;
+      kept = λ i s. ⊤;
+      can = λ i ts. ⊤;
+    };
     lowest = 0;
     may = λ x. ⊤;
     cut = λ i k printed. i;
-    below = λ i. refl;
-    touches = λ i ns r state quiet holds. holds (covers_all ns);
-    points = λ i ns r state after one at calm loud holds. serial.goes 0 0 state after (ending.Root (outcome_by r)) (omega arith) calm holds;
-    passes = λ i r state holds. holds;
-    handles = λ i more r st state marked diverted runs back cut. absurd (marked refl);
     stable = λ i level s t low same kept. tt;
-    stops = λ i stop st state last early ticks output root_goal ends. serial.ends state (ending.Root (record { stop = stop; output = st.output; ticks = st.ticks })) (ends false ∙ ap Ends (ended_is code stop st last root_goal ticks output));
+    below = λ i. refl;
+    stops = λ i stop st state last early ticks output root_goal ends given can. owes.ends state (ending.Root (record { stop = stop; output = st.output; ticks = st.ticks })) (ends true ∙ ap Ends (ended_is code stop st last root_goal ticks output));
+    stopped = λ i stop st output early printed. ap (λ (bytes : List ℕ). ending.Root (record { stop = stop; output = bytes; ticks = st.ticks })) printed;
+    covers = λ i r given. covers_all r.notes;
+    allows = λ i t a b n ts r given can. tt;
+    is_open = true;
+    handles = λ opened i more r st state marked from diverted runs back cut. absurd (marked refl);
   }
 
   -- behind main the run ends
   at_halt : (act : Activation) (names : List (List ℕ)) → Owed code heartbeat 0 act fuel root names [] term.Halt fin
-  at_halt act names i st state shows stands =
-      serial.ends state (ending.Root (record { stop = Done; output = st.output; ticks = st.ticks }))
-      (halts code heartbeat state (at_end code state term.Halt stands) shows.ends shows.free false ∙ ap Ends (ended_is code Done st (advanced state) shows.ends shows.ticks shows.printed))
+  at_halt act names i st state shows stands = λ given can.
+      owes.ends state (ending.Root (record { stop = Done; output = st.output; ticks = st.ticks }))
+      (halts code heartbeat state (at_end code state term.Halt stands) shows.ends shows.free true ∙ ap Ends (ended_is code Done st (advanced state) shows.ends shows.ticks shows.printed))
 
   module _ (expr_law : ExprLaw code heartbeat) (program : Program) (given : List Table) (holdings : List Holding) (is : IsProgram code program) (there : AreGiven program.tables.items given) (holds : AreHeld program.tables.items given holdings) where
     abbrev act : Activation
@@ -169,7 +188,7 @@ module _ (code : Listing) (heartbeat fuel : ℕ) where
     inside : 0 + levels_cell < stack.base + length stack.cells
     inside = omega (arith, size_is, is.has_room.room)
 
-    making : Making code heartbeat 0 act fuel expr_law root (omega arith) (λ i. refl) (λ i. refl) given tt [] (input_cells ds given) ds whole.first_state with_levels
+    making : Making code heartbeat 0 act fuel expr_law root (omega arith) (λ i. refl) (λ i. refl) (λ i ts. tt) given tt [] (input_cells ds given) ds whole.first_state with_levels
     unfolding with_levels first stack zeroth
     making = record {
       shows = record {
@@ -177,6 +196,7 @@ module _ (code : Listing) (heartbeat fuel : ℕ) where
         base = refl;
         limit = refl;
         limited = refl;
+        tall = omega arith;
         ticks = refl;
         within = omega arith;
         begun = omega arith;
@@ -189,6 +209,7 @@ module _ (code : Listing) (heartbeat fuel : ℕ) where
         few = omega arith;
         tabled = refl;
         held = tt;
+        can = tt;
         ranged = All-nil TableInRange;
         levels = word_same stack (0 + levels_cell) (word.Int (pos MAX_CALL_DEPTH)) (omega arith) inside;
         unmarked = refl;
@@ -221,7 +242,7 @@ module _ (code : Listing) (heartbeat fuel : ℕ) where
     all_made =
         on_salloc code heartbeat K zeroth act.size (next code zeroth _ _ is.end here) (omega (arith, is.has_room.fits))
         (stores_in code heartbeat 0 act fuel K first levels_cell (value.Int (pos MAX_CALL_DEPTH)) is.makes is.end second refl (omega arith) inside
-        (makes_law code heartbeat 0 act fuel expr_law root (omega arith) (λ i. refl) (λ i. refl) given is.made is.end [] code.tables refl refl is.declared there main_gives main_owed
+        (makes_law code heartbeat 0 act fuel expr_law root (omega arith) (λ i. refl) (λ i. refl) (λ i ts. tt) given is.made is.end [] code.tables refl refl is.declared there main_gives main_owed
         (input_cells ds given) tt whole.first_state with_levels making (behind code 0 1 _ is.makes is.end second)))
 
     -- the end is that of the whole run
@@ -231,15 +252,18 @@ module _ (code : Listing) (heartbeat fuel : ℕ) where
         ap outcome_by (sym (after_then (make_tables given (input_cells ds given) ds whole.first_state) (run_list (setting program fuel 0 []) program.main.items) fin))
         ∙ same_by (whole_run program given fuel).stop (whole_run program given fuel) refl
 
-    pub program_bound : BoundSerially code heartbeat 0 (first_state holdings fuel) (ending.Root (meaning program given fuel))
+    -- the first task is bound to the meaning of the program, whatever is diverted
+    pub program_bound : CanRun code (first_state holdings fuel) → Bound code heartbeat false 0 (first_state holdings fuel) (ending.Root (meaning program given fuel))
     unfolding K zeroth
-    program_bound = subst (λ (o : Outcome). BoundSerially code heartbeat 0 zeroth (ending.Root o)) end_is all_made
+    program_bound can = subst (λ (o : Outcome). Bound code heartbeat false 0 zeroth (ending.Root o)) end_is (all_made tt can)
 
--- The first task of a code that is the code of a program owes the meaning of the program.
-pub owes_meaning : (code : Listing) (heartbeat : ℕ) (expr_law : ExprLaw code heartbeat) (program : Program) (given : List Table) (holdings : List Holding) (fuel : ℕ) → IsProgram code program → AreGiven program.tables.items given → AreHeld program.tables.items given holdings → BelongsTo code (first_state holdings fuel)
-    → OwesSerially code heartbeat 0 (first_state holdings fuel) (ending.Root (meaning program given fuel))
-owes_meaning code heartbeat expr_law program given holdings fuel is there holds belongs = record {
-  belongs = belongs;
-  waits_not = refl;
-  bound = program_bound code heartbeat fuel expr_law program given holdings is there holds;
-}
+module _ (code : Listing) (heartbeat : ℕ) (expr_law : ExprLaw code heartbeat) (program : Program) (given : List Table) (holdings : List Holding) (fuel : ℕ) where
+  -- The first task of a code that is the code of a program owes the meaning of the program where nothing is
+  -- diverted, since it is bound to it whatever is diverted.
+  pub owes_meaning : IsProgram code program → AreGiven program.tables.items given → AreHeld program.tables.items given holdings → CanRun code (first_state holdings fuel)
+      → OwesSerially code heartbeat 0 (first_state holdings fuel) (ending.Root (meaning program given fuel))
+  owes_meaning is there holds can = record {
+    belongs = can.runs.belongs;
+    waits_not = refl;
+    bound = owes_serially code heartbeat 0 (first_state holdings fuel) (ending.Root (meaning program given fuel)) (program_bound code heartbeat fuel expr_law program given holdings is there holds can);
+  }

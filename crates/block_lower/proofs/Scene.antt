@@ -1,11 +1,12 @@
 -- What a task owes at a place of a code, inside whatever goes on round it.
-use Rattle.std.proofs.Common.{◌≡◌, ◌≢◌, ℕ, ◌+◌, ◌<◌, ◌≤◌, Bool, true, false, List, [], ◌∷◌, ◌++◌, length, Option, None, Some, All, ◌⊎◌}
-use Rattle.std.specs.Prelude.{pos, ⊤}
+use Rattle.std.proofs.Common.{◌≡◌, ◌≢◌, ℕ, ◌+◌, ◌<◌, ◌≤◌, Bool, true, false, List, [], ◌∷◌, ◌++◌, length, Option, None, Some, All}
+use Rattle.std.specs.Prelude.{ℤ, pos, ⊤}
 use Rattle.std.specs.List.{AllByRecursion}
 use Rattle.beat_count.specs.FuelState.{FuelState}
 use Rattle.slices.specs.Holding.{Holding}
 use Rattle.stack_marks.specs.declared.mark.Mark.{Mark}
 use Rattle.stack_marks.specs.Stacks.{StackValue, word_at}
+use Rattle.tp_value.specs.declared.Table.{Table}
 use Rattle.tp_value.specs.declared.Stop.{Stop}
 use Rattle.tp_value.specs.declared.Stop.TheVariants.{Done, Trap, NoFuel}
 use Rattle.tpal_syntax.specs.declared.instructions.Instr.{Instr}
@@ -19,17 +20,19 @@ use Rattle.tpal_machine.specs.declared.ends.Goal.{Goal}
 use Rattle.tpal_machine.specs.declared.ends.Tie.{Tie}
 use Rattle.tpal_machine.specs.Effect.{is_marked_from}
 use Rattle.tpal_machine.specs.Ended.{ended}
-use Rattle.tpal_machine.specs.Owes.{is_at_point}
+use Rattle.tpal_machine.specs.Merge.{ended_together}
 use Rattle.tpal_machine.specs.Reading.{register}
 use Rattle.tpal_machine.specs.State as machine
-use Rattle.tpal_machine.specs.Step.{Beats, Ends, Goes, step}
+use Rattle.tpal_machine.specs.Step.{Ends, step}
 use Rattle.tpal_machine.proofs.Kit.{Back}
 use Rattle.loop_meaning.specs.InRange.{TableInRange}
 use Rattle.loop_meaning.specs.State as meaning
-use Rattle.loop_meaning.specs.State.{Note, Chance}
+use Rattle.loop_meaning.specs.State.{Writes, write_cell}
 use Rattle.expr_lower.specs.Standing.{Remains}
 use Rattle.block_lower.specs.Layout.{levels_cell, value_cell, Activation}
-use Rattle.block_lower.proofs.Regions.{Region, AreShown, IsQuiet, AtMostAChance, Covers}
+use Rattle.block_lower.proofs.Activations.{StandsFrom}
+use Rattle.block_lower.proofs.Promises.{Promise}
+use Rattle.block_lower.proofs.Regions.{Region, AreShown, Covers}
 use Rattle.block_lower.proofs.Results.{Result, noting, out}
 use Rattle.block_lower.proofs.Tables.{table_names}
 use Rattle.block_lower.proofs.Variables.{AreHeld, var_names}
@@ -78,28 +81,59 @@ pub record IsUncut (state u : machine.State) : Type 0 where
   pub free : u.pending ≡ None
   pub unmet : u.met ≡ None
 
--- a task of a world, whichever statement runs in it: its ticks and its tables are those of a state, some of it
--- printed before it began
-pub record RunsIn (fuel : ℕ) (marks : List Mark) (goal : Goal) (before : List ℕ) (since : ℕ) (region : Region) (kept : StackValue → Type 0) (st : meaning.State) (state : machine.State) : Type 0 where
-  pub size : length state.registers ≡ 32
+-- ---- what a world says of its task
+
+pub record Facts : Type 1 where
+  pub marks : List Mark
+  pub goal : Goal
+  -- what was printed before its task began, and at least how many ticks there were
+  pub before : List ℕ
+  pub since : ℕ
+  -- how much its task holds of each table
+  pub region : Region
+  -- what is kept on the stack below a level
+  pub kept : StackValue → Type 0
+  -- which tables its statements may meet
+  pub can : List Table → Type 0
+
+-- the same of each world
+pub record Surroundings (World : Type 0) : Type 1 where
+  pub marks : World → List Mark
+  pub goal : World → Goal
+  pub before : World → List ℕ
+  pub since : World → ℕ
+  pub region : World → Region
+  pub kept : World → StackValue → Type 0
+  pub can : World → List Table → Type 0
+
+abbrev pub facts : {World : Type 0} → Surroundings World → World → Facts
+facts around i = record { marks = around.marks i; goal = around.goal i; before = around.before i; since = around.since i; region = around.region i; kept = around.kept i; can = around.can i }
+
+-- A task of a world, whichever statement runs in it: its ticks and its tables are those of a state, some of it
+-- printed before it began. So many cells of the activation that begins at z stand. More marks may stand above.
+pub record RunsIn (z size fuel : ℕ) (world : Facts) (more : List Mark) (st : meaning.State) (state : machine.State) : Type 0 where
+  pub many : length state.registers ≡ 32
   pub limit : state.fuel.limit ≡ fuel
   pub ticks : state.fuel.ticks ≡ st.ticks
   pub within : st.ticks ≤ fuel
-  pub begun : since ≤ st.ticks
-  pub printed : st.output ≡ before ++ state.output
-  pub ends : state.goal ≡ goal
+  pub begun : world.since ≤ st.ticks
+  pub printed : st.output ≡ world.before ++ state.output
+  pub ends : state.goal ≡ world.goal
   pub free : state.pending ≡ None
   pub unmet : state.met ≡ None
-  pub marked : state.stack.marks ≡ marks
-  pub held : AreShown region state.tables st.tables
+  pub marked : state.stack.marks ≡ world.marks ++ more
+  pub held : AreShown world.region state.tables st.tables
+  pub can : world.can st.tables
   pub ranged : All TableInRange st.tables
-  pub keeps : kept state.stack
+  pub low : state.stack.base ≤ z
+  pub tall : z + size ≤ state.stack.base + length state.stack.cells
+  pub keeps : world.kept state.stack
 
--- the same with another bound of the ticks before, and with another fact about the stack
-module _ {fuel : ℕ} {marks : List Mark} {goal : Goal} {before : List ℕ} {since : ℕ} {region : Region} {kept : StackValue → Type 0} {st : meaning.State} {state : machine.State} (runs : RunsIn fuel marks goal before since region kept st state) where
-  pub runs_since : (other : ℕ) → other ≤ st.ticks → RunsIn fuel marks goal before other region kept st state
-  runs_since other begun = record {
-    size = runs.size;
+-- the same with another bound of the ticks before, and of another activation with another fact about the stack
+module _ {z size fuel : ℕ} {world : Facts} {more : List Mark} {st : meaning.State} {state : machine.State} (runs : RunsIn z size fuel world more st state) where
+  pub runs_since : (since : ℕ) → since ≤ st.ticks → RunsIn z size fuel (record world { since = since }) more st state
+  runs_since since begun = record {
+    many = runs.many;
     limit = runs.limit;
     ticks = runs.ticks;
     within = runs.within;
@@ -110,13 +144,16 @@ module _ {fuel : ℕ} {marks : List Mark} {goal : Goal} {before : List ℕ} {sin
     unmet = runs.unmet;
     marked = runs.marked;
     held = runs.held;
+    can = runs.can;
     ranged = runs.ranged;
+    low = runs.low;
+    tall = runs.tall;
     keeps = runs.keeps;
   }
 
-  pub runs_kept : (other : StackValue → Type 0) → other state.stack → RunsIn fuel marks goal before since region other st state
-  runs_kept other keeps = record {
-    size = runs.size;
+  pub runs_kept : (y cells : ℕ) (kept : StackValue → Type 0) → state.stack.base ≤ y → y + cells ≤ state.stack.base + length state.stack.cells → kept state.stack → RunsIn y cells fuel (record world { kept = kept }) more st state
+  runs_kept y cells kept low tall keeps = record {
+    many = runs.many;
     limit = runs.limit;
     ticks = runs.ticks;
     within = runs.within;
@@ -127,16 +164,24 @@ module _ {fuel : ℕ} {marks : List Mark} {goal : Goal} {before : List ℕ} {sin
     unmet = runs.unmet;
     marked = runs.marked;
     held = runs.held;
+    can = runs.can;
     ranged = runs.ranged;
+    low = low;
+    tall = tall;
     keeps = keeps;
   }
 
+-- a stop before the end
 abbrev pub IsEarly : Stop → Type 0
 IsEarly Done = ⊥
 IsEarly (Trap kind place) = ⊤
 IsEarly NoFuel = ⊤
 
 -- ---- scenes
+
+-- the cells of an activation for the label to return to, for the record of a side, and for the levels of calls
+abbrev pub header : ℕ
+header = 3
 
 -- What goes on round a statement, in an activation that begins at z. Its worlds are closed under cuts of their
 -- oldest mark.
@@ -147,18 +192,15 @@ pub record Scene (code : Listing) (heartbeat z : ℕ) : Type 1 where
   pub fuel : ℕ
   -- the block to which each promotion-ready block diverts
   pub dispatch : ℕ
-  -- what a task owes in a world for each result of the statement, and what it owes where it was diverted
-  pub owing : World → Result → Back code heartbeat
-  pub diverted : World → Result → machine.State → Type 0
-  pub marks : World → List Mark
-  pub goal : World → Goal
-  -- what was printed before its task began, and at least how many ticks there were
-  pub before : World → List ℕ
-  pub since : World → ℕ
-  -- the cells of tables that its task holds
-  pub region : World → Region
-  -- what is kept on the stack below a level, and which cells of the activation may change there
-  pub kept : World → StackValue → Type 0
+  -- how many cells of the activation stand at least, whichever statement runs
+  pub size : ℕ
+  -- what a task owes in a world for each result of the statement
+  pub promise : Promise code heartbeat World
+  pub open promise use *
+  -- what its task is like in a world
+  pub around : Surroundings World
+  pub open around use *
+  -- from which level on nothing is kept, and which cells of the activation may change below
   pub lowest : ℕ
   pub may : ℕ → Type 0
   -- the world of the left part, where the oldest mark is cut under a record, and so much was printed
@@ -166,26 +208,22 @@ pub record Scene (code : Listing) (heartbeat z : ℕ) : Type 1 where
   pub stable : (i : World) (level : ℕ) (s t : StackValue) → lowest ≤ level → Same z may level s t → kept i s → kept i t
   -- the marks of a world stand below that level
   pub below : (i : World) → is_marked_from (marks i) (z + value_cell lowest) ≡ false
-  -- a stop ends the task
+  -- a stop ends the task, with nothing but its stop, its ticks and its output
   pub stops : (i : World) (stop : Stop) (st : meaning.State) (state last : machine.State) → IsEarly stop → last.fuel.ticks ≡ st.ticks → st.output ≡ before i ++ last.output → last.goal ≡ goal i
       → ((allowed : Bool) → step code heartbeat allowed state ≡ Ends (ended code stop last)) → (owing i (out stop st)).Holds state
-  -- what a run touches is held
-  pub touches : (i : World) (ns : List Note) (r : Result) (state : machine.State) → AllByRecursion IsQuiet ns → (AllByRecursion (Covers (region i)) ns → (owing i r).Holds state) → (owing i (noting ns r)).Holds state
-  -- at a promotion point it may be diverted, and a chance may be counted there
-  pub points : (i : World) (ns : List Note) (r : Result) (state after : machine.State) → AtMostAChance ns → is_at_point code after ≡ true → step code heartbeat false state ≡ Goes after
-      → (step code heartbeat true state ≡ Goes after) ⊎ ((other : machine.State) × (step code heartbeat true state ≡ Beats other) × diverted i r other)
-      → (owing i r).Holds after → (owing i (noting ns r)).Holds state
-  -- as long as no code has promotion points, chances aren't counted
-  pub passes : (i : World) (r : Result) (state : machine.State) → (owing i r).Holds state → (owing i (noting (Chance ∷ []) r)).Holds state
+  pub stopped : (i : World) (stop : Stop) (st : meaning.State) (output : List ℕ) → IsEarly stop → st.output ≡ before i ++ output → ending i (out stop st) ≡ ended_together (goal i) stop st.ticks output
+  -- what a run touches is held, and where it writes it meets tables that it may meet
+  pub covers : (i : World) (r : Result) → given i r → AllByRecursion (Covers (region i)) r.notes
+  pub allows : (i : World) (t : List ℕ) (a b n : ℤ) (ts : List Table) (r : Result) → given i (noting (Writes t a b ∷ []) r) → can i ts → can i (write_cell ts t a b n)
+  -- whether promotion points may be reached
+  pub is_open : Bool
   -- A diverted task whose oldest mark is that of a world: where it owes what it should as soon as it goes back,
-  -- in this world and in the one behind a cut, it owes it. More marks may stand above.
-  pub handles : (i : World) (more : List Mark) (r : Result) (st : meaning.State) (state : machine.State) → (marks i ≡ [] → ⊥) → IsDiverted dispatch state
-      → RunsIn fuel (marks i ++ more) (goal i) (before i) (since i) (region i) (kept i) st state
+  -- in this world and in the one behind a cut, it owes it. More marks may stand in its activation and above.
+  pub handles : is_open ≡ true → (i : World) (more : List Mark) (r : Result) (st : meaning.State) (state : machine.State) → (marks i ≡ [] → ⊥) → AllByRecursion (StandsFrom (z + value_cell lowest)) more → IsDiverted dispatch state
+      → RunsIn z size fuel (facts around i) more st state
       → ((u : machine.State) → GoesBack code state u → IsUncut state u → (owing i r).Holds u)
-      → ((k : ℕ) (u : machine.State) → GoesBack code state u → Near z may lowest state.stack u.stack
-      → RunsIn fuel (marks (cut i k st.output) ++ more) (goal (cut i k st.output)) (before (cut i k st.output)) (since (cut i k st.output)) (region (cut i k st.output)) (kept (cut i k st.output)) st u
-      → (owing (cut i k st.output) r).Holds u)
-      → diverted i r state
+      → ((k : ℕ) (u : machine.State) → GoesBack code state u → Near z may lowest state.stack u.stack → RunsIn z size fuel (facts around (cut i k st.output)) more st u → (owing (cut i k st.output) r).Holds u)
+      → (diverted i r).Holds state
 
 module _ (code : Listing) (heartbeat z : ℕ) (act : Activation) (fuel : ℕ) where
   -- a task shows a state in which these variables are visible
@@ -194,6 +232,7 @@ module _ (code : Listing) (heartbeat z : ℕ) (act : Activation) (fuel : ℕ) wh
     pub base : register words 31 ≡ Int (pos z)
     pub limit : spent.limit ≡ fuel
     pub limited : S.fuel ≡ fuel
+    pub tall : S.size ≤ act.size
     pub ticks : spent.ticks ≡ st.ticks
     pub within : st.ticks ≤ fuel
     pub begun : S.since i ≤ st.ticks
@@ -206,6 +245,7 @@ module _ (code : Listing) (heartbeat z : ℕ) (act : Activation) (fuel : ℕ) wh
     pub few : length names ≤ act.most
     pub tabled : table_names st.tables ≡ act.tables
     pub held : AreShown (S.region i) holdings st.tables
+    pub can : S.can i st.tables
     pub ranged : All TableInRange st.tables
     pub levels : word_at stack (pos (z + levels_cell)) ≡ Some (Int (pos S.levels))
     pub unmarked : is_marked_from stack.marks (z + act.size) ≡ false

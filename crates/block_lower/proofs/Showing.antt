@@ -46,6 +46,7 @@ module _ (code : Listing) (heartbeat z : ℕ) (act : Activation) (fuel : ℕ) (S
     base = same ∙ h.base;
     limit = h.limit;
     limited = h.limited;
+    tall = h.tall;
     ticks = h.ticks;
     within = h.within;
     begun = h.begun;
@@ -58,6 +59,7 @@ module _ (code : Listing) (heartbeat z : ℕ) (act : Activation) (fuel : ℕ) (S
     few = h.few;
     tabled = h.tabled;
     held = h.held;
+    can = h.can;
     ranged = h.ranged;
     levels = h.levels;
     unmarked = h.unmarked;
@@ -79,6 +81,7 @@ module _ (code : Listing) (heartbeat z : ℕ) (act : Activation) (fuel : ℕ) (S
         base = h.base;
         limit = h.limit;
         limited = h.limited;
+        tall = h.tall;
         ticks = h.ticks;
         within = h.within;
         begun = h.begun;
@@ -91,6 +94,7 @@ module _ (code : Listing) (heartbeat z : ℕ) (act : Activation) (fuel : ℕ) (S
         few = h.few;
         tabled = h.tabled;
         held = h.held;
+        can = h.can;
         ranged = h.ranged;
         levels = word_other stack (z + cell) (z + levels_cell) w from (λ (q : z + levels_cell ≡ z + cell). absurd (omega (arith, q, above))) ∙ h.levels;
         unmarked = h.unmarked;
@@ -114,6 +118,7 @@ module _ (code : Listing) (heartbeat z : ℕ) (act : Activation) (fuel : ℕ) (S
         base = h.base;
         limit = h.limit;
         limited = h.limited;
+        tall = h.tall;
         ticks = h.ticks;
         within = h.within;
         begun = h.begun;
@@ -126,6 +131,7 @@ module _ (code : Listing) (heartbeat z : ℕ) (act : Activation) (fuel : ℕ) (S
         few = omega (arith, length-append names (x ∷ []));
         tabled = h.tabled;
         held = h.held;
+        can = h.can;
         ranged = h.ranged;
         levels = h.levels;
         unmarked = h.unmarked;
@@ -148,6 +154,7 @@ module _ (code : Listing) (heartbeat z : ℕ) (act : Activation) (fuel : ℕ) (S
         base = h.base;
         limit = h.limit;
         limited = h.limited;
+        tall = h.tall;
         ticks = h.ticks;
         within = h.within;
         begun = h.begun;
@@ -160,6 +167,7 @@ module _ (code : Listing) (heartbeat z : ℕ) (act : Activation) (fuel : ℕ) (S
         few = h.few;
         tabled = h.tabled;
         held = h.held;
+        can = h.can;
         ranged = h.ranged;
         levels = word_other stack (z + cell) (z + levels_cell) (Int n) from (λ (q : z + levels_cell ≡ z + cell). absurd (omega (arith, q, c.at_level))) ∙ h.levels;
         unmarked = h.unmarked;
@@ -185,6 +193,7 @@ module _ (code : Listing) (heartbeat z : ℕ) (act : Activation) (fuel : ℕ) (S
         base = h.base;
         limit = h.limit;
         limited = h.limited;
+        tall = h.tall;
         ticks = rw (h.limit, h.ticks) refl;
         within = omega (arith, next);
         begun = omega (arith, next, h.begun);
@@ -197,6 +206,7 @@ module _ (code : Listing) (heartbeat z : ℕ) (act : Activation) (fuel : ℕ) (S
         few = h.few;
         tabled = h.tabled;
         held = h.held;
+        can = h.can;
         ranged = h.ranged;
         levels = h.levels;
         unmarked = h.unmarked;
@@ -215,6 +225,7 @@ module _ (code : Listing) (heartbeat z : ℕ) (act : Activation) (fuel : ℕ) (S
     base = h.base;
     limit = h.limit;
     limited = h.limited;
+    tall = h.tall;
     ticks = h.ticks;
     within = h.within;
     begun = h.begun;
@@ -227,6 +238,7 @@ module _ (code : Listing) (heartbeat z : ℕ) (act : Activation) (fuel : ℕ) (S
     few = h.few;
     tabled = h.tabled;
     held = h.held;
+    can = h.can;
     ranged = h.ranged;
     levels = h.levels;
     unmarked = h.unmarked;
@@ -239,12 +251,13 @@ module _ (code : Listing) (heartbeat z : ℕ) (act : Activation) (fuel : ℕ) (S
 
   -- other tables of these names
   pub shows_tables : {names : List (List ℕ)} {st : meaning.State} {words : List Word} {stack : StackValue} {holdings : List Holding} {spent : FuelState} {output : List ℕ} {goal : Goal} {ties : Option Tie × Option Tie} → Shown names st words stack holdings spent output goal ties
-      → (ts : List Table) (hs : List Holding) → table_names ts ≡ table_names st.tables → AreShown (S.region i) hs ts → All TableInRange ts → Shown names (record st { tables = ts }) words stack hs spent output goal ties
-  shows_tables h ts hs named held ranged = record {
+      → (ts : List Table) (hs : List Holding) → table_names ts ≡ table_names st.tables → AreShown (S.region i) hs ts → S.can i ts → All TableInRange ts → Shown names (record st { tables = ts }) words stack hs spent output goal ties
+  shows_tables h ts hs named held can ranged = record {
     size = h.size;
     base = h.base;
     limit = h.limit;
     limited = h.limited;
+    tall = h.tall;
     ticks = h.ticks;
     within = h.within;
     begun = h.begun;
@@ -257,6 +270,7 @@ module _ (code : Listing) (heartbeat z : ℕ) (act : Activation) (fuel : ℕ) (S
     few = h.few;
     tabled = named ∙ h.tabled;
     held = held;
+    can = can;
     ranged = ranged;
     levels = h.levels;
     unmarked = h.unmarked;
@@ -275,6 +289,7 @@ module _ (code : Listing) (heartbeat z : ℕ) (act : Activation) (fuel : ℕ) (S
     base = h.base;
     limit = h.limit;
     limited = h.limited;
+    tall = h.tall;
     ticks = h.ticks;
     within = h.within;
     begun = h.begun;
@@ -287,6 +302,7 @@ module _ (code : Listing) (heartbeat z : ℕ) (act : Activation) (fuel : ℕ) (S
     few = omega (arith, ap length is, length-take n names, h.few);
     tabled = h.tabled;
     held = h.held;
+    can = h.can;
     ranged = h.ranged;
     levels = h.levels;
     unmarked = h.unmarked;

@@ -65,24 +65,20 @@ module _ (code : Listing) (heartbeat z : ℕ) where
     levels = S.levels;
     fuel = S.fuel;
     dispatch = S.dispatch;
-    owing = S.owing;
-    diverted = S.diverted;
-    marks = S.marks;
-    goal = S.goal;
-    before = S.before;
-    since = λ i. max (S.since i) n;
-    region = S.region;
-    kept = S.kept;
+    size = S.size;
+    promise = S.promise;
+    around = record S.around { since = λ i. max (S.since i) n };
     lowest = S.lowest;
     may = S.may;
     cut = S.cut;
     stable = S.stable;
     below = S.below;
     stops = S.stops;
-    touches = S.touches;
-    points = S.points;
-    passes = S.passes;
-    handles = λ i more r st state marked diverted runs back cut. S.handles i more r st state marked diverted (runs_since runs (S.since i) (omega (arith, runs.begun))) back
+    stopped = S.stopped;
+    covers = S.covers;
+    allows = S.allows;
+    is_open = S.is_open;
+    handles = λ opened i more r st state marked from diverted runs back cut. S.handles opened i more r st state marked from diverted (runs_since runs (S.since i) (omega (arith, runs.begun))) back
         (λ k u gone near runs_u. cut k u gone near (runs_since runs_u (max (S.since (S.cut i k st.output)) n) (omega (arith, runs.begun, runs_u.begun))));
   }
 
@@ -92,6 +88,7 @@ module _ (code : Listing) (heartbeat z : ℕ) where
     base = h.base;
     limit = h.limit;
     limited = h.limited;
+    tall = h.tall;
     ticks = h.ticks;
     within = h.within;
     begun = omega (arith, h.begun);
@@ -104,6 +101,7 @@ module _ (code : Listing) (heartbeat z : ℕ) where
     few = h.few;
     tabled = h.tabled;
     held = h.held;
+    can = h.can;
     ranged = h.ranged;
     levels = h.levels;
     unmarked = h.unmarked;
@@ -120,6 +118,7 @@ module _ (code : Listing) (heartbeat z : ℕ) where
     base = h.base;
     limit = h.limit;
     limited = h.limited;
+    tall = h.tall;
     ticks = h.ticks;
     within = h.within;
     begun = omega (arith, h.begun);
@@ -132,6 +131,7 @@ module _ (code : Listing) (heartbeat z : ℕ) where
     few = h.few;
     tabled = h.tabled;
     held = h.held;
+    can = h.can;
     ranged = h.ranged;
     levels = h.levels;
     unmarked = h.unmarked;

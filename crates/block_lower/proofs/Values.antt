@@ -39,7 +39,7 @@ use Rattle.block_lower.specs.Layout.{Activation}
 use Rattle.block_lower.specs.Code.{Computes, Operand, number, computed}
 use Rattle.block_lower.specs.Names.{Sees}
 use Rattle.block_lower.proofs.Moves.{traps}
-use Rattle.block_lower.proofs.Regions.{Covers, IsShown, held_reads, quiet_reads, shown_at}
+use Rattle.block_lower.proofs.Regions.{Covers, HasSize, IsShown, all_front, held_reads, quiet_reads, shown_at, size_shown}
 use Rattle.block_lower.proofs.Results.{Result, noting, noting_then, out, out_noting, result, then}
 use Rattle.block_lower.proofs.Scene.{Scene, ShowsIn}
 use Rattle.block_lower.proofs.Tables.{IsRead, are_read}
@@ -66,6 +66,9 @@ module _ (code : Listing) (heartbeat z : ℕ) (act : Activation) (fuel : ℕ) (S
   pub shown : (scope : Scope) → Sees scope names act.tables → (t : List ℕ) → HasTable scope t → IsShown (S.region i t) (table_at state.tables (table_number scope t)) (table_of st.tables t)
   shown scope sees t has = shown_at (S.region i) state.tables st.tables scope.tables.items t shows.held (sees.listed ∙ sym shows.tabled) has
 
+  sized : (scope : Scope) → Sees scope names act.tables → (t : List ℕ) → HasTable scope t → HasSize (table_at state.tables (table_number scope t)) (table_of st.tables t)
+  sized scope sees t has = size_shown (S.region i t) (table_at state.tables (table_number scope t)) (table_of st.tables t) (shown scope sees t has)
+
   -- a task holds what stands in a scope, with those cells that are held
   pub holds_with : (scope : Scope) → Sees scope names act.tables → (notes : List Note) → AllByRecursion (IsHeld scope st.tables state) notes → Holds scope st.vars st.tables notes state
   holds_with scope sees notes cells = record {
@@ -73,8 +76,8 @@ module _ (code : Listing) (heartbeat z : ℕ) (act : Activation) (fuel : ℕ) (S
     base = pos z;
     is_base = shows.base;
     variables = λ x has. held_lookup state.stack z scope.cells.items 0 st.vars x sees.laid (sees.named ∙ sym shows.named) has shows.vars;
-    rows = λ t has. (shown scope sees t has).rows;
-    cols = λ t has. (shown scope sees t has).cols;
+    rows = λ t has. (sized scope sees t has).rows;
+    cols = λ t has. (sized scope sees t has).cols;
     cells = cells;
   }
 
@@ -110,7 +113,8 @@ module _ (code : Listing) (heartbeat z : ℕ) (act : Activation) (fuel : ℕ) (e
 
       -- what is read is held, and needn't be told
       reads : (q : Result) → (Holds c.scope st.vars st.tables notes state → (S.owing i q).Holds state) → (S.owing i (noting notes q)).Holds state
-      reads q go_on = S.touches i notes q state (quiet_reads c.scope st.tables notes read) (λ covered. go_on (holds code heartbeat z act fuel S i names st state shows c.scope c.sees e c.inside covered))
+      reads q go_on = S.touches i notes q state (quiet_reads c.scope st.tables notes read) (λ given.
+          go_on (holds code heartbeat z act fuel S i names st state shows c.scope c.sees e c.inside (all_front (Covers (S.region i)) notes q.notes (S.covers i (noting notes q) given))))
 
       by_answer : (a : Answer) → (eval st.vars st.tables e).answer ≡ a → (S.owing i (then (result (given_answer a notes st f)) k)).Holds state
       by_answer (Number n) is =

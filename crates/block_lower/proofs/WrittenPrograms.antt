@@ -178,5 +178,5 @@ owes_of p code right is = record {
   owes = λ given holdings heartbeat fuel are named held.
       owes_meaning code heartbeat (λ K scope vars tables e label r inside low blocks. expr_law code heartbeat K scope vars tables e label r inside low blocks)
       p given holdings fuel is (given_tables_are p.tables.items given are named) held
-      (first_of code holdings fuel right (as_many_held p.tables.items code.tables given holdings is.declared held)).belongs;
+      (record { right = right; runs = first_of code holdings fuel right (as_many_held p.tables.items code.tables given holdings is.declared held) });
 }

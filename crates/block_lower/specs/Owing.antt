@@ -1,5 +1,5 @@
 -- What the code of a program owes.
-use Rattle.std.specs.Prelude.{◌≡◌, ℕ, ◌*◌, ℤ, true, ⊤, List, [], ◌∷◌, length, Some}
+use Rattle.std.specs.Prelude.{◌≡◌, ℕ, ◌*◌, ℤ, true, false, ⊤, List, [], ◌∷◌, length, None, Some}
 use Rattle.slices.specs.Holding.{Holding, cell_at}
 use Rattle.std.specs.List.{All}
 use Rattle.tp_value.specs.declared.values.Table.{Table}
@@ -38,12 +38,13 @@ pub record IsTable (t : Table) : Type 0 where
   pub full : length t.cells ≡ t.rows * t.cols
   pub ranged : TableInRange t
 
--- each cell of a table is held, with its number
+-- each cell of a table is held, with its number, and nothing else is
 pub record IsWholeOf (h : Holding) (t : Table) : Type 0 where
   pub rows : h.rows ≡ t.rows
   pub cols : h.cols ≡ t.cols
   pub full : length t.cells ≡ t.rows * t.cols
   pub cells : (i j : ℤ) → has_cell t i j ≡ true → cell_at h i j ≡ Some (cell_of t i j)
+  pub outside : (i j : ℤ) → has_cell t i j ≡ false → cell_at h i j ≡ None
 
 -- each declared input has a table of its name
 abbrev pub AreNamed : List TableDecl → List Table → Type 0

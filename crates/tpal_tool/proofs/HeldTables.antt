@@ -25,6 +25,13 @@ listed_is rows cols cells name (pos r) (pos k) full here =
 listed_is rows cols cells name (pos r) (negsuc k) full here = absurd (false≢true (both (nat_lt r rows) false here).1)
 listed_is rows cols cells name (negsuc r) j full here = cc
 
+-- a cell that a table hasn't is listed nowhere
+unlisted : (t : Table) (i j : ℤ) → has_cell t i j ≡ false → listed t.rows t.cols t.cells i j ≡ None
+unlisted t (pos r) (pos k) none = rw none refl
+unlisted t (pos r) (negsuc k) none = refl
+unlisted t (negsuc r) (pos k) none = refl
+unlisted t (negsuc r) (negsuc k) none = refl
+
 -- the cells of a table are held whole, where they are listed in a held table of its size
 pub whole_of : (h : Holding) (t : Table) → h.rows ≡ t.rows → h.cols ≡ t.cols → length t.cells ≡ t.rows * t.cols → ((i j : ℤ) → cell_at h i j ≡ listed t.rows t.cols t.cells i j) → IsWholeOf h t
 whole_of h t rows cols full cells = record {
@@ -32,4 +39,5 @@ whole_of h t rows cols full cells = record {
   cols = cols;
   full = full;
   cells = λ i j here. cells i j ∙ listed_is t.rows t.cols t.cells t.name i j full here;
+  outside = λ i j none. cells i j ∙ unlisted t i j none;
 }

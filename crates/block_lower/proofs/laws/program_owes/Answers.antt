@@ -12,5 +12,5 @@ returns c = λ is. record {
       let ds = c.args.program.now.tables.items in
       owes_meaning code heartbeat (λ K scope vars tables e label r inside low blocks. expr_law code heartbeat K scope vars tables e label r inside low blocks)
       c.args.program.now given holdings fuel is (given_tables_are ds given are named) held
-      (first_of code holdings fuel c.blocks-blocks.ensures.right (as_many_held ds code.tables given holdings is.declared held)).belongs;
+      (record { right = c.blocks-blocks.ensures.right; runs = first_of code holdings fuel c.blocks-blocks.ensures.right (as_many_held ds code.tables given holdings is.declared held) });
 }
