@@ -118,7 +118,7 @@ shown_whole Wholly h t shown all = record {
 shown_whole (Has test) h t shown all = absurd all
 shown_whole Unknown h t shown all = absurd all
 
-whole_shown : (h : Holding) (t : Table) → IsWholeOf h t → IsShown Wholly h t
+pub whole_shown : (h : Holding) (t : Table) → IsWholeOf h t → IsShown Wholly h t
 whole_shown h t whole = record {
   size = record { rows = whole.rows; cols = whole.cols; full = whole.full };
   cells = λ i j. by_place i j (has_cell t i j) refl;
