@@ -1,11 +1,12 @@
 -- What the law of statements asks of a scene, in one record.
-use Rattle.std.proofs.Common.{◌≡◌, ◌≢◌, ℕ, suc, ◌≤◌, List, [], ◌∷◌, ◌++◌, length, Option, arith}
+use Rattle.std.proofs.Common.{◌≡◌, ◌≢◌, ℕ, suc, ◌<◌, ◌≤◌, false, List, [], ◌∷◌, ◌++◌, length, Option, arith}
 use Rattle.std.specs.Prelude.{ℤ}
 use Rattle.std.specs.List.{AllByRecursion}
 use Rattle.std.proofs.lemmas.List.{length-append}
+use Rattle.tp_value.specs.declared.limits.TheConstants.{MAX_PAR_NESTING}
 use Rattle.loop_syntax.specs.declared.Reduce.{Reduce}
 use Rattle.tpal_syntax.specs.Listing.{Listing}
-use Rattle.block_lower.specs.Layout.{value_cell, bound_cell}
+use Rattle.block_lower.specs.Layout.{bound_cell, cursor_cell, rec_cell, value_cell}
 use Rattle.block_lower.specs.Round.{Round, loop_round, unreduced, par_round}
 use Rattle.block_lower.proofs.Lists.{all_behind}
 use Rattle.block_lower.proofs.Loops.{inside, MayIn}
@@ -21,6 +22,11 @@ module _ (code : Listing) (heartbeat z room : ℕ) where
     pub lowest : S.lowest ≤ length names
     -- each variable that isn't fixed may change
     pub allows : (x : ℕ) → AllByRecursion (λ j. j ≢ x) round.fixed → S.may (value_cell x)
+    -- the cells of the `par` loops inside may change
+    pub controls : (d : ℕ) → round.depth ≤ d → d < MAX_PAR_NESTING
+        → S.may (cursor_cell d) × S.may (rec_cell d)
+    -- no chance is counted
+    pub uncounted : S.counts ≡ false
 
   module _ {S : Scene code heartbeat z} {round : Round} {names : List (List ℕ)}
       (admits : Admits S round names) where
@@ -30,6 +36,8 @@ module _ (code : Listing) (heartbeat z room : ℕ) where
       levels = admits.levels;
       lowest = omega (arith, admits.lowest, longer);
       allows = admits.allows;
+      controls = admits.controls;
+      uncounted = admits.uncounted;
     }
 
     -- with more ticks
@@ -38,6 +46,8 @@ module _ (code : Listing) (heartbeat z room : ℕ) where
       levels = admits.levels;
       lowest = admits.lowest;
       allows = admits.allows;
+      controls = admits.controls;
+      uncounted = admits.uncounted;
     }
 
     -- the cells of a loop don't change in its body; those of another variable may
@@ -47,6 +57,20 @@ module _ (code : Listing) (heartbeat z room : ℕ) where
       λ (q : value_cell x ≡ value_cell (length names)). other (omega (arith, q)),
       λ (q : value_cell x ≡ bound_cell (length names)). absurd (omega (arith, q)),
       may,
+    )
+
+    control : (c : ℕ) → c < value_cell 0 → S.may c → MayIn (length names) S.may c
+    control c below may = (
+      λ (q : c ≡ value_cell (length names)). absurd (omega (arith, q, below)),
+      λ (q : c ≡ bound_cell (length names)). absurd (omega (arith, q, below)),
+      may,
+    )
+
+    inner_controls : (d : ℕ) → round.depth ≤ d → d < MAX_PAR_NESTING
+        → MayIn (length names) S.may (cursor_cell d) × MayIn (length names) S.may (rec_cell d)
+    inner_controls d from below = (
+      control (cursor_cell d) (omega (arith, below)) (admits.controls d from below).0,
+      control (rec_cell d) (omega (arith, below)) (admits.controls d from below).1,
     )
 
     -- inside a loop over the variable behind those that are visible
@@ -62,6 +86,8 @@ module _ (code : Listing) (heartbeat z room : ℕ) where
         levels = admits.levels;
         lowest = deeper;
         allows = λ y free. other_cell y free.0 (admits.allows y free.1);
+        controls = inner_controls;
+        uncounted = admits.uncounted;
       }
 
       pub admits_par : (reduces : List Reduce)
@@ -71,4 +97,6 @@ module _ (code : Listing) (heartbeat z room : ℕ) where
         lowest = deeper;
         allows = λ y free. other_cell y free.0
             (admits.allows y (all_behind _ (unreduced names 0 reduces) round.fixed free.1));
+        controls = λ d from. inner_controls d (omega (arith, from));
+        uncounted = admits.uncounted;
       }

@@ -1,5 +1,5 @@
 -- The laws of calls as statements: of one call, and of two.
-use Rattle.std.proofs.Common.{◌≡◌, ℕ, suc, ◌+◌, ◌<◌, ◌≤◌, List, [], ◌∷◌, length, Some, refl, sym, ap, subst, ◌∙◌, arith}
+use Rattle.std.proofs.Common.{◌≡◌, ℕ, suc, ◌+◌, ◌<◌, ◌≤◌, false, List, [], ◌∷◌, length, Some, refl, sym, ap, subst, ◌∙◌, arith}
 use Rattle.std.specs.Prelude.{ℤ, pos, ⊤, slice_set}
 use Rattle.std.proofs.lemmas.List.{length-set}
 use Rattle.stack_marks.specs.Stacks.{StackValue, word_at, with_word, pushed}
@@ -46,7 +46,7 @@ use Rattle.block_lower.proofs.Values.{ExprLaw}
 use Rattle.block_lower.proofs.Words.{word_same, word_other}
 
 module _ (code : Listing) (heartbeat z : ℕ) (act : Activation) (fuel : ℕ) (fs : List Func) (room : ℕ) (expr_law : ExprLaw code heartbeat) (calls : CallsOwe code heartbeat fuel act.tables act.functions fs room) (place : HasPlace z act room)
-    (S : Scene code heartbeat z) (levels : S.levels ≡ room) (names : List (List ℕ)) (lowest : S.lowest ≤ length names) where
+    (S : Scene code heartbeat z) (levels : S.levels ≡ room) (names : List (List ℕ)) (lowest : S.lowest ≤ length names) (uncounted : S.counts ≡ false) where
   abbrev Showing : S.World → meaning.State → machine.State → Type 0
   Showing i st task = ShowsIn code heartbeat z act fuel S i names st task
 
@@ -99,7 +99,7 @@ module _ (code : Listing) (heartbeat z : ℕ) (act : Activation) (fuel : ℕ) (f
       (arguments_law code heartbeat z act entry.size fuel S i names lowest st expr_law args parameters_rise (omega (arith, above shows.few)) (λ p lt. omega (arith, parameters_fit f.callee entry is_entry (length f.args.items) p arity (omega (arith, lt)))) last one
       (shows_pushed code heartbeat z act entry.size fuel S i names lowest st shows) (behind code state.block state.at _ arguments last stands) (λ ns. with_call (call_at fs fuel room f.callee.text.items f.callee.place ns [] st) (λ v t. done (set_var x v t))) k
       (λ ns task many shows_task stored left.
-      calls_law code heartbeat z act fuel S names entry ⊤ nothing_kept (λ a v t. done (set_var x v t)) k lowest fs f.callee is_entry [] (λ w r u holds. holds) test (store cell (value.Reg 0) ∷ more) last end call
+      calls_law code heartbeat z act fuel S names entry ⊤ nothing_kept (λ a v t. done (set_var x v t)) k lowest uncounted fs f.callee is_entry [] (λ w r u holds. holds) test (store cell (value.Reg 0) ∷ more) last end call
       (λ w v u back fits shows_back also is here.
       assigns (S.owing w.world (k (set_var x v (back_with w.state.vars u)))) w.world (back_with w.state.vars u) back fixed x cell 0 v more end shows_back c may is fits here
       (λ after registers shows_after here_after. post w.world (set_var x v (back_with w.state.vars u)) after shows_after here_after))
@@ -180,7 +180,7 @@ module _ (code : Listing) (heartbeat z : ℕ) (act : Activation) (fuel : ℕ) (f
         (regrouped code task.block (task.at + 1 + 1) (passed code act (length g.args.items) 0 test_second) (passed code act (length ms) 0 test_second) half (ap (λ n. passed code act n 0 test_second) (sym many)) (behind code task.block (task.at + 1) _ _ half here_one))
         (above shows.few) (are_in_pushed stack second.size (kept_cell act) 0 ms are_one) (λ p lt. omega (arith, lt, many, eight, room_kept)) (λ p lt. parameters_fit g.callee second is_second (length ms) p (many ∙ arity_second) (omega (arith, lt)))
         (λ last_task shows_last stored left.
-        calls_law code heartbeat z act fuel S names second First (first_kept room_kept) (λ a u t. done (set_var y u (set_var x a.value t))) k lowest fs g.callee is_second [] (λ w r u holds. holds) test_second _ half end second_call sets_both
+        calls_law code heartbeat z act fuel S names second First (first_kept room_kept) (λ a u t. done (set_var y u (set_var x a.value t))) k lowest uncounted fs g.callee is_second [] (λ w r u holds. holds) test_second _ half end second_call sets_both
         room levels calls place
         (record { world = i; state = st; value = record { value = v; fits = fits }; named = shows.named; few = shows.few; tall = shows.tall })
         (record {
@@ -232,7 +232,7 @@ module _ (code : Listing) (heartbeat z : ℕ) (act : Activation) (fuel : ℕ) (f
         arguments_law code heartbeat z act first.size fuel S i names lowest st expr_law others_args (λ p q lt. omega (arith, lt)) (omega (arith, shows.few)) (λ p lt. omega (arith, lt, eight, room_kept)) last two shows_two here_two
         (λ ms. two_calls (setting reduces) x f.callee ns y g.callee ms (Chance ∷ []) st) k
         (λ ms three as_many shows_three stored_three here_three.
-        calls_law code heartbeat z act fuel S names first (Second (length g.args.items)) (second_kept (length g.args.items) eight room_kept) (λ a v t. follows v a.numbers t) k lowest fs f.callee is_first (Chance ∷ []) S.passes test_first _ last half first_call
+        calls_law code heartbeat z act fuel S names first (Second (length g.args.items)) (second_kept (length g.args.items) eight room_kept) (λ a v t. follows v a.numbers t) k lowest uncounted fs f.callee is_first (Chance ∷ []) (S.passes uncounted) test_first _ last half first_call
         (λ w v u task fits shows_task also is here. makes_second w.world (back_with w.state.vars u) task v w.value.numbers w.value.as_many fits shows_task also is here)
         room levels calls place
         (record { world = i; state = st; value = record { numbers = ms; as_many = as_many }; named = shows.named; few = shows.few; tall = shows.tall })

@@ -4,7 +4,7 @@ use Rattle.std.specs.Prelude.{ℤ, pos}
 use Rattle.beat_count.specs.BeatState.{BeatState}
 use Rattle.beat_count.specs.FuelState.{FuelState}
 use Rattle.slices.specs.Holding.{Holding}
-use Rattle.stack_marks.specs.Stacks.{StackValue, word_at, pushed, popped}
+use Rattle.stack_marks.specs.Stacks.{StackValue, word_at, pushed}
 use Rattle.tp_value.specs.declared.limits.TheConstants.{MAX_CALL_DEPTH, MAX_ACTIVATION_CELLS}
 use Rattle.loop_syntax.specs.declared.Func.{Func}
 use Rattle.loop_rules.specs.Names.{texts}
@@ -100,7 +100,7 @@ module _ (code : Listing) (heartbeat fuel : ℕ) (tables : List (List ℕ)) (ent
   -- a function owes what its body and its result give, in every scene with so many levels of calls left, where it returns
   abbrev pub FunctionOwes : (x : List ℕ) (entry : Entry) → FunctionAt code tables entries fs x entry → ℕ → Type 1
   FunctionOwes x entry f room =
-      (z : ℕ) → HasPlace z (activation_of x entry f) room → (C : Scene code heartbeat z) → C.levels ≡ room → C.lowest ≡ 0 → ((c : ℕ) → header ≤ c → C.may c) → Returns code heartbeat fuel z (activation_of x entry f) C
+      (z : ℕ) → HasPlace z (activation_of x entry f) room → (C : Scene code heartbeat z) → C.levels ≡ room → C.lowest ≡ 0 → ((c : ℕ) → header ≤ c → C.may c) → C.counts ≡ false → Returns code heartbeat fuel z (activation_of x entry f) C
       → OwedAt code heartbeat z (activation_of x entry f) fuel C (texts f.func.params.items) entry.label (λ st. then (result (run_list (body_set fs fuel room) f.func.body.items st)) (value_then f.func.result))
 
   -- each function owes so, where calls have so many levels left

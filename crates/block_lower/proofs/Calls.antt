@@ -1,6 +1,6 @@
 -- The law of a call: from the tick on, where the arguments stand in the new activation.
 use Rattle.std.proofs.Common.{◌≡◌, ◌≢◌, ℕ, zero, suc, ◌+◌, ◌-◌, ◌<◌, ◌≤◌, ◌^◌, false, List, [], ◌∷◌, length, Option, Some, Ok, refl, sym, ap, subst, ◌∙◌, arith, ◌⊎◌, inl, inr}
-use Rattle.std.specs.Prelude.{ℤ, pos, ◌-ℤ◌, ◌+ℤ◌, ⊤, slice_set}
+use Rattle.std.specs.Prelude.{ℤ, pos, ◌-ℤ◌, ◌+ℤ◌, slice_set}
 use Rattle.std.specs.Int.{w64}
 use Rattle.std.specs.List.{AllByRecursion}
 use Rattle.std.proofs.lemmas.Bool.{cases_lt}
@@ -471,7 +471,7 @@ module _ (code : Listing) (heartbeat z : ℕ) (act : Activation) (fuel : ℕ) (S
             (register_other state.registers 31 0 (word.Int (pos z)) (λ (q : 0 ≡ 31). absurd (omega (arith, q))) ∙ is)
             (behind code back 1 _ more last second)))
 
-  module _ (lowest : S.lowest ≤ length names) (fs : List Func) (f : Name) (is_entry : entry_of act.functions f.text.items ≡ Some entry) (begin : List Note) (begin_passes : Passes code heartbeat z S begin) (instrs more : List Instr) (end last : Term) (call : Calls code act f.place entry instrs end more last) (goes : GoesOn more last) where
+  module _ (lowest : S.lowest ≤ length names) (uncounted : S.counts ≡ false) (fs : List Func) (f : Name) (is_entry : entry_of act.functions f.text.items ≡ Some entry) (begin : List Note) (begin_passes : Passes code heartbeat z S begin) (instrs more : List Instr) (end last : Term) (call : Calls code act f.place entry instrs end more last) (goes : GoesOn more last) where
     -- what a task owes at the tick, where calls have so many levels left
     abbrev Owing : ℕ → (w : Waiting) → Making w → Type 0
     Owing room w c = (S.owing w.world (then (result (with_call (call_at fs fuel room f.text.items f.place c.numbers begin w.state) (next_in w.value))) k)).Holds c.task
@@ -494,7 +494,7 @@ module _ (code : Listing) (heartbeat z : ℕ) (act : Activation) (fuel : ℕ) (S
         (on_if code heartbeat K one 0 call.go (pos (suc room)) (next code one _ _ term.Halt here) is_left (above_zero room) (calm code call.go _ _ call.enters)
         (entering code heartbeat z act fuel room call.return K two entry.label there.is.instrs there.is.end there.is.begins (opened code call.go _ _ call.enters) shows.size shows.base is_left (omega (arith, calls.few)) low shows.low (omega (arith, shows.top, there.is.has_room.room))
         (λ words_in beat_in many base.
-        calls.owe f.text.items entry is_entry (z + act.size) place_in (callee code heartbeat z act fuel S names lowest place.has_room A kept next_in k room call.return) refl refl (λ c from. from) (returns lowest place.has_room low room call.return there.most more last call.behind goes) w (entered_with there.func c.numbers (later w.state))
+        calls.owe f.text.items entry is_entry (z + act.size) place_in (callee code heartbeat z act fuel S names lowest place.has_room A kept next_in k room call.return) refl refl (λ c from. from) uncounted (returns lowest place.has_room low room call.return there.most more last call.behind goes) w (entered_with there.func c.numbers (later w.state))
         (record two { registers = words_in; stack = entered_stack z act.size room call.return c.task.stack; beat = beat_in; block = entry.label; at = 0 })
         (shows_callee code heartbeat z act fuel S names lowest place.has_room A kept next_in k room call.return entry w c there.most there.func words_in spent (later w.state) there.arity (omega (arith, there.is.params, length-map there.func.params.items (λ (x : Name). x.text.items))) there.is.has_room
         (shows_words code heartbeat z (wider act entry.size) fuel S w.world shows c.task.registers (c.shows.size ∙ sym shows.size) (c.shows.base ∙ sym shows.base)) many base) refl refl))))))

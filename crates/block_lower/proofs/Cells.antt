@@ -1,6 +1,6 @@
 -- Cells of a table, and of what is held of it.
 use Rattle.std.proofs.Common.{◌≡◌, ◌≢◌, ℕ, ◌+◌, ◌*◌, ◌/◌, ◌%◌, ◌<◌, Bool, true, false, cond, List, [], ◌∷◌, length, Option, None, Some, bytes_eq, Vec, refl, ap, sym, subst, ◌∙◌, arith}
-use Rattle.std.specs.Prelude.{ℤ, pos, negsuc, ◌&&◌, nat_lt, slice_get, slice_set, slice_index_or, All}
+use Rattle.std.specs.Prelude.{ℤ, pos, negsuc, ◌&&◌, nat_lt, slice_get, slice_set, All}
 use Rattle.std.specs.declared.cmp.Ordering.{Ordering}
 use Rattle.std.specs.declared.cmp.Ordering.TheVariants.{Less, Equal, Greater}
 use Rattle.std.specs.declared.alloc.Global.{Global}

@@ -1,5 +1,5 @@
 -- The functions of a code owe what their bodies and their results give, however many levels of calls are left.
-use Rattle.std.proofs.Common.{◌≡◌, ℕ, zero, suc, ◌+◌, ◌≤◌, List, [], ◌∷◌, ◌∙◌, arith}
+use Rattle.std.proofs.Common.{◌≡◌, ℕ, zero, suc, ◌≤◌, List, [], ◌∷◌, ◌∙◌, arith}
 use Rattle.std.specs.Prelude.{pos, slice_set}
 use Rattle.std.proofs.lemmas.List.{length-set}
 use Rattle.beat_count.specs.Heartbeat.{counted}
@@ -8,7 +8,6 @@ use Rattle.loop_syntax.specs.declared.Func.{Func}
 use Rattle.loop_rules.specs.Names.{texts}
 use Rattle.loop_meaning.specs.State.{done}
 use Rattle.loop_meaning.specs.Statements.{run_list}
-use Rattle.tpal_syntax.specs.declared.instructions.Instr.TheVariants as instr
 use Rattle.tpal_syntax.specs.declared.instructions.Term.TheVariants as term
 use Rattle.tpal_syntax.specs.declared.instructions.Value.TheVariants as value
 use Rattle.tpal_syntax.specs.declared.words.Word.{Word}
@@ -19,11 +18,10 @@ use Rattle.tpal_machine.specs.State as machine
 use Rattle.tpal_machine.specs.Step.{advanced}
 use Rattle.tpal_machine.proofs.Kit.{Back, on_load, on_jump}
 use Rattle.expr_lower.specs.Leaving.{moved}
-use Rattle.expr_lower.specs.Standing.{Remains}
 use Rattle.expr_lower.proofs.Registers.{register_set, register_other}
 use Rattle.expr_lower.proofs.Standing.{next, behind, at_end}
 use Rattle.block_lower.specs.Code.{load}
-use Rattle.block_lower.specs.Layout.{return_cell, value_cell, Entry, Activation}
+use Rattle.block_lower.specs.Layout.{cursor_cell, rec_cell, return_cell, value_cell, Entry, Activation}
 use Rattle.block_lower.specs.Main.{IsFunction, FunctionAt, AreFunctions}
 use Rattle.block_lower.specs.Names.{names_after_list}
 use Rattle.block_lower.proofs.Called.{with_value, value_then, body_set}
@@ -56,9 +54,9 @@ module _ (code : Listing) (heartbeat z : ℕ) (act : Activation) (fuel : ℕ) (e
 module _ (code : Listing) (heartbeat fuel : ℕ) (expr_law : ExprLaw code heartbeat) (tables : List (List ℕ)) (entries : List Entry) (fs : List Func) where
   -- a function, where those that it calls owe what they give
   pub function_law : (room : ℕ) → CallsOwe code heartbeat fuel tables entries fs room → (x : List ℕ) (entry : Entry) (f : FunctionAt code tables entries fs x entry) → FunctionOwes code heartbeat fuel tables entries fs x entry f room
-  function_law room calls x entry f z place C levels lowest may returns =
+  function_law room calls x entry f z place C levels lowest may uncounted returns =
       enters code heartbeat z act fuel C (texts f.func.params.items) entry.label f.is.instrs f.is.end (λ st. then (result (run_list (body_set fs fuel room) f.func.body.items st)) (value_then f.func.result)) f.is.begins
-      (codes_law code heartbeat z act fs fuel room expr_law calls place f.is.statements C (record { levels = levels; lowest = omega (arith, lowest); allows = λ y free. may (value_cell y) (omega arith) }) (value_then f.func.result) (gives_value code heartbeat z act fuel expr_law C returns f.func entry.label f.is))
+      (codes_law code heartbeat z act fs fuel room expr_law calls place f.is.statements C (record { levels = levels; lowest = omega (arith, lowest); allows = λ y free. may (value_cell y) (omega arith); controls = λ d from below. (may (cursor_cell d) (omega arith), may (rec_cell d) (omega arith)); uncounted = uncounted }) (value_then f.func.result) (gives_value code heartbeat z act fuel expr_law C returns f.func entry.label f.is))
     where
       act : Activation
       act = record { tables = tables; functions = entries; most = f.most; size = entry.size }

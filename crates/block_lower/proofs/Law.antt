@@ -1,6 +1,6 @@
 -- The law of the code of statements: inside any scene, where a task that shows a state behind it owes what
 -- follows, a task that shows a state before it owes what the statements give and what follows.
-use Rattle.std.proofs.Common.{◌≡◌, ℕ, List, [], ◌∷◌, ◌++◌, length, Some, None, sym, subst}
+use Rattle.std.proofs.Common.{ℕ, List, [], ◌∷◌, ◌++◌, length, Some, None, sym, subst}
 use Rattle.loop_syntax.specs.declared.Func.{Func}
 use Rattle.loop_syntax.specs.declared.Stmt.{Stmt}
 use Rattle.loop_meaning.specs.Calls.{call_at}
@@ -81,7 +81,7 @@ module _ (code : Listing) (heartbeat z : ℕ) (act : Activation) (fs : List Func
     law (put_kept_code {round} {names} {t = t} {a} {b} {e} {table} {trap} keeps is c d f traps) S admits k post =
         put_kept_law code heartbeat z act (setting round) expr_law S names admits.lowest k t a b e table trap _ _ _ _ _ keeps is c d f traps post
     law (par_code {round} {names} l {check} {wide} {again} {exit} shallow room_left c d tests traps begins inner_code ends) S admits k post =
-        par_law code heartbeat z act (setting round) expr_law S names (names_after_list (names ++ l.var.text.items ∷ []) l.body.items) admits.lowest room_left (first_names_in names l.var.text.items l.body.items) k l check wide again exit _ _ _ _ _ _ c d tests traps begins ends post
+        par_law code heartbeat z act (setting round) expr_law S names (names_after_list (names ++ l.var.text.items ∷ []) l.body.items) admits.lowest room_left (first_names_in names l.var.text.items l.body.items) k admits.uncounted l check wide again exit _ _ _ _ _ _ c d tests traps begins ends post
         (λ j m f after_it. codes_law inner_code (inside code heartbeat z S (length names) admits.lowest m (Some j)) (admits_par code heartbeat z room admits l.var.text.items m (Some j) l.reduces.items) f after_it)
     law (fold_code {round} {names} {x = x} {e} {o} {v} {cell} is_op is c) S admits k post =
         fold_law code heartbeat z act (setting round) expr_law S names admits.lowest k round.fixed x e o v cell _ _ _ is_op is (changes admits is) c post
@@ -90,9 +90,9 @@ module _ (code : Listing) (heartbeat z : ℕ) (act : Activation) (fs : List Func
     law (emit_code {round} {names} {place = place} {t = t} {table} is) S admits k post =
         emit_law code heartbeat z act (setting round) S names k place t table _ _ is post
     law (call_code {round} {names} {x = x} {f} {entry} {cell} is_entry arity is args call) S admits k post =
-        call_law code heartbeat z act fuel fs room expr_law calls place S admits.levels names admits.lowest round.reduces k round.fixed x f entry cell _ _ _ _ _ is_entry arity is (changes admits is) args call post
+        call_law code heartbeat z act fuel fs room expr_law calls place S admits.levels names admits.lowest admits.uncounted round.reduces k round.fixed x f entry cell _ _ _ _ _ is_entry arity is (changes admits is) args call post
     law (both_code {round} {names} {x = x} {y} {f} {g} {first} {second} {x_cell} {y_cell} kept is_first arity_first is_second arity_second is_x is_y eight args others first_call second_call) S admits k post =
-        both_law code heartbeat z act fuel fs room expr_law calls place S admits.levels names admits.lowest round.reduces k round.fixed x y f g first second x_cell y_cell _ _ _ _ _ _ _ _ kept is_first arity_first is_second arity_second is_x (changes admits is_x) is_y (changes admits is_y) eight second_call post args others first_call
+        both_law code heartbeat z act fuel fs room expr_law calls place S admits.levels names admits.lowest admits.uncounted round.reduces k round.fixed x y f g first second x_cell y_cell _ _ _ _ _ _ _ _ kept is_first arity_first is_second arity_second is_x (changes admits is_x) is_y (changes admits is_y) eight second_call post args others first_call
 
     pub codes_law : {round : Round} {names : List (List ℕ)} {ss : List Stmt} {instrs more : List Instr} {end last : Term} → Codes code act round names ss instrs end more last → (S : Scene code heartbeat z) → Admitted S round names → (k : meaning.State → Result)
         → Owed code heartbeat z act fuel S (names_after_list names ss) more last k → Owed code heartbeat z act fuel S names instrs end (λ st. then (result (run_list (setting round) ss st)) k)

@@ -221,7 +221,7 @@ module _ (code : Listing) (heartbeat z : ℕ) (act : Activation) (fuel : ℕ) (S
               ∙ register_other task.registers 2 q (word.Int d) (λ (e : q ≡ 2). absurd (omega (arith, e))))
 
 module _ (code : Listing) (heartbeat z : ℕ) (act : Activation) (set : Setting) (expr_law : ExprLaw code heartbeat) (S : Scene code heartbeat z) (names inner : List (List ℕ)) (lowest : S.lowest ≤ length names) (room : length names < act.most) (first : take (length names) inner ≡ names) (k : meaning.State → Result) where
-  pub par_law : (l : ParLoop) (check wide again exit : ℕ) (here second instrs more : List Instr) (last end : Term)
+  pub par_law : (uncounted : S.counts ≡ false) (l : ParLoop) (check wide again exit : ℕ) (here second instrs more : List Instr) (last end : Term)
       → Computes code act names l.from 0 here (store (value_cell (length names)) (value.Reg 0) ∷ second)
       → Computes code act names l.to 0 second (store (bound_cell (length names)) (value.Reg 0) ∷ load 1 (value_cell (length names)) ∷ instr.Calc 2 1 alu.Lt (value.Reg 0) ∷ instr.IfJump 2 check ∷ [])
       → Opens code check (wide_test wide again) (to wide) → AreAt code wide (trap_block wide Wide l.place ∷ [])
@@ -229,7 +229,7 @@ module _ (code : Listing) (heartbeat z : ℕ) (act : Activation) (set : Setting)
       → ((j m : ℤ) (f : meaning.State → Result) → Owed code heartbeat z act set.fuel (inside code heartbeat z S (length names) lowest m (Some j)) inner (step_up 1 (length names) (load 0 (bound_cell (length names)) ∷ below_test 1 (value.Reg 0) again)) (to exit) f
       → Owed code heartbeat z act set.fuel (inside code heartbeat z S (length names) lowest m (Some j)) (names ++ l.var.text.items ∷ []) instrs last (λ st. then (result (run_list (record set { reduces = l.reduces.items }) l.body.items st)) f))
       → Owed code heartbeat z act set.fuel S names here (to exit) (λ st. then (result (run set (Par l) st)) k)
-  par_law l check wide again exit here second instrs more last end c d tests trap begins ends post body_law i st state shows stands =
+  par_law uncounted l check wide again exit here second instrs more last end c d tests trap begins ends post body_law i st state shows stands =
       subst (λ (r : Ran). (S.owing i (then (result r) k)).Holds state) (sym (run_par set l st))
       (bounds code heartbeat z act set.fuel expr_law S names lowest room k l.from l.to here second (instr.Calc 2 1 alu.Lt (value.Reg 0) ∷ instr.IfJump 2 check ∷ []) (to exit) c d
       (λ m j. unless_wide (too_wide m j) l.place (iterating m j)) i st state shows stands at_test)
@@ -279,10 +279,10 @@ module _ (code : Listing) (heartbeat z : ℕ) (act : Activation) (set : Setting)
                   ap (λ g. unless_wide (nat_lt MAX_PAR_LENGTH g) l.place (iterate set.fuel l.var.text.items (run_list inner_set l.body.items) (Chance ∷ []) [] g m) st) some
                   ∙ ap (λ b. unless_wide b l.place (iterate set.fuel l.var.text.items (run_list inner_set l.body.items) (Chance ∷ []) [] (suc n) m) st) narrow in
                   subst (λ (r : Ran). (S.owing i (then (result r) k)).Holds other) (sym runs)
-                  (a_turn code heartbeat z act inner_set S names inner lowest room first k l.var.text.items l.body.items 1 (omega arith) (value.Reg 0) (Some j) j in_j again exit instrs (load 0 (bound_cell (length names)) ∷ below_test 1 (value.Reg 0) again) more last end begins ends post (body_law j) (Chance ∷ []) S.passes
+                  (a_turn code heartbeat z act inner_set S names inner lowest room first k l.var.text.items l.body.items 1 (omega arith) (value.Reg 0) (Some j) j in_j again exit instrs (load 0 (bound_cell (length names)) ∷ below_test 1 (value.Reg 0) again) more last end begins ends post (body_law j) (Chance ∷ []) (S.passes uncounted)
                   (reloads_bound code heartbeat z act set.fuel S names j (below_test 1 (value.Reg 0) again) (to exit))
                   [] (λ w r u holds. holds) n
-                  (loop_at code heartbeat z act inner_set S names inner lowest room first k l.var.text.items l.body.items 1 (omega arith) (value.Reg 0) (Some j) j in_j again exit instrs (load 0 (bound_cell (length names)) ∷ below_test 1 (value.Reg 0) again) more last end begins ends post (body_law j) (Chance ∷ []) S.passes
+                  (loop_at code heartbeat z act inner_set S names inner lowest room first k l.var.text.items l.body.items 1 (omega arith) (value.Reg 0) (Some j) j in_j again exit instrs (load 0 (bound_cell (length names)) ∷ below_test 1 (value.Reg 0) again) more last end begins ends post (body_law j) (Chance ∷ []) (S.passes uncounted)
                   (reloads_bound code heartbeat z act set.fuel S names j (below_test 1 (value.Reg 0) again) (to exit)) n)
                   m i st gap in_m other shows_other at_label at_begin
                   (ap (λ s. word_at s (pos (z + value_cell (length names)))) same ∙ cell) (ap (λ s. word_at s (pos (z + bound_cell (length names)))) same ∙ bound))

@@ -15,7 +15,8 @@ use Rattle.expr_lower.specs.Scopes.{number_in, has_table_in}
 use Rattle.block_lower.specs.Owing.{IsWholeOf}
 use Rattle.block_lower.proofs.Tables.{AreWhole, IsRead, table_names, listed_names}
 
--- How much of a table a task holds: every cell, exactly those of the table that pass a test, or some that aren't
+-- How much of a table a task holds: every cell, exactly those of the table that pass a test, or
+-- some that aren't
 -- known.
 pub data Extent : Type 0 where
   Wholly : Extent
@@ -97,17 +98,20 @@ size_shown Wholly h t shown = shown.size
 size_shown (Has test) h t shown = shown.size
 size_shown Unknown h t shown = shown
 
-part_has : (test : ℤ → ℤ → Bool) (h : Holding) (t : Table) (i j : ℤ) → IsPart test h t → has_cell t i j ≡ true → test i j ≡ true → cell_at h i j ≡ Some (cell_of t i j)
+part_has : (test : ℤ → ℤ → Bool) (h : Holding) (t : Table) (i j : ℤ) → IsPart test h t
+    → has_cell t i j ≡ true → test i j ≡ true → cell_at h i j ≡ Some (cell_of t i j)
 part_has test h t i j part is passes = part.cells i j ∙ rw (is, passes) refl
 
 -- a cell of a table that is in an extent is held
-pub cell_shown : (extent : Extent) (h : Holding) (t : Table) (i j : ℤ) → IsShown extent h t → has_cell t i j ≡ true → HasCell extent i j → cell_at h i j ≡ Some (cell_of t i j)
+pub cell_shown : (extent : Extent) (h : Holding) (t : Table) (i j : ℤ) → IsShown extent h t
+    → has_cell t i j ≡ true → HasCell extent i j → cell_at h i j ≡ Some (cell_of t i j)
 cell_shown Wholly h t i j shown is held = part_has (λ a b. true) h t i j shown is refl
 cell_shown (Has test) h t i j shown is held = part_has test h t i j shown is held
 cell_shown Unknown h t i j shown is held = absurd held
 
 -- a table that is wholly held is held in each cell, and in no other
-pub shown_whole : (extent : Extent) (h : Holding) (t : Table) → IsShown extent h t → IsWholly extent → IsWholeOf h t
+pub shown_whole : (extent : Extent) (h : Holding) (t : Table) → IsShown extent h t → IsWholly extent
+    → IsWholeOf h t
 shown_whole Wholly h t shown all = record {
   rows = shown.size.rows;
   cols = shown.size.cols;
@@ -124,17 +128,21 @@ whole_shown h t whole = record {
   cells = λ i j. by_place i j (has_cell t i j) refl;
 }
   where
-    by_place : (i j : ℤ) (b : Bool) → has_cell t i j ≡ b → cell_at h i j ≡ part_cell (λ a c. true) t i j
+    by_place : (i j : ℤ) (b : Bool) → has_cell t i j ≡ b
+        → cell_at h i j ≡ part_cell (λ a c. true) t i j
     by_place i j true is = whole.cells i j is ∙ rw is refl
     by_place i j false is = whole.outside i j is ∙ rw is refl
 
-pub wholly_shown : (hs : List Holding) (ts : List Table) → AreWhole hs ts → AreShown everywhere hs ts
+pub wholly_shown : (hs : List Holding) (ts : List Table) → AreWhole hs ts
+    → AreShown everywhere hs ts
 wholly_shown hs [] whole = tt
 wholly_shown [] (t ∷ ts) whole = absurd whole
 wholly_shown (h ∷ hs) (t ∷ ts) whole = (whole_shown h t whole.0, wholly_shown hs ts whole.1)
 
 -- a table of a scope is held so
-pub shown_at : (region : Region) (hs : List Holding) (ts : List Table) (us : List (Vec ℕ Global)) (x : List ℕ) → AreShown region hs ts → listed_names us ≡ table_names ts → has_table_in us x ≡ true → IsShown (region x) (table_at hs (number_in us x)) (table_of ts x)
+pub shown_at : (region : Region) (hs : List Holding) (ts : List Table) (us : List (Vec ℕ Global))
+    (x : List ℕ) → AreShown region hs ts → listed_names us ≡ table_names ts
+    → has_table_in us x ≡ true → IsShown (region x) (table_at hs (number_in us x)) (table_of ts x)
 shown_at region hs ts [] x shown named has = cc
 shown_at region hs [] (u ∷ us) x shown named has = cc
 shown_at region [] (t ∷ ts) (u ∷ us) x shown named has = absurd shown
@@ -145,7 +153,10 @@ shown_at region (h ∷ hs) (t ∷ ts) (u ∷ us) x shown named has =
     alike : u.items ≡ t.name
     alike = cc
 
-    go : (has_table_in us x ≡ true → IsShown (region x) (table_at hs (number_in us x)) (table_of ts x)) → (b : Bool) → bytes_eq u.items x ≡ b → IsShown (region x) (table_at (h ∷ hs) (number_in (u ∷ us) x)) (table_of (t ∷ ts) x)
+    go : (has_table_in us x ≡ true
+        → IsShown (region x) (table_at hs (number_in us x)) (table_of ts x)) → (b : Bool)
+        → bytes_eq u.items x ≡ b → IsShown (region x) (table_at (h ∷ hs) (number_in (u ∷ us) x))
+        (table_of (t ∷ ts) x)
     go behind true e =
         let f : bytes_eq t.name x ≡ true = rw alike at e in
         let same : t.name ≡ x = (bytes_eq-Decides t.name x).0 f in
@@ -157,22 +168,30 @@ shown_at region (h ∷ hs) (t ∷ ts) (u ∷ us) x shown named has =
 
 -- what an expression reads is quiet, and it is held where a region covers it
 module _ (scope : Scope) (ts : List Table) where
-  pub quiet_reads : (ns : List Note) → AllByRecursion (IsRead scope ts) ns → AllByRecursion IsQuiet ns
+  pub quiet_reads : (ns : List Note) → AllByRecursion (IsRead scope ts) ns
+      → AllByRecursion IsQuiet ns
   quiet_reads [] read = tt
   quiet_reads (Reads t i j ∷ ns) read = (tt, quiet_reads ns read.1)
   quiet_reads (Writes t i j ∷ ns) read = absurd read.0
   quiet_reads (Emits t ∷ ns) read = absurd read.0
   quiet_reads (Chance ∷ ns) read = absurd read.0
 
-  pub held_reads : (region : Region) (state : machine.State) → AreShown region state.tables ts → listed_names scope.tables.items ≡ table_names ts → (ns : List Note) → AllByRecursion (IsRead scope ts) ns → AllByRecursion (Covers region) ns → AllByRecursion (IsHeld scope ts state) ns
+  pub held_reads : (region : Region) (state : machine.State) → AreShown region state.tables ts
+      → listed_names scope.tables.items ≡ table_names ts → (ns : List Note)
+      → AllByRecursion (IsRead scope ts) ns → AllByRecursion (Covers region) ns
+      → AllByRecursion (IsHeld scope ts state) ns
   held_reads region state shown listed [] read covered = tt
   held_reads region state shown listed (Reads t i j ∷ ns) read covered =
-      (cell_shown (region t) (table_at state.tables (number_in scope.tables.items t)) (table_of ts t) i j (shown_at region state.tables ts scope.tables.items t shown listed read.0.0) read.0.1 covered.0, held_reads region state shown listed ns read.1 covered.1)
+      (cell_shown (region t) (table_at state.tables (number_in scope.tables.items t))
+          (table_of ts t) i j
+          (shown_at region state.tables ts scope.tables.items t shown listed read.0.0) read.0.1
+          covered.0, held_reads region state shown listed ns read.1 covered.1)
   held_reads region state shown listed (Writes t i j ∷ ns) read covered = absurd read.0
   held_reads region state shown listed (Emits t ∷ ns) read covered = absurd read.0
   held_reads region state shown listed (Chance ∷ ns) read covered = absurd read.0
 
 -- what holds of all notes holds of the first ones
-pub all_front : (P : Note → Type 0) (ns ms : List Note) → AllByRecursion P (ns ++ ms) → AllByRecursion P ns
+pub all_front : (P : Note → Type 0) (ns ms : List Note) → AllByRecursion P (ns ++ ms)
+    → AllByRecursion P ns
 all_front P [] ms all = tt
 all_front P (n ∷ ns) ms all = (all.0, all_front P ns ms all.1)

@@ -24,12 +24,11 @@ use Rattle.tpal_machine.specs.Merge.{ended_together}
 use Rattle.tpal_machine.specs.Reading.{register}
 use Rattle.tpal_machine.specs.State as machine
 use Rattle.tpal_machine.specs.Step.{Ends, step}
-use Rattle.tpal_machine.proofs.Kit.{Back}
 use Rattle.loop_meaning.specs.InRange.{TableInRange}
 use Rattle.loop_meaning.specs.State as meaning
 use Rattle.loop_meaning.specs.State.{Writes, write_cell}
 use Rattle.expr_lower.specs.Standing.{Remains}
-use Rattle.block_lower.specs.Layout.{levels_cell, value_cell, Activation}
+use Rattle.block_lower.specs.Layout.{cursor_cell, levels_cell, value_cell, Activation}
 use Rattle.block_lower.proofs.Activations.{StandsFrom}
 use Rattle.block_lower.proofs.Promises.{Promise}
 use Rattle.block_lower.proofs.Regions.{Region, AreShown, Covers}
@@ -39,18 +38,22 @@ use Rattle.block_lower.proofs.Variables.{AreHeld, var_names}
 
 -- ---- stacks
 
--- the stack stays the same below the variables from a level on, but for the cells of the activation that may change
+-- the stack stays the same below the variables from a level on, but for the cells of the activation
+-- that may change
 pub record Same (z : ℕ) (may : ℕ → Type 0) (level : ℕ) (s t : StackValue) : Type 0 where
   pub base : t.base ≡ s.base
-  pub at : (a : ℕ) → a < z + value_cell level → ((c : ℕ) → may c → a ≢ z + c) → word_at t (pos a) ≡ word_at s (pos a)
+  pub at : (a : ℕ) → a < z + value_cell level → ((c : ℕ) → may c → a ≢ z + c)
+      → word_at t (pos a) ≡ word_at s (pos a)
 
--- A handler that cuts a world changes no variable in the activation that begins at z, no cell that a statement
+-- A handler that cuts a world changes no variable in the activation that begins at z, no cell that
+-- a statement
 -- may change, and nothing from a level on. What lies below that activation may be gone.
 pub record Near (z : ℕ) (may : ℕ → Type 0) (lowest : ℕ) (s t : StackValue) : Type 0 where
   pub low : t.base ≤ z
   pub top : t.base + length t.cells ≡ s.base + length s.cells
   pub levels : word_at t (pos (z + levels_cell)) ≡ word_at s (pos (z + levels_cell))
-  pub vars : (x : ℕ) → x < lowest → word_at t (pos (z + value_cell x)) ≡ word_at s (pos (z + value_cell x))
+  pub vars : (x : ℕ) → x < lowest
+      → word_at t (pos (z + value_cell x)) ≡ word_at s (pos (z + value_cell x))
   pub own : (c : ℕ) → may c → word_at t (pos (z + c)) ≡ word_at s (pos (z + c))
   pub above : (a : ℕ) → z + value_cell lowest ≤ a → word_at t (pos a) ≡ word_at s (pos a)
 
@@ -71,7 +74,8 @@ pub record GoesBack (code : Listing) (state u : machine.State) : Type 0 where
   pub base : register u.registers 31 ≡ register state.registers 31
   pub quiet : u.beat.quiet ≡ true
 
--- a task with the stack, the tables, the ticks, the output and the goal of another one, and no record in hand
+-- a task with the stack, the tables, the ticks, the output and the goal of another one, and no
+-- record in hand
 pub record IsUncut (state u : machine.State) : Type 0 where
   pub stack : u.stack ≡ state.stack
   pub tables : u.tables ≡ state.tables
@@ -107,11 +111,22 @@ pub record Surroundings (World : Type 0) : Type 1 where
   pub can : World → List Table → Type 0
 
 abbrev pub facts : {World : Type 0} → Surroundings World → World → Facts
-facts around i = record { marks = around.marks i; goal = around.goal i; before = around.before i; since = around.since i; region = around.region i; kept = around.kept i; can = around.can i }
+facts around i = record {
+  marks = around.marks i;
+  goal = around.goal i;
+  before = around.before i;
+  since = around.since i;
+  region = around.region i;
+  kept = around.kept i;
+  can = around.can i;
+}
 
--- A task of a world, whichever statement runs in it: its ticks and its tables are those of a state, some of it
--- printed before it began. So many cells of the activation that begins at z stand. More marks may stand above.
-pub record RunsIn (z size fuel : ℕ) (world : Facts) (more : List Mark) (st : meaning.State) (state : machine.State) : Type 0 where
+-- A task of a world, whichever statement runs in it: its ticks and its tables are those of a state,
+-- some of it
+-- printed before it began. So many cells of the activation that begins at z stand. More marks may
+-- stand above.
+pub record RunsIn (z size fuel : ℕ) (world : Facts) (more : List Mark) (st : meaning.State)
+    (state : machine.State) : Type 0 where
   pub many : length state.registers ≡ 32
   pub limit : state.fuel.limit ≡ fuel
   pub ticks : state.fuel.ticks ≡ st.ticks
@@ -129,9 +144,12 @@ pub record RunsIn (z size fuel : ℕ) (world : Facts) (more : List Mark) (st : m
   pub tall : z + size ≤ state.stack.base + length state.stack.cells
   pub keeps : world.kept state.stack
 
--- the same with another bound of the ticks before, and of another activation with another fact about the stack
-module _ {z size fuel : ℕ} {world : Facts} {more : List Mark} {st : meaning.State} {state : machine.State} (runs : RunsIn z size fuel world more st state) where
-  pub runs_since : (since : ℕ) → since ≤ st.ticks → RunsIn z size fuel (record world { since = since }) more st state
+-- the same with another bound of the ticks before, and of another activation with another fact
+-- about the stack
+module _ {z size fuel : ℕ} {world : Facts} {more : List Mark} {st : meaning.State}
+    {state : machine.State} (runs : RunsIn z size fuel world more st state) where
+  pub runs_since : (since : ℕ) → since ≤ st.ticks
+      → RunsIn z size fuel (record world { since = since }) more st state
   runs_since since begun = record {
     many = runs.many;
     limit = runs.limit;
@@ -151,7 +169,9 @@ module _ {z size fuel : ℕ} {world : Facts} {more : List Mark} {st : meaning.St
     keeps = runs.keeps;
   }
 
-  pub runs_kept : (y cells : ℕ) (kept : StackValue → Type 0) → state.stack.base ≤ y → y + cells ≤ state.stack.base + length state.stack.cells → kept state.stack → RunsIn y cells fuel (record world { kept = kept }) more st state
+  pub runs_kept : (y cells : ℕ) (kept : StackValue → Type 0) → state.stack.base ≤ y
+      → y + cells ≤ state.stack.base + length state.stack.cells → kept state.stack
+      → RunsIn y cells fuel (record world { kept = kept }) more st state
   runs_kept y cells kept low tall keeps = record {
     many = runs.many;
     limit = runs.limit;
@@ -179,11 +199,13 @@ IsEarly NoFuel = ⊤
 
 -- ---- scenes
 
--- the cells of an activation for the label to return to, for the record of a side, and for the levels of calls
+-- the cells of an activation for the label to return to, for the record of a side, and for the
+-- levels of calls
 abbrev pub header : ℕ
-header = 3
+header = cursor_cell 0
 
--- What goes on round a statement, in an activation that begins at z. Its worlds are closed under cuts of their
+-- What goes on round a statement, in an activation that begins at z. Its worlds are closed under
+-- cuts of their
 -- oldest mark.
 pub record Scene (code : Listing) (heartbeat z : ℕ) : Type 1 where
   pub World : Type 0
@@ -203,31 +225,48 @@ pub record Scene (code : Listing) (heartbeat z : ℕ) : Type 1 where
   -- from which level on nothing is kept, and which cells of the activation may change below
   pub lowest : ℕ
   pub may : ℕ → Type 0
-  -- the world of the left part, where the oldest mark is cut under a record, and so much was printed
+  -- the world of the left part, where the oldest mark is cut under a record, and so much was
+  -- printed
   pub cut : World → ℕ → List ℕ → World
-  pub stable : (i : World) (level : ℕ) (s t : StackValue) → lowest ≤ level → Same z may level s t → kept i s → kept i t
+  pub stable : (i : World) (level : ℕ) (s t : StackValue) → lowest ≤ level → Same z may level s t
+      → kept i s → kept i t
   -- the marks of a world stand below that level
   pub below : (i : World) → is_marked_from (marks i) (z + value_cell lowest) ≡ false
   -- a stop ends the task, with nothing but its stop, its ticks and its output
-  pub stops : (i : World) (stop : Stop) (st : meaning.State) (state last : machine.State) → IsEarly stop → last.fuel.ticks ≡ st.ticks → st.output ≡ before i ++ last.output → last.goal ≡ goal i
-      → ((allowed : Bool) → step code heartbeat allowed state ≡ Ends (ended code stop last)) → (owing i (out stop st)).Holds state
-  pub stopped : (i : World) (stop : Stop) (st : meaning.State) (output : List ℕ) → IsEarly stop → st.output ≡ before i ++ output → ending i (out stop st) ≡ ended_together (goal i) stop st.ticks output
+  pub stops : (i : World) (stop : Stop) (st : meaning.State) (state last : machine.State)
+      → IsEarly stop → last.fuel.ticks ≡ st.ticks → st.output ≡ before i ++ last.output
+      → last.goal ≡ goal i
+      → ((allowed : Bool) → step code heartbeat allowed state ≡ Ends (ended code stop last))
+          → (owing i (out stop st)).Holds state
+  pub stopped : (i : World) (stop : Stop) (st : meaning.State) (output : List ℕ) → IsEarly stop
+      → st.output ≡ before i ++ output
+      → ending i (out stop st) ≡ ended_together (goal i) stop st.ticks output
   -- what a run touches is held, and where it writes it meets tables that it may meet
   pub covers : (i : World) (r : Result) → given i r → AllByRecursion (Covers (region i)) r.notes
-  pub allows : (i : World) (t : List ℕ) (a b n : ℤ) (ts : List Table) (r : Result) → given i (noting (Writes t a b ∷ []) r) → can i ts → can i (write_cell ts t a b n)
+  pub allows : (i : World) (t : List ℕ) (a b n : ℤ) (ts : List Table) (r : Result)
+      → given i (noting (Writes t a b ∷ []) r) → can i ts → can i (write_cell ts t a b n)
   -- whether promotion points may be reached
   pub is_open : Bool
-  -- A diverted task whose oldest mark is that of a world: where it owes what it should as soon as it goes back,
-  -- in this world and in the one behind a cut, it owes it. More marks may stand in its activation and above.
-  pub handles : is_open ≡ true → (i : World) (more : List Mark) (r : Result) (st : meaning.State) (state : machine.State) → (marks i ≡ [] → ⊥) → AllByRecursion (StandsFrom (z + value_cell lowest)) more → IsDiverted dispatch state
+  -- A diverted task whose oldest mark is that of a world: where it owes what it should as soon as
+  -- it goes back,
+  -- in this world and in the one behind a cut, it owes it. More marks may stand in its activation
+  -- and above.
+  pub handles : is_open ≡ true → (i : World) (more : List Mark) (r : Result) (st : meaning.State)
+      (state : machine.State) → (marks i ≡ [] → ⊥)
+      → AllByRecursion (StandsFrom (z + value_cell lowest)) more → IsDiverted dispatch state
       → RunsIn z size fuel (facts around i) more st state
       → ((u : machine.State) → GoesBack code state u → IsUncut state u → (owing i r).Holds u)
-      → ((k : ℕ) (u : machine.State) → GoesBack code state u → Near z may lowest state.stack u.stack → RunsIn z size fuel (facts around (cut i k st.output)) more st u → (owing (cut i k st.output) r).Holds u)
+      → ((k : ℕ) (u : machine.State) → GoesBack code state u → Near z may lowest state.stack u.stack
+          → RunsIn z size fuel (facts around (cut i k st.output)) more st u
+          → (owing (cut i k st.output) r).Holds u)
       → (diverted i r).Holds state
 
 module _ (code : Listing) (heartbeat z : ℕ) (act : Activation) (fuel : ℕ) where
   -- a task shows a state in which these variables are visible
-  pub record Shows (S : Scene code heartbeat z) (i : S.World) (names : List (List ℕ)) (st : meaning.State) (words : List Word) (stack : StackValue) (holdings : List Holding) (spent : FuelState) (output : List ℕ) (goal : Goal) (ties : Option Tie × Option Tie) : Type 0 where
+  pub record Shows (S : Scene code heartbeat z) (i : S.World) (names : List (List ℕ))
+      (st : meaning.State) (words : List Word) (stack : StackValue) (holdings : List Holding)
+      (spent : FuelState) (output : List ℕ) (goal : Goal)
+      (ties : Option Tie × Option Tie) : Type 0 where
     pub size : length words ≡ 32
     pub base : register words 31 ≡ Int (pos z)
     pub limit : spent.limit ≡ fuel
@@ -255,10 +294,15 @@ module _ (code : Listing) (heartbeat z : ℕ) (act : Activation) (fuel : ℕ) wh
     pub vars : AreHeld stack z 0 st.vars
     pub keeps : S.kept i stack
 
-  abbrev pub ShowsIn : (S : Scene code heartbeat z) (i : S.World) → List (List ℕ) → meaning.State → machine.State → Type 0
-  ShowsIn S i names st state = Shows S i names st state.registers state.stack state.tables state.fuel state.output state.goal (state.pending, state.met)
+  abbrev pub ShowsIn : (S : Scene code heartbeat z) (i : S.World) → List (List ℕ) → meaning.State
+      → machine.State → Type 0
+  ShowsIn S i names st state =
+      Shows S i names st state.registers state.stack state.tables state.fuel state.output state.goal
+      (state.pending, state.met)
 
   -- what a task owes that shows a state, where these instructions with this end remain
-  abbrev pub Owed : Scene code heartbeat z → List (List ℕ) → List Instr → Term → (meaning.State → Result) → Type 0
+  abbrev pub Owed : Scene code heartbeat z → List (List ℕ) → List Instr → Term
+      → (meaning.State → Result) → Type 0
   Owed S names instrs end f =
-      (i : S.World) (st : meaning.State) (state : machine.State) → ShowsIn S i names st state → Remains code state.block state.at instrs end → (S.owing i (f st)).Holds state
+      (i : S.World) (st : meaning.State) (state : machine.State) → ShowsIn S i names st state
+          → Remains code state.block state.at instrs end → (S.owing i (f st)).Holds state
