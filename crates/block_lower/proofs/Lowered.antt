@@ -27,7 +27,6 @@ use Rattle.block_lower.specs.Fitting.{AllFit, IsFree, level_of}
 use Rattle.block_lower.specs.Layout.{value_cell}
 use Rattle.block_lower.specs.Lowering.{WritesValue, WritesOperand, WritesTest, WritesBelow, Lowers, WithBody, LowersAll, LowersBranch, LowersOther, LowersBody}
 use Rattle.block_lower.specs.Names.{Sees, SeesAfter, names_after_list}
-use Rattle.block_lower.specs.Round.{Round}
 use Rattle.block_lower.specs.Writing.{label, IsFresh, Pushes, Closes, Stands, Continues, Leads}
 use Rattle.block_lower.proofs.Fitting.{fit_of_vec, fit_before, fit_last, codes_more}
 use Rattle.block_lower.proofs.Seeing.{as_long, cell_of_level, seen_variable}

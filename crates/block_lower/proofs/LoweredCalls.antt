@@ -26,7 +26,6 @@ use Rattle.block_lower.specs.Code.{Operand, Arguments, no_argument, one_argument
 use Rattle.block_lower.specs.Fitting.{IsVisible, AreVisible}
 use Rattle.block_lower.specs.Layout.{return_cell, levels_cell, value_cell, kept_cell, Entry, entry_of, Activation, kept_by_both, kept_value}
 use Rattle.block_lower.specs.Lowering.{WritesOperand, WritesArguments, AreBothArguments, WritesBothArguments, WritesPassed, WritesCall, Lowers}
-use Rattle.block_lower.specs.Round.{Round}
 use Rattle.block_lower.specs.Writing.{Pushes, Closes, Stands, Continues, Leads}
 use Rattle.block_lower.proofs.Lowered.{cell_is}
 use Rattle.block_lower.proofs.Writing.{pushed, closed_block}

@@ -26,7 +26,6 @@ use Rattle.block_lower.specs.Code.{Computes, Operand, IsTable, Code, put_code, p
 use Rattle.block_lower.specs.Layout.{kept_cell, Activation}
 use Rattle.block_lower.specs.Lowering.{WritesValue, WritesOperand, WritesPut, Lowers}
 use Rattle.block_lower.specs.Names.{Sees}
-use Rattle.block_lower.specs.Round.{Round}
 use Rattle.block_lower.specs.Writing.{next_label, Pushes, Traps, Continues, Leads}
 use Rattle.block_lower.proofs.Lowered.{cell_is}
 use Rattle.block_lower.proofs.Seeing.{seen_table}
