@@ -1,11 +1,11 @@
 -- The steps by which a side arrives keep the rule.
 use Rattle.tpal_machine.specs.declared.ends.End.{End}
-use Rattle.tpal_machine.specs.declared.ends.End.TheVariants.{At}
+use Rattle.tpal_machine.specs.declared.ends.End.TheVariants.{Root, At}
 use Rattle.tpal_machine.specs.declared.ends.SideName.TheVariants.{Left, Right}
 use Rattle.join_records.specs.declared.views.Grip.TheVariants.{Emptying}
 use Rattle.join_records.specs.declared.views.Stage.TheVariants.{Steady, Arriving}
 use Rattle.join_records.specs.Ends.{code_of}
-use Rattle.std.proofs.Common.{◌≡◌, ◌≢◌, ◌⊎◌, ℕ, ◌+◌, ◌*◌, ◌<◌, ◌%◌, ◌/◌, List, [], ◌∷◌, length, get_or, set, Bool, true, false, refl, sym, ap, ◌∙◌, subst, inl, inr, ⊎_elim, arith, length-set, get_or-set_same, get_or-set_other, ◌^◌}
+use Rattle.std.proofs.Common.{◌≡◌, ◌≢◌, ◌⊎◌, ℕ, ◌+◌, ◌*◌, ◌<◌, ◌≤◌, ◌%◌, ◌/◌, List, [], ◌∷◌, length, get_or, set, Bool, true, false, refl, sym, ap, ◌∙◌, subst, inl, inr, ⊎_elim, arith, length-set, get_or-set_same, get_or-set_other, ◌^◌}
 use mathlib.Core.Option.{some, none}
 use mathlib.Core.Option as maybe
 use lib.ListN.{get_elem?}
@@ -20,7 +20,7 @@ use Rattle.join_records.specs.Rule.{NotBoth, Facts, Holder, nobody, seat, kept, 
 use Rattle.join_records.specs.Views.{read, with_hand, with_ends, holds_end, drop_record, NoneMet}
 use Rattle.join_records.specs.Steps.{side_taken, arrived_at, side_arrived}
 use Rattle.join_records.proofs.Functions.{put, put_here, put_else, hand_same, one_ending}
-use Rattle.join_records.proofs.Frame.{Loose, told_more, moved}
+use Rattle.join_records.proofs.Frame.{Loose, told_more, root_known, moved}
 use Rattle.std.specs.Prelude.{bit_or}
 use Rattle.std.proofs.lemmas.Nat.{or_block}
 use Rattle.std.specs.Int.Bits.{or_zero_r}
@@ -133,6 +133,16 @@ module _ {R C D E : Type 0} (F : Facts R C D E) (born : C) where
         nobody_kept : (i : ℕ) → nobody ≡ kept i → ⊥
         nobody_kept i z = cc
 
+  -- an end that a rest keeps is Root or an end of one of the records
+  kept_within : (s : St) (r : Kept F born s) (k c : ℕ) → r.holder c ≡ kept k → c ≤ 2 * r.count
+  kept_within s r k c is = r.within c (λ z. let t = ap kind is in omega arith)
+
+  -- and where it is Root, each seat knows what is owed there
+  kept_root : (s : St) (r : Kept F born s) (id k : ℕ) (up : End) (v : V) → get_elem? s.views id ≡ some v → v.parts ≢ 0 → r.holder (code_of up) ≡ kept k → up ≡ Root → v.root ≡ Some (r.ending (code_of up))
+  kept_root s r id k up v at alive is root =
+      let zero : code_of up ≡ 0 = ap code_of root in
+      root_known F born s r id v at alive (λ z. let t = ap kind (ap r.holder (sym zero) ∙ is) in omega arith) ∙ ap (λ (c : ℕ). Some (r.ending c)) (sym zero)
+
   -- two slots of a record come to a seat
   two_out_long : (homes : List (maybe.Option S)) (i j : ℕ) → length (set (set homes i none) j none) ≡ length homes
   two_out_long homes i j = length-set (set homes i none) j none ∙ length-set homes i none
@@ -149,8 +159,8 @@ module _ {R C D E : Type 0} (F : Facts R C D E) (born : C) where
       x : ℕ
       x = get_or s.words (k + 1) 0
 
-      told : (i : ℕ) (e' : E) (u : V) (l : List (ℕ × S)) → arrived_at F.keeps F.rest_owes F.is_ending Left me x (u, l) k e → k + 1 ≡ i + 1 → me.0.ends ≡ holds_end (At i Left) e' Arriving → arrived_at F.keeps F.rest_owes F.is_ending Left me x (u, l) i e'
-      told i e' u l here same ends' = let is : k ≡ i = omega arith in subst (λ (p : ℕ × E). arrived_at F.keeps F.rest_owes F.is_ending Left me x (u, l) p.0 p.1) (λ t. (is t, one_ending (sym ends ∙ ends') t)) here
+      told : (i : ℕ) (e' : E) (u : V) (l : List (ℕ × S)) → arrived_at F.keeps F.rest_owes F.is_ending Left n me x (u, l) k e → k + 1 ≡ i + 1 → me.0.ends ≡ holds_end (At i Left) e' Arriving → arrived_at F.keeps F.rest_owes F.is_ending Left n me x (u, l) i e'
+      told i e' u l here same ends' = let is : k ≡ i = omega arith in subst (λ (p : ℕ × E). arrived_at F.keeps F.rest_owes F.is_ending Left n me x (u, l) p.0 p.1) (λ t. (is t, one_ending (sym ends ∙ ends') t)) here
 
       first : k < r.count → (up : End) (b : Progress) → r.cells k ≡ opened up false b → x / 16 % 2 ≡ 0 → NotBoth b true → (w : V) × (act : Act S) × Valid s.homes me.1 act × Kept F born (stepped s (k + 1) (bit_or x 8) id me.1 w act) × side_arrived F.keeps F.rest_owes F.is_ending Left (step n (k + 1) 8 0 none) me x (w, carried_after me.1 act)
       first below up b is lacks alone = let v : V = me.0 in let cell = subst (CellOk F s.words s.homes r.holder r.ending k) is (r.each_cell k below) in (
@@ -174,7 +184,7 @@ module _ {R C D E : Type 0} (F : Facts R C D E) (born : C) where
                 (two_out s.homes (4 * k + 3) (4 * k) (4 * k + 1) (λ q. omega arith) (λ q. omega arith) ∙ cell.4.1) (left_bit s.words k (code_of up) arrived cell.0),
             (λ i e' same ends'. told i e' u (carried_after me.1 act) (
               (λ lacks. let is' = cell.0 in absurd (omega arith)),
-              λ _. (cell.2.0, cell.4.2.0, r.ending (right_of k), r.ending (code_of up), up, (let is' = cell.0 in omega arith), cell.2.2, subst (λ (y : E). F.rest_owes cell.2.0 y (r.ending (right_of k)) (r.ending (code_of up))) held.1 cell.2.3, cell.4.2.2, refl, refl),
+              λ _. (cell.2.0, cell.4.2.0, r.ending (right_of k), r.ending (code_of up), up, (let is' = cell.0 in omega arith), cell.2.2, subst (λ (y : E). F.rest_owes cell.2.0 y (r.ending (right_of k)) (r.ending (code_of up))) held.1 cell.2.3, cell.4.2.2, (let near_up = kept_within s r k (code_of up) cell.1 in let sl = r.slots in omega arith), kept_root s r id k up v at alive cell.1, refl, refl),
             ) same ends'),
           )
 
@@ -193,8 +203,8 @@ module _ {R C D E : Type 0} (F : Facts R C D E) (born : C) where
       x : ℕ
       x = get_or s.words (k + 1) 0
 
-      told : (i : ℕ) (e' : E) (u : V) (l : List (ℕ × S)) → arrived_at F.keeps F.rest_owes F.is_ending Right me x (u, l) k e → k + 1 ≡ i + 1 → me.0.ends ≡ holds_end (At i Right) e' Arriving → arrived_at F.keeps F.rest_owes F.is_ending Right me x (u, l) i e'
-      told i e' u l here same ends' = let is : k ≡ i = omega arith in subst (λ (p : ℕ × E). arrived_at F.keeps F.rest_owes F.is_ending Right me x (u, l) p.0 p.1) (λ t. (is t, one_ending (sym ends ∙ ends') t)) here
+      told : (i : ℕ) (e' : E) (u : V) (l : List (ℕ × S)) → arrived_at F.keeps F.rest_owes F.is_ending Right n me x (u, l) k e → k + 1 ≡ i + 1 → me.0.ends ≡ holds_end (At i Right) e' Arriving → arrived_at F.keeps F.rest_owes F.is_ending Right n me x (u, l) i e'
+      told i e' u l here same ends' = let is : k ≡ i = omega arith in subst (λ (p : ℕ × E). arrived_at F.keeps F.rest_owes F.is_ending Right n me x (u, l) p.0 p.1) (λ t. (is t, one_ending (sym ends ∙ ends') t)) here
 
       first : k < r.count → (up : End) → r.cells k ≡ opened up false claimed → (w : V) × (act : Act S) × Valid s.homes me.1 act × Kept F born (stepped s (k + 1) (bit_or x 16) id me.1 w act) × side_arrived F.keeps F.rest_owes F.is_ending Right (step n (k + 1) 16 0 none) me x (w, carried_after me.1 act)
       first below up is = let v : V = me.0 in let cell = subst (CellOk F s.words s.homes r.holder r.ending k) is (r.each_cell k below) in let shows = cell.0 in let new : bit_or x 16 ≡ 23 + 256 * code_of up = ap (λ (y : ℕ). bit_or y 16) shows ∙ or_bit (code_of up) 7 16 23 (omega arith) (omega arith) refl (omega arith) in (
@@ -219,7 +229,7 @@ module _ {R C D E : Type 0} (F : Facts R C D E) (born : C) where
                 (two_out s.homes (4 * k + 2) (4 * k) (4 * k + 1) (λ q. omega arith) (λ q. omega arith) ∙ cell.4.1 (λ z. let t = ap kind held.0 in omega arith)) new,
             (λ i e' same ends'. told i e' u (carried_after me.1 act) (
               (λ lacks. absurd (omega arith)),
-              λ _. (cell.2.0, cell.3.1.0, r.ending (left_of k), r.ending (code_of up), up, (let is' = cell.0 in omega arith), cell.2.2, subst (λ (y : E). F.rest_owes cell.2.0 (r.ending (left_of k)) y (r.ending (code_of up))) held.1 cell.2.3, cell.3.1.2, refl, refl),
+              λ _. (cell.2.0, cell.3.1.0, r.ending (left_of k), r.ending (code_of up), up, (let is' = cell.0 in omega arith), cell.2.2, subst (λ (y : E). F.rest_owes cell.2.0 (r.ending (left_of k)) y (r.ending (code_of up))) held.1 cell.2.3, cell.3.1.2, (let near_up = kept_within s r k (code_of up) cell.1 in let sl = r.slots in omega arith), kept_root s r id k up v at alive cell.1, refl, refl),
             ) same ends'),
           )
 

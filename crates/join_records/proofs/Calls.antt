@@ -1,9 +1,12 @@
 -- What the calls need of what the steps tell.
 use Rattle.tpal_machine.specs.declared.ends.End.{End}
+use Rattle.tpal_machine.specs.declared.ends.End.TheVariants.{Root, At}
+use Rattle.tpal_machine.specs.declared.ends.SideName.TheVariants.{Left, Right}
+use Rattle.join_records.specs.Ends.{code_of, IsEndOf}
 use Rattle.join_records.specs.declared.views.Grip.{Grip}
 use Rattle.join_records.specs.declared.views.Grip.TheVariants.{Filling, Emptying, Emptied}
 use Rattle.join_records.specs.declared.views.Stage.TheVariants.{Steady}
-use Rattle.std.proofs.Common.{inl, inr, ◌≡◌, ◌≢◌, ◌⊎◌, ℕ, ◌+◌, ◌<◌, ◌≤◌, List, [], ◌∷◌, ◌++◌, length, refl, sym, ap, ◌∙◌, subst, arith, append_assoc, Bool, true, false, ◌&&◌, ◌||◌, cond, eqb, eq-eqb, ne_eqb, Some}
+use Rattle.std.proofs.Common.{inl, inr, ◌≡◌, ◌≢◌, ◌⊎◌, ℕ, ◌+◌, ◌*◌, ◌<◌, ◌≤◌, List, [], ◌∷◌, ◌++◌, length, refl, sym, ap, ◌∙◌, subst, arith, append_assoc, Bool, true, false, ◌&&◌, ◌||◌, cond, eqb, eq-eqb, ne_eqb, Some}
 use mathlib.Core.Option.{some, none}
 use mathlib.Core.Logic.{dite}
 use mir.Val.{bool_byte}
@@ -155,12 +158,18 @@ front_is l i j a b xs ys e f = ap (first_of a) (sym e ∙ f)
 pub child_is : {R C D : Type 0} (a b : C) (o : Option (Item R C D)) → o ≡ Some (Child a) → o ≡ Some (Child b) → a ≡ b
 child_is a b o e f = let z : Some (Child a) ≡ Some (Child b) = sym e ∙ f in cc
 
+-- an end whose code is within those of a table's records is Root or one of theirs
+pub end_within : (count : ℕ) (end : End) → 2 * code_of end ≤ 4 * count → IsEndOf count end
+end_within count Root small = tt
+end_within count (At k Left) small = omega arith
+end_within count (At k Right) small = omega arith
+
 module _ {R C D E : Type 0} where
-  pub arrived_counts : (keeps : R → End → Type 0) (rest_owes : R → E → E → E → Type 0) (is_ending : D → End → E → Type 0) (side : SideName) (m : Me (Option (Item R C D)) (View C E)) (x : ℕ) (m' : Me (Option (Item R C D)) (View C E)) (k : ℕ) (e : E)
-      → arrived_at keeps rest_owes is_ending side m x m' k e → (m.0.opens ≡ m'.0.opens) × (m.0.made ≡ m'.0.made)
-  arrived_counts keeps rest_owes is_ending side m x m' k e t = dite (ℕ_discrete (other_bit x side) 0)
+  pub arrived_counts : (keeps : R → End → Type 0) (rest_owes : R → E → E → E → Type 0) (is_ending : D → End → E → Type 0) (side : SideName) (slots : ℕ) (m : Me (Option (Item R C D)) (View C E)) (x : ℕ) (m' : Me (Option (Item R C D)) (View C E)) (k : ℕ) (e : E)
+      → arrived_at keeps rest_owes is_ending side slots m x m' k e → (m.0.opens ≡ m'.0.opens) × (m.0.made ≡ m'.0.made)
+  arrived_counts keeps rest_owes is_ending side slots m x m' k e t = dite (ℕ_discrete (other_bit x side) 0)
       (λ z. let s = (t.0 z).0 in (sym (ap (λ (v : View C E). v.opens) s), sym (ap (λ (v : View C E). v.made) s)))
-      (λ z. let s = (t.1 z).9 in (sym (ap (λ (v : View C E). v.opens) s), sym (ap (λ (v : View C E). v.made) s)))
+      (λ z. let s = (t.1 z).11 in (sym (ap (λ (v : View C E). v.opens) s), sym (ap (λ (v : View C E). v.made) s)))
 
 module _ {A : Type 0} where
   pub last_total : (f : A → ℕ) (items xs : List A) (x : A) → items ≡ xs ++ x ∷ [] → total f items ≡ total f xs + f x

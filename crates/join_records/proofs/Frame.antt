@@ -16,7 +16,7 @@ use Rattle.atomic_table.proofs.Lists.{at_set}
 use Rattle.join_records.specs.declared.slot.Item.{Item}
 use Rattle.join_records.specs.declared.views.View.{View}
 use Rattle.join_records.specs.Ends.{left_of, right_of}
-use Rattle.join_records.specs.Rule.{Facts, Holder, nobody, seat, kept, Progress, unclaimed, claimed, arrived, Phase, free, taken, opened, met, Era, unborn, running, finished, kind, hand_of, held_of, KeepsEnd, NamesBelow, CellOk, EraOk, SeatOk, Kept, LeftOk, RightOk, HasRest, HasSide, Waits}
+use Rattle.join_records.specs.Rule.{Facts, Holder, nobody, seat, kept, Progress, unclaimed, claimed, arrived, Phase, free, taken, opened, met, Era, unborn, running, finished, kind, hand_of, held_of, Rooted, KeepsEnd, NamesBelow, CellOk, EraOk, SeatOk, Kept, LeftOk, RightOk, HasRest, HasSide, Waits}
 use Rattle.join_records.specs.Views.{saw_finish, read}
 use Rattle.join_records.specs.Steps.{loaded}
 use Rattle.join_records.proofs.Functions.{put, at_put, total_same, at_below, saw_more, pick_else}
@@ -69,6 +69,7 @@ module _ {R C D E : Type 0} (F : Facts R C D E) (born : C) where
     keeps_end = r.keeps_end;
     seated = λ c j m e. subst (λ (n : ℕ). j < n) (sym (length-set s.views id w)) (r.seated c j m e);
     handed = λ k. subst (λ (n : ℕ). NamesBelow n (r.cells k)) (sym (length-set s.views id w)) (r.handed k);
+    within = r.within;
   }
     where
       era_same : (era : Era) → EraOk s.words s.views r.holder era → EraOk s.words (set s.views id w) r.holder era
@@ -89,6 +90,15 @@ module _ {R C D E : Type 0} (F : Facts R C D E) (born : C) where
     rooted = ok.rooted;
     idle = λ none. absurd (alive none);
   }
+
+  -- where Root is held or kept, each seat knows what is owed there
+  pub root_known : (s : St) (r : Kept F born s) (id : ℕ) (v : V) → get_elem? s.views id ≡ some v → v.parts ≢ 0 → kind (r.holder 0) ≢ 0 → v.root ≡ Some (r.ending 0)
+  root_known s r id v at alive live = by_era r.era r.era_ok ((r.each_seat id v at).rooted alive) ∙ ap Some (sym r.root_is)
+    where
+      by_era : (era : Era) → EraOk s.words s.views r.holder era → Rooted born r.root era v.born v.root → v.root ≡ Some r.root
+      by_era unborn ok is = absurd (live ok.2)
+      by_era running ok is = is
+      by_era finished ok is = is
 
   -- a load keeps the rule
   pub loads_keep : (s : St) (r : Kept F born s) (id i : ℕ) (v : V) → get_elem? s.views id ≡ some v → v.parts ≢ 0 → Kept F born record { words = set s.words i (get_or s.words i 0); homes = s.homes; views = set s.views id (read v i (get_or s.words i 0)) }
@@ -214,6 +224,8 @@ module _ {R C D E : Type 0} (F : Facts R C D E) (born : C) where
         seated = λ c j m e. subst (λ (n : ℕ). j < n) (sym seats) (⊎_elim (λ same. r.seated c j m (sym same.0 ∙ e))
             (λ loose. subst (λ (y : ℕ). y < length s.views) (sym (subst (Loose r.cells r.count id k) e loose.1).0) (at_below s.views id v at)) (changed c));
         handed = λ i. subst (λ (n : ℕ). NamesBelow n (put r.cells k ph i)) (sym seats) (at_put r.cells k ph (λ y a. NamesBelow (length s.views) a) i below (λ _. r.handed i));
+        within = λ c live. dite (ℕ_discrete c (left_of k)) (λ z. omega arith)
+            (λ l. dite (ℕ_discrete c (right_of k)) (λ z. omega arith) (λ q. r.within c (λ z. live ((soft c l q).0 ∙ z))));
       }
     where
       era_same : get_or (set s.words (k + 1) x) 0 0 ≡ get_or s.words 0 0 → kind (holder' 0) ≡ kind (r.holder 0) → length (set s.views id w) ≡ length s.views

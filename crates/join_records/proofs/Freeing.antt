@@ -5,7 +5,7 @@ use Rattle.join_records.specs.declared.views.Grip.TheVariants.{Emptying, Emptied
 use Rattle.join_records.specs.declared.views.Stage.{Stage}
 use Rattle.join_records.specs.declared.views.Stage.TheVariants.{Steady}
 use Rattle.join_records.specs.Ends.{code_of}
-use Rattle.std.proofs.Common.{◌≡◌, ◌≢◌, ◌⊎◌, ℕ, ◌+◌, ◌*◌, ◌<◌, eqb, List, [], ◌∷◌, length, get_or, set, false, refl, sym, ap, ◌∙◌, subst, inl, inr, ⊎_elim, arith, length-set, get_or-set_same, get_or-set_other}
+use Rattle.std.proofs.Common.{◌≡◌, ◌≢◌, ◌⊎◌, ℕ, ◌+◌, ◌*◌, ◌<◌, ◌≤◌, eqb, List, [], ◌∷◌, length, get_or, set, false, refl, sym, ap, ◌∙◌, subst, inl, inr, ⊎_elim, arith, length-set, get_or-set_same, get_or-set_other}
 use mathlib.Core.Option.{some, none}
 use mathlib.Core.Option as maybe
 use mathlib.Core.Logic.{dite}
@@ -22,7 +22,7 @@ use Rattle.join_records.specs.Rule.{Facts, Holder, nobody, seat, kept, free, met
 use Rattle.join_records.specs.Views.{in_hand, read, with_hand, with_ends, holds_end, drop_record, NoneMet, total, one_made}
 use Rattle.join_records.specs.Steps.{slots_given, full_read, record_freed, finish_made}
 use Rattle.join_records.proofs.Functions.{put, put_here, put_else, at_put, at_below, saw_more, pick_here, pick_else, dead_none, hand_put, hand_drop, hand_met, hand_emptying, total_set, total_same, at_most}
-use Rattle.join_records.proofs.Frame.{Loose, told_more, loads_keep, cell_stays, moved}
+use Rattle.join_records.proofs.Frame.{Loose, told_more, root_known, loads_keep, cell_stays, moved}
 use Rattle.join_records.proofs.Opening.{end_held, not_held, no_met}
 
 module _ {R C D E : Type 0} (F : Facts R C D E) (born : C) where
@@ -155,7 +155,7 @@ module _ {R C D E : Type 0} (F : Facts R C D E) (born : C) where
     not_over finished ok = let t = ap kind root_held.0 in let z = ok.2 in absurd (omega arith)
 
     root_told : v.root ≡ Some e
-    root_told = subst (λ (q : Era). Rooted born r.root q v.born v.root) (not_over r.era r.era_ok).0 ((r.each_seat id v at).rooted alive) ∙ ap Some (sym r.root_is ∙ root_held.1)
+    root_told = root_known F born s r id v at alive (λ z. let t = ap kind root_held.0 in omega arith) ∙ ap Some root_held.1
 
     -- no view made the finish, and so this one did not
     made_none : v.made ≡ 0
@@ -187,6 +187,7 @@ module _ {R C D E : Type 0} (F : Facts R C D E) (born : C) where
           keeps_end = λ c k z. at_put r.holder 0 nobody (λ y a. a ≡ kept k → (k < r.count) × KeepsEnd y (r.cells k)) c (λ q. absurd (nobody_kept q)) (λ _ q. r.keeps_end c k q) z;
           seated = λ c j m z. subst (λ (n : ℕ). j < n) (sym seats) (at_put r.holder 0 nobody (λ y a. a ≡ seat j m → j < length s.views) c (λ q. absurd (nobody_seat q)) (λ _ q. r.seated c j m q) z);
           handed = λ k. subst (λ (n : ℕ). NamesBelow n (r.cells k)) (sym seats) (r.handed k);
+          within = λ c. at_put r.holder 0 nobody (λ y a. kind a ≢ 0 → y ≤ 2 * r.count) c (λ live. absurd (live refl)) (λ _. r.within c);
         }
       where
         nobody_kept : {k : ℕ} → nobody ≡ kept k → ⊥

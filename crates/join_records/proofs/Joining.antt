@@ -167,6 +167,7 @@ module _ {R C D E : Type 0} (F : Facts R C D E) (born : C) (id other : ℕ) (apa
         keeps_end = λ c k e. let a = r.keeps_end c k (hold_kept (r.holder c) k e) in (a.0, keeps_same c (r.cells k) a.1);
         seated = λ c j m e. subst (λ (y : ℕ). j < y) (sym n) (hold_seat (r.holder c) j m (length s.views) near (λ i l is. r.seated c i l is) e);
         handed = λ k. subst (λ (y : ℕ). NamesBelow y (be (r.cells k))) (sym n) (named_same s r (length s.views) (r.cells k) near (r.handed k));
+        within = λ c live. r.within c (λ z. live (kind_same (r.holder c) ∙ z));
       }
     where
       hold_kept : (h : Holder) (k : ℕ) → hold h ≡ kept k → h ≡ kept k

@@ -132,6 +132,7 @@ module _ {R C D E : Type 0} (F : Facts R C D E) (born : C) where
     keeps_end = λ c k e'. absurd (nobody_kept e');
     seated = λ c j m e'. absurd (nobody_seat e');
     handed = λ _. tt;
+    within = λ c live. absurd (live refl);
   }
     where
       nobody_kept : {k : ℕ} → nobody ≡ kept k → ⊥
@@ -203,6 +204,7 @@ module _ {R C D E : Type 0} (F : Facts R C D E) (born : C) where
       keeps_end = λ c k e. at_put r.holder 0 (seat id Steady) (λ y a. a ≡ kept k → (k < r.count) × KeepsEnd y (r.cells k)) c (λ z. absurd (seat_kept z)) (λ _ z. r.keeps_end c k z) e;
       seated = λ c j m e. subst (λ (n : ℕ). j < n) (sym seats) (at_put r.holder 0 (seat id Steady) (λ y a. a ≡ seat j m → j < length s.views) c (λ z. subst (λ (y : ℕ). y < length s.views) (seat_is z) (at_below s.views id v at)) (λ _ z. r.seated c j m z) e);
       handed = λ k. subst (λ (n : ℕ). NamesBelow n (r.cells k)) (sym seats) (r.handed k);
+      within = λ c. at_put r.holder 0 (seat id Steady) (λ y a. kind a ≢ 0 → y ≤ 2 * r.count) c (λ _. omega arith) (λ _. r.within c);
     }
       where
         seat_kept : {j k : ℕ} {m : Stage} → seat j m ≡ kept k → ⊥
@@ -256,6 +258,7 @@ module _ {R C D E : Type 0} (F : Facts R C D E) (born : C) where
         keeps_end = r.keeps_end;
         seated = λ c j m is. let b = r.seated c j m is in omega arith;
         handed = λ k. below_more (r.cells k) (length s.views) (length (vs ++ fresh v ∷ [])) (omega arith) (r.handed k);
+        within = r.within;
       }
     where
       below_more : (ph : Phase) (m n : ℕ) → m ≤ n → NamesBelow m ph → NamesBelow n ph

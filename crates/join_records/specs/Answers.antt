@@ -1,7 +1,7 @@
 -- What the calls ask and answer.
-use Rattle.std.specs.Prelude.{◌≡◌, ◌≢◌, ◌⊎◌, ℕ, ◌+◌, ◌<◌, ◌≤◌, ◌%◌, List, [], ◌∷◌, ◌++◌, Contains}
+use Rattle.std.specs.Prelude.{◌≡◌, ◌≢◌, ◌⊎◌, ℕ, ◌+◌, ◌<◌, ◌≤◌, ◌%◌, List, [], ◌∷◌, ◌++◌, Some, Contains}
 use Rattle.tpal_machine.specs.declared.ends.End.{End}
-use Rattle.tpal_machine.specs.declared.ends.End.TheVariants.{At}
+use Rattle.tpal_machine.specs.declared.ends.End.TheVariants.{Root, At}
 use Rattle.tpal_machine.specs.declared.ends.SideName.{SideName}
 use Rattle.tpal_machine.specs.declared.ends.SideName.TheVariants.{Left, Right}
 use Rattle.join_records.specs.declared.table.Arrival.{Arrival}
@@ -9,6 +9,7 @@ use Rattle.join_records.specs.declared.table.Arrival.TheVariants.{First, Second}
 use Rattle.join_records.specs.declared.views.Grip.TheVariants.{Reserved, Filling, Emptied}
 use Rattle.join_records.specs.declared.views.Stage.TheVariants.{Steady}
 use Rattle.join_records.specs.declared.views.View.{View}
+use Rattle.join_records.specs.Ends.{IsEndOf}
 use Rattle.join_records.specs.Words.{other_bit}
 use Rattle.join_records.specs.Views.{holds_end, Holds, HoldsNot, read, with_hand, with_ends}
 use Rattle.join_records.specs.Views.{drop_record}
@@ -125,13 +126,14 @@ other Right left right = left
 
 -- what an arrival answers, where `e` is owed at this side's end: `First` where the word that its
 -- fetch-or read lacks the other side's bit. Else the rest and both outcomes of this opening, and
--- the pass holds the end that the rest keeps with what it owes for both
+-- the pass holds the end that the rest keeps with what it owes for both. That end is Root or one of
+-- the `count` records, and Root is held with Root's ending
 module _ {L R C D E : Type 0} where
-  abbrev pub Arrives : (R → End → Type 0) → (R → E → E → E → Type 0) → (D → End → E → Type 0)
+  abbrev pub Arrives : ℕ → (R → End → Type 0) → (R → E → E → E → Type 0) → (D → End → E → Type 0)
       → SideName → D → View C E → ℕ → E → Arrival L R C D E → View C E → Type 0
-  Arrives keeps rest_owes is_ending side out v k e First w =
+  Arrives count keeps rest_owes is_ending side out v k e First w =
       (x : ℕ) × (y : ℕ) × (other_bit y side ≡ 0) × (w ≡ left_alone v k x y)
-  Arrives keeps rest_owes is_ending side out v k e (Second rest left right met) w =
+  Arrives count keeps rest_owes is_ending side out v k e (Second rest left right met) w =
       (x : ℕ)
       × (y : ℕ)
       × (z : ℕ)
@@ -144,4 +146,6 @@ module _ {L R C D E : Type 0} where
       × is_ending (other side left right) (At k (other_side side)) q
       × (own side left right ≡ out)
       × (met_number met ≡ k)
+      × IsEndOf count up
+      × (up ≡ Root → v.root ≡ Some u)
       × (w ≡ met_view v k x y z up u)

@@ -1,6 +1,6 @@
 -- The ends of tasks as numbers, as they stand in the words of records: 0 for Root, else 1 + 2 *
 -- record for the left end and 2 + 2 * record for the right end.
-use Rattle.std.specs.Prelude.{ℕ, ◌+◌, ◌*◌}
+use Rattle.std.specs.Prelude.{ℕ, ◌+◌, ◌*◌, ◌<◌}
 use Rattle.tpal_machine.specs.declared.ends.End.{End}
 use Rattle.tpal_machine.specs.declared.ends.End.TheVariants.{Root, At}
 use Rattle.tpal_machine.specs.declared.ends.SideName.{SideName}
@@ -19,3 +19,8 @@ end_of k Right = right_of k
 abbrev pub code_of : End → ℕ
 code_of Root = 0
 code_of (At k side) = end_of k side
+
+-- Root, or an end of one of the first `count` records
+abbrev pub IsEndOf : ℕ → End → Type 0
+IsEndOf count Root = Unit {0}
+IsEndOf count (At k side) = k < count

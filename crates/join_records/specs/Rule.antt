@@ -3,7 +3,7 @@
 -- where each record is. So there is exactly one holder, and one hand, of each. Word 0 is the finish
 -- word. Word k + 1 is that of record k, which has the slots 4 * k for the rest, 4 * k + 1 for the
 -- child, and the next two for the outcomes of its left and right sides.
-use Rattle.std.specs.Prelude.{◌≡◌, ◌≢◌, ℕ, suc, ◌+◌, ◌*◌, ◌<◌, List, length, Bool, true, false}
+use Rattle.std.specs.Prelude.{◌≡◌, ◌≢◌, ℕ, suc, ◌+◌, ◌*◌, ◌<◌, ◌≤◌, List, length, Bool, true, false}
 use Rattle.std.specs.Prelude.{cond, eqb, Option, Some, None, slice_index_or}
 use mathlib.Core.Option.{some}
 use mathlib.Core.Option as maybe
@@ -247,3 +247,5 @@ pub record Kept {R C D E : Type 0} (F : Facts R C D E) (born : C)
   pub keeps_end : (c k : ℕ) → holder c ≡ kept k → (k < count) × KeepsEnd c (cells k)
   pub seated : (c j : ℕ) (m : Stage) → holder c ≡ seat j m → j < length s.views
   pub handed : (k : ℕ) → NamesBelow (length s.views) (cells k)
+  -- only Root and the ends of the table's records are held or kept
+  pub within : (c : ℕ) → kind (holder c) ≢ 0 → c ≤ 2 * count

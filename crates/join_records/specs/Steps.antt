@@ -1,7 +1,7 @@
 -- What each kind of atomic step tells the seat that steps: its view and its slots before and after,
 -- and the word that was found. Each event of a record is one of these steps. Those that only load
 -- bring slots to a seat or send them home.
-use Rattle.std.specs.Prelude.{◌≡◌, ◌≢◌, ℕ, ◌+◌, ◌*◌, [], ◌∷◌, true, Option, Some, None}
+use Rattle.std.specs.Prelude.{◌≡◌, ◌≢◌, ℕ, ◌+◌, ◌*◌, ◌≤◌, [], ◌∷◌, true, Option, Some, None}
 use Rattle.atomic_table.specs.Table.{Me, Step, rest}
 use Rattle.tpal_machine.specs.declared.ends.End.{End}
 use Rattle.tpal_machine.specs.declared.ends.End.TheVariants.{Root, At}
@@ -160,19 +160,21 @@ module _ {R C D E : Type 0} where
       → (m'.0 ≡ with_ends (read m.0 (k + 1) x) (holds_end (At k side) e Arriving))
       × (m'.1 ≡ (slot_of k side, None) ∷ m.1)
 
-  -- of record k and the ending e: the first side sends its outcome's slot home, and the second gets
-  -- the rest and the other's outcome, and holds the end that the rest keeps
+  -- of record k and the ending e, at a table with so many slots: the first side sends its outcome's
+  -- slot home, and the second gets the rest and the other's outcome, and holds the end that the rest
+  -- keeps, which is Root or an end of one of the table's records. Root is held with Root's ending
   abbrev pub arrived_at : (R → End → Type 0)
       → (R → E → E → E → Type 0)
       → (D → End → E → Type 0)
       → SideName
+      → ℕ
       → Me (Option (Item R C D)) (View C E)
       → ℕ
       → Me (Option (Item R C D)) (View C E)
       → ℕ
       → E
       → Type 0
-  arrived_at keeps rest_owes is_ending side m x m' k e =
+  arrived_at keeps rest_owes is_ending side slots m x m' k e =
       (other_bit x side ≡ 0 → (m'.0 ≡ with_ends (read m.0 (k + 1) x) []) × (m'.1 ≡ rest m.1))
       × (other_bit x side ≢ 0
       → (r : R)
@@ -184,6 +186,8 @@ module _ {R C D E : Type 0} where
       × keeps r up
       × owes_by rest_owes side r e q u
       × is_ending o (At k (other_side side)) q
+      × (2 * code_of up ≤ slots)
+      × (up ≡ Root → m.0.root ≡ Some u)
       × (m'.0
       ≡ with_hand (with_ends (read m.0 (k + 1) x) (holds_end up u Steady))
       ((k, Emptying up) ∷ drop_record k m.0.hand))
@@ -202,7 +206,7 @@ module _ {R C D E : Type 0} where
       (k : ℕ) (e : E)
       → st.word ≡ k + 1
       → m.0.ends ≡ holds_end (At k side) e Arriving
-      → arrived_at keeps rest_owes is_ending side m x m' k e
+      → arrived_at keeps rest_owes is_ending side st.slots m x m' k e
 
   -- the three slots of a met record go home
   abbrev pub slots_given : Step (Option (Item R C D))

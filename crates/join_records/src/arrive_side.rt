@@ -58,8 +58,8 @@ impl<L: Load> Records<L> {
             × L.is_ending d (At k Left) e) }
         ensures hit { (e : L.Ending)
             → (view pass.old).ends ≡ holds_end (At k Left) e Arriving
-            → arrived_at L.keeps L.rest_owes L.is_ending Left pass.old.seat.me result
-            pass.new.seat.me k e }
+            → arrived_at L.keeps L.rest_owes L.is_ending Left (4 * record_count self.now)
+            pass.old.seat.me result pass.new.seat.me k e }
         ensures pass { IsSameSeat pass.old pass.new }
     {
         let seat = &mut pass.seat;
@@ -104,8 +104,8 @@ impl<L: Load> Records<L> {
             × L.is_ending d (At k Right) e) }
         ensures hit { (e : L.Ending)
             → (view pass.old).ends ≡ holds_end (At k Right) e Arriving
-            → arrived_at L.keeps L.rest_owes L.is_ending Right pass.old.seat.me result
-            pass.new.seat.me k e }
+            → arrived_at L.keeps L.rest_owes L.is_ending Right (4 * record_count self.now)
+            pass.old.seat.me result pass.new.seat.me k e }
         ensures pass { IsSameSeat pass.old pass.new }
     {
         let seat = &mut pass.seat;
@@ -160,7 +160,7 @@ impl<L: Load> Records<L> {
             × L.is_ending out (At rec Left) e) }
         ensures arrived { (e : L.Ending)
             → Holds (view pass.old) (At rec Left) e
-            → Arrives L.keeps L.rest_owes L.is_ending Left out (view pass.old) rec e result
+            → Arrives (record_count self.now) L.keeps L.rest_owes L.is_ending Left out (view pass.old) rec e result
             (view pass.new) }
         ensures pass { IsSamePass pass.old pass.new }
     {
@@ -188,7 +188,7 @@ impl<L: Load> Records<L> {
             × L.is_ending out (At rec Right) e) }
         ensures arrived { (e : L.Ending)
             → Holds (view pass.old) (At rec Right) e
-            → Arrives L.keeps L.rest_owes L.is_ending Right out (view pass.old) rec e result
+            → Arrives (record_count self.now) L.keeps L.rest_owes L.is_ending Right out (view pass.old) rec e result
             (view pass.new) }
         ensures pass { IsSamePass pass.old pass.new }
     {
@@ -210,8 +210,9 @@ impl<L: Load> Records<L> {
     /// A side arrives with its outcome at a record whose end the pass holds. `First` comes exactly
     /// where the word that the arriving step reads lacks the other side's bit: the outcome stays
     /// there, and the pass holds no end. `Second` hands out the rest and both outcomes of this
-    /// opening: the pass holds the end that the rest keeps, and has the record in hand as met until
-    /// it frees it.
+    /// opening: the pass holds the end that the rest keeps, Root or an end of one of the table's
+    /// records, and has the record in hand as met until it frees it. Root is held with Root's
+    /// ending.
     pub fn arrive(&self, pass: &mut Pass<L>, rec: u32, side: SideName, out: L::Side) -> Arrival<L>
         requires table { IsPassOf self.now pass.old }
         requires number { rec < record_count self.now }
@@ -221,7 +222,7 @@ impl<L: Load> Records<L> {
         requires none_met { NoneMet (view pass.old) }
         ensures arrived { (e : L.Ending)
             → Holds (view pass.old) (At rec side) e
-            → Arrives L.keeps L.rest_owes L.is_ending side out (view pass.old) rec e result
+            → Arrives (record_count self.now) L.keeps L.rest_owes L.is_ending side out (view pass.old) rec e result
             (view pass.new) }
         ensures pass { IsSamePass pass.old pass.new }
     {

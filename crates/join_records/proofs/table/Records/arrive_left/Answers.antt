@@ -4,7 +4,7 @@ use Rattle.tpal_machine.specs.declared.ends.SideName.TheVariants.{Left, Right}
 use Rattle.join_records.specs.declared.slot.Item.TheVariants.{Rest, Side}
 use Rattle.join_records.specs.declared.views.Stage.TheVariants.{Arriving}
 use Rattle.join_records.specs.Views.{NoneMet, holds_end}
-use Rattle.join_records.proofs.Calls.{met_after, not_zero, slots_are}
+use Rattle.join_records.proofs.Calls.{end_within, met_after, not_zero, slots_are}
 use Rattle.join_records.proofs.table.Records.arrive_left.Goals as goal
 
 pub hit_left-found-requires-clause-end : goal.hit_left-found-requires-clause-end
@@ -14,7 +14,7 @@ hit_left-found-requires-clause-end g c κs within = let end = c.requires.end.1 i
 pub returns-clause-arrived : goal.returns-clause-arrived
 returns-clause-arrived g c = λ e is. let k : ℕ = c.args.rec in let seen = c.put_left.ensures.seen in let now = seen.1 e is in let y : ℕ = c.hit_left-found.result in
     let had = not_zero (y / 16 % 2) _ c.lacks_right.ensures c.if-lacks_right.false in let second = (c.hit_left-found.ensures.hit e (ap (λ v. v.ends) now)).1 had in
-    let same = slots_are (sym c.collect-rest.ensures.values ∙ (second.10 ∙ ap (λ l. (4 * k, Some (Rest second.0)) ∷ (4 * k + 3, Some (Side second.1)) ∷ l) c.put_left.ensures.slot)) in
+    let same = slots_are (sym c.collect-rest.ensures.values ∙ (second.12 ∙ ap (λ l. (4 * k, Some (Rest second.0)) ∷ (4 * k + 3, Some (Side second.1)) ∷ l) c.put_left.ensures.slot)) in
     let last = c.collect-rest.ensures.seen in (
       seen.0,
       y,
@@ -28,5 +28,7 @@ returns-clause-arrived g c = λ e is. let k : ℕ = c.args.rec in let seen = c.p
       subst (λ d. g.L.Load.is_ending d (At k Right) second.2) (sym same.1) second.8,
       same.2,
       refl,
-      met_after k seen.0 y last.0 (holds_end (At k Left) e Arriving) second.4 second.3 c.args.pass.now.seat.me.0 c.put_left.new.pass.seat.me.0 c.hit_left-found.new.pass.seat.me.0 c.collect-rest.new.pass.seat.me.0 now second.9 (last.1 second.4 c.put_left.new.pass.seat.me.0.hand (ap (λ v. v.hand) second.9)),
+      end_within c.args.self.now.count second.4 second.9,
+      λ root. ap (λ v. v.root) (sym now) ∙ second.10 root,
+      met_after k seen.0 y last.0 (holds_end (At k Left) e Arriving) second.4 second.3 c.args.pass.now.seat.me.0 c.put_left.new.pass.seat.me.0 c.hit_left-found.new.pass.seat.me.0 c.collect-rest.new.pass.seat.me.0 now second.11 (last.1 second.4 c.put_left.new.pass.seat.me.0.hand (ap (λ v. v.hand) second.11)),
     )
