@@ -13,7 +13,10 @@ use Rattle.join_records.specs.declared.views.Grip.{Grip}
 use Rattle.join_records.specs.declared.views.Grip.TheVariants.{Reserved, Emptying, Emptied}
 use Rattle.join_records.specs.declared.views.View.{View}
 use Rattle.join_records.specs.Views.{in_hand, drop_record, NoneMet, HasMet, read, with_hand, with_ends, holds_end, opened_view}
-use Rattle.join_records.specs.Answers.{FoundFree, met_view, reads_more, ReadFew, Unclaimable, ClaimsSoon}
+use Rattle.join_records.specs.declared.table.Taken.{Taken}
+use Rattle.join_records.specs.Passes.{taken_number}
+use Rattle.std.specs.Prelude.{Option, IfSome, IfNone, ◌<◌}
+use Rattle.join_records.specs.Answers.{FoundFree, NoneFree, met_view, reads_more, ReadFew, Unclaimable, ClaimsSoon}
 use Rattle.join_records.proofs.Functions.{dropped, undropped, dropped_twice, length_more}
 
 module _ {C E : Type 0} where
@@ -32,6 +35,17 @@ module _ {C E : Type 0} where
 
       not_emptying : {up : End} → Some Reserved ≡ Some (Emptying up) → ⊥
       not_emptying e = cc
+
+module _ {C E : Type 0} where
+  -- a search, whether it found a record or not, leaves the ends and what was opened, and none met
+  pub searched : (o : Option Taken) (v w : View C E) (n : ℕ) → IfSome o (λ t. FoundFree v (taken_number t) w) → IfNone o (NoneFree 0 n v w) → NoneMet v → NoneMet w × (w.ends ≡ v.ends) × (w.parts ≡ v.parts) × (w.opens ≡ v.opens)
+  searched None v w n found none unmet = let is = none.1 in (subst (λ (u : View C E). NoneMet u) (sym is) unmet, ap (λ (u : View C E). u.ends) is, ap (λ (u : View C E). u.parts) is, ap (λ (u : View C E). u.opens) is)
+  searched (Some t) v w n found none unmet = let is = found.1 in (found_unmet v w (taken_number t) unmet found, ap (λ (u : View C E). u.ends) is, ap (λ (u : View C E). u.parts) is, ap (λ (u : View C E). u.opens) is)
+
+  -- in a table of one record it finds the first
+  pub found_first : (o : Option Taken) (v w : View C E) (n : ℕ) → n ≡ 1 → IfSome o (λ t. FoundFree v (taken_number t) w) → IfSome o (λ t. taken_number t < n) → IfSome o (λ t. (taken_number t ≡ 0) × (in_hand w.hand 0 ≡ Some Reserved))
+  found_first None v w n one found below = tt
+  found_first (Some t) v w n one found below = let zero : taken_number t ≡ 0 = omega arith in (zero, subst (λ (k : ℕ). in_hand w.hand k ≡ Some Reserved) zero (found_here v w (taken_number t) found))
 
 none_some : {A : Type 0} {x : A} → None ≡ Some x → ⊥
 none_some e = cc

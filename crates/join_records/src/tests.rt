@@ -1,14 +1,15 @@
 // A record's life, in one thread and in two. Each step is a function with a contract, so that the
 // calls of a test are short to prove.
 
-ghost use Rattle.std.specs.Prelude.{◌≡◌, ℕ, ◌+◌, IfOk, IfSome, IfNone};
+ghost use Rattle.std.specs.Prelude.{◌≡◌, ℕ, ◌+◌, Some, IfOk, IfSome, IfNone};
 ghost use Rattle.tpal_machine.specs.declared.ends.End.TheVariants.{Root, At};
 ghost use Rattle.tpal_machine.specs.declared.ends.SideName.TheVariants.{Left, Right};
-ghost use Rattle.join_records.specs.Views.{Holds, HoldsNothing, NoneMet};
-ghost use Rattle.join_records.specs.Passes.{IsPassOf, record_count, view};
+ghost use Rattle.join_records.specs.declared.views.Grip.TheVariants.{Reserved};
+ghost use Rattle.join_records.specs.Views.{Holds, HoldsNothing, in_hand, NoneMet};
+ghost use Rattle.join_records.specs.Passes.{IsPassOf, record_count, taken_number, view};
 
 use crate::load::Load;
-use crate::table::{Arrival, Pass, Records};
+use crate::table::{Arrival, Pass, Records, Taken};
 use std::alloc::Global;
 use std::test::Fail;
 use std::thread::{Threads, join};
@@ -92,20 +93,37 @@ fn finds_none(table: &Records<Numbers>, pass: &mut Pass<Numbers>) -> bool
     }
 }
 
-/// Takes the record and opens it: 1 waits there for 2 and 4.
-fn open_one(table: &Records<Numbers>, pass: &mut Pass<Numbers>) -> Option<u32>
+/// Takes the record where it is free.
+fn take_one(table: &Records<Numbers>, pass: &mut Pass<Numbers>) -> Option<Taken>
     requires table { IsPassOf table.now pass.old × (record_count table.now ≡ 1) }
     requires root { Holds (view pass.old) Root 7 }
     requires none_met { NoneMet (view pass.old) }
+    ensures taken { IfSome result
+        (λ taken. (taken_number taken ≡ 0) × (in_hand (view pass.new).hand 0 ≡ Some Reserved)) }
+    ensures pass { IsPassOf table.now pass.new
+        × Holds (view pass.new) Root 7
+        × NoneMet (view pass.new)
+        × ((view pass.new).parts ≡ (view pass.old).parts)
+        × ((view pass.new).opens ≡ (view pass.old).opens) }
+{
+    table.find_free(pass)
+}
+
+/// Opens the record that was taken: 1 waits there for 2 and 4.
+fn open_one(table: &Records<Numbers>, pass: &mut Pass<Numbers>, taken: Taken) -> u32
+    requires table { IsPassOf table.now pass.old × (record_count table.now ≡ 1) }
+    requires taken { (taken_number taken ≡ 0) × (in_hand (view pass.old).hand 0 ≡ Some Reserved) }
+    requires root { Holds (view pass.old) Root 7 }
+    requires none_met { NoneMet (view pass.old) }
     requires opens { (view pass.old).opens ≡ 0 }
-    ensures opened { IfSome result
-        (λ k. (k ≡ 0) × Holds (view pass.new) (At 0 Left) 2 × ((view pass.new).opens ≡ 1)) }
+    ensures opened { (result ≡ 0)
+        × Holds (view pass.new) (At 0 Left) 2
+        × ((view pass.new).opens ≡ 1) }
     ensures pass { IsPassOf table.now pass.new
         × NoneMet (view pass.new)
         × ((view pass.new).parts ≡ (view pass.old).parts) }
 {
-    let taken = table.find_free(pass)?;
-    Some(table.open_at(pass, taken, 1, &2, 4, End::Root))
+    table.open_at(pass, taken, 1, &2, 4, End::Root)
 }
 
 /// Arrives at the record, and frees it where it was the second to arrive.
@@ -190,10 +208,12 @@ fn closed_opens(
 #[test]
 fn both_sides_meet_at_a_record(rt: HostRuntime) -> Result<(), Fail> {
     let (table, mut first, mut second) = two_passes(rt.alloc())?;
-    let Some(number) = open_one(&table, &mut first) else {
+    let Some(taken) = take_one(&table, &mut first) else {
         panic!(rt; "the record is free");
     };
-    assert_eq!(rt; number, 0);
+    assert_eq!(rt; taken.number(), 0);
+    assert!(rt; finds_none(&table, &mut second), "the record is taken");
+    assert_eq!(rt; open_one(&table, &mut first, taken), 0);
     assert!(rt; finds_none(&table, &mut second), "the record is open");
     let Some(right) = right_half(&table, &mut second) else {
         panic!(rt; "the child is unclaimed");
@@ -309,9 +329,10 @@ fn both_halves<R: Threads + Sync>(
 fn both_sides_meet_from_two_threads(rt: HostRuntime) -> Result<(), Fail> {
     for _ in 0..100 {
         let (table, mut first, second) = two_passes(rt.alloc())?;
-        if open_one(&table, &mut first).is_none() {
+        let Some(taken) = take_one(&table, &mut first) else {
             panic!(rt; "the record is free");
-        }
+        };
+        assert_eq!(rt; open_one(&table, &mut first, taken), 0);
         let ((mut first, left), (mut second, right)) = both_halves(&rt, &table, first, second);
         let Some(right) = right else {
             panic!(rt; "the child is unclaimed");
