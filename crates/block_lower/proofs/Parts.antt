@@ -15,7 +15,7 @@ use Rattle.tpal_machine.specs.declared.cut.TableCut.{TableCut}
 use Rattle.tpal_machine.specs.declared.cut.TableCut.TheVariants.{ByRows, ByCells, Whole}
 use Rattle.tpal_machine.specs.Cut.{are_rows_held, child_of, cut_of, each_part, is_row_held, is_whole, left_of, nothing_of, rest_of}
 use Rattle.block_lower.proofs.Cells.{listed_whole}
-use Rattle.block_lower.proofs.Regions.{Extent, Wholly, Has, Unknown, Region, AreShown, HasSize, IsPart, IsShown, part_cell, size_shown, whole_shown}
+use Rattle.block_lower.proofs.Regions.{Extent, Wholly, Has, Unknown, Region, AreShown, HasSize, IsPart, IsShown, part_cell, whole_shown}
 
 -- ---- less of a table
 
@@ -59,11 +59,17 @@ same_size h k t rows cols size =
 same_shown : (e : Extent) (h k : Holding) (t : Table) → k.rows ≡ h.rows → k.cols ≡ h.cols
     → ((i j : ℤ) → cell_at k i j ≡ cell_at h i j) → IsShown e h t → IsShown e k t
 same_shown Wholly h k t rows cols cells shown =
-    record { size = same_size h k t rows cols shown.size; cells =
-    λ i j. cells i j ∙ shown.cells i j }
+    record {
+      size = same_size h k t rows cols shown.size;
+      cells =
+          λ i j. cells i j ∙ shown.cells i j;
+    }
 same_shown (Has test) h k t rows cols cells shown =
-    record { size = same_size h k t rows cols shown.size; cells =
-    λ i j. cells i j ∙ shown.cells i j }
+    record {
+      size = same_size h k t rows cols shown.size;
+      cells =
+          λ i j. cells i j ∙ shown.cells i j;
+    }
 same_shown Unknown h k t rows cols cells shown = same_size h k t rows cols shown
 
 both_tests : (a b c : Bool) (v : Option ℤ)
@@ -81,7 +87,7 @@ part_narrowed other test h t part = record {
   cells = λ i j.
       cell_at-held_where (λ p. test p.0 p.1) h i j
       ∙ (ap (λ (o : Option ℤ). cond (test i j) o None) (part.cells i j)
-          ∙ both_tests (has_cell t i j) (other i j) (test i j) (Some (cell_of t i j)));
+      ∙ both_tests (has_cell t i j) (other i j) (test i j) (Some (cell_of t i j)));
 }
 
 narrowed_shown : (test : ℤ → ℤ → Bool) (e : Extent) (h : Holding) (t : Table) → IsShown e h t
@@ -103,12 +109,18 @@ never false b v = refl
 nothing_shown : (e : Extent) (h : Holding) (t : Table) → IsShown e h t
     → IsShown (narrowed (λ i j. false) e) (nothing_of h) t
 nothing_shown Wholly h t shown =
-    record { size = same_size h (nothing_of h) t refl refl shown.size; cells =
-    λ i j. get-empty place_cmp (i, j) ∙ sym (no_cell (has_cell t i j) (Some (cell_of t i j))) }
+    record {
+      size = same_size h (nothing_of h) t refl refl shown.size;
+      cells =
+          λ i j. get-empty place_cmp (i, j) ∙ sym (no_cell (has_cell t i j) (Some (cell_of t i j)));
+    }
 nothing_shown (Has test) h t shown =
-    record { size = same_size h (nothing_of h) t refl refl shown.size; cells =
-    λ i j. get-empty place_cmp (i, j)
-    ∙ sym (never (has_cell t i j) (test i j) (Some (cell_of t i j))) }
+    record {
+      size = same_size h (nothing_of h) t refl refl shown.size;
+      cells =
+          λ i j. get-empty place_cmp (i, j)
+          ∙ sym (never (has_cell t i j) (test i j) (Some (cell_of t i j)));
+    }
 nothing_shown Unknown h t shown = same_size h (nothing_of h) t refl refl shown
 
 -- ---- a table that is wholly held is whole
@@ -121,7 +133,7 @@ module _ (h : Holding) (t : Table) (part : IsPart (λ i j. true) h t) where
       let first : nat_lt row t.rows ≡ true = lt-ltb row t.rows in_rows in
       let second : nat_lt col t.cols ≡ true = lt-ltb col t.cols (omega (arith, in_cols)) in
       let is : cell_at h (pos row) (pos col) ≡ Some (cell_of t (pos row) (pos col)) =
-          part.cells (pos row) (pos col) ∙ rw (first, second) refl in
+      part.cells (pos row) (pos col) ∙ rw (first, second) refl in
       rw is (row_held row (col + 1) n in_rows (omega (arith, in_cols)))
 
   rows_held : (row n : ℕ) → row + n ≤ t.rows → are_rows_held h row n ≡ true
@@ -129,7 +141,7 @@ module _ (h : Holding) (t : Table) (part : IsPart (λ i j. true) h t) where
   rows_held row zero in_rows = refl
   rows_held row (suc n) in_rows =
       let first : is_row_held h row 0 h.cols ≡ true =
-          row_held row 0 h.cols (omega (arith, in_rows)) (omega (arith, part.size.cols)) in
+      row_held row 0 h.cols (omega (arith, in_rows)) (omega (arith, part.size.cols)) in
       rw first (rows_held (row + 1) n (omega (arith, in_rows)))
 
   wholly_whole : is_whole h ≡ true
@@ -184,14 +196,16 @@ pub parts_shown : (part : TableCut → Holding → Holding) (extent : TableCut �
     → ((cut : TableCut) (e : Extent) (h : Holding) (t : Table) → IsShown e h t
     → IsShown (extent cut e) (part cut h) t)
     → (cuts : List (ℕ × TableCut)) (by_name : List ℕ → TableCut) (region : Region) (n : ℕ)
-        (hs : List Holding) (ts : List Table) → AreCut cuts by_name n ts → AreShown region hs ts
+    (hs : List Holding) (ts : List Table) → AreCut cuts by_name n ts → AreShown region hs ts
     → AreShown (λ x. extent (by_name x) (region x)) (each_part part cuts n hs) ts
 parts_shown part extent keeps cuts by_name region n hs [] are shown = tt
 parts_shown part extent keeps cuts by_name region n [] (t ∷ ts) are shown = absurd shown
-parts_shown part extent keeps cuts by_name region n (h ∷ hs) (t ∷ ts) are shown =
-    (rw are.0 (keeps (by_name t.name)
-        (region t.name) h t shown.0), parts_shown part extent keeps cuts by_name region
-        (n + 1) hs ts are.1 shown.1)
+parts_shown part extent keeps cuts by_name region n (h ∷ hs) (t ∷ ts) are shown = (
+  rw are.0 (keeps (by_name t.name)
+      (region t.name) h t shown.0),
+  parts_shown part extent keeps cuts by_name region
+      (n + 1) hs ts are.1 shown.1,
+)
 
 -- ---- what a side gives back
 
@@ -203,8 +217,13 @@ cells_in Unknown i j = false
 
 -- all of a table, and what an extent has of it
 abbrev pub all_of_table : Table → Holding
-all_of_table t = record { rows = t.rows; cols = t.cols; cells =
-    first_cells t.cols (slice_get t.cells) (t.rows * t.cols); owned = true }
+all_of_table t = record {
+  rows = t.rows;
+  cols = t.cols;
+  cells =
+      first_cells t.cols (slice_get t.cells) (t.rows * t.cols);
+  owned = true;
+}
 
 abbrev pub part_of_table : Extent → Table → Holding
 part_of_table e t = held_where (λ p. cells_in e p.0 p.1) (all_of_table t)
@@ -220,12 +239,12 @@ module _ (t : Table) where
       → own h ≡ held_where (λ p. test p.0 p.1) (all_of_table t)
   part_is test h part =
       let all : IsPart (λ i j. true) (all_of_table t) t =
-          whole_shown (all_of_table t) t (listed_whole t part.size.full) in
+      whole_shown (all_of_table t) t (listed_whole t part.size.full) in
       let mine : IsPart test (held_where (λ p. test p.0 p.1) (all_of_table t)) t =
-          part_narrowed (λ i j. true) test (all_of_table t) t all in
+      part_narrowed (λ i j. true) test (all_of_table t) t all in
       same_holding (own h) (held_where (λ p. test p.0 p.1)
-          (all_of_table t)) part.size.rows part.size.cols
-          (λ i j. part.cells i j ∙ sym (mine.cells i j)) refl
+      (all_of_table t)) part.size.rows part.size.cols
+      (λ i j. part.cells i j ∙ sym (mine.cells i j)) refl
 
   -- what is held of a table to a known extent is the part that this has of it
   pub shown_is : (e : Extent) (h : Holding) → IsKnown e → IsShown e h t → own h ≡ part_of_table e t
@@ -261,14 +280,17 @@ part_together p q h k t one other = record {
       cell_at-together h k i j
       ∙ (ap (λ (o : Option ℤ). or_else o (cell_at k i j)) (one.cells i j)
       ∙ (ap (λ (o : Option ℤ). or_else (part_cell p t i j) o) (other.cells i j)
-          ∙ either_part (has_cell t i j) (p i j) (q i j) (cell_of t i j)));
+      ∙ either_part (has_cell t i j) (p i j) (q i j) (cell_of t i j)));
 }
 
 part_same : (p q : ℤ → ℤ → Bool) (h : Holding) (t : Table) → ((i j : ℤ) → p i j ≡ q i j)
     → IsPart p h t → IsPart q h t
-part_same p q h t same part = record { size = part.size; cells =
-    λ i j. part.cells i j ∙ ap (λ (b : Bool). cond (has_cell t i j && b)
-    (Some (cell_of t i j)) None) (same i j) }
+part_same p q h t same part = record {
+  size = part.size;
+  cells =
+      λ i j. part.cells i j ∙ ap (λ (b : Bool). cond (has_cell t i j && b)
+      (Some (cell_of t i j)) None) (same i j);
+}
 
 any_of : (o p q s : Bool) → (p || q || s) ≡ true → ((o && p) || (o && q) || (o && s)) ≡ o
 any_of false p q s is = refl
@@ -278,23 +300,23 @@ any_of true p q s is = is
 pub joined_shown : (p q s : ℤ → ℤ → Bool) → ((i j : ℤ) → (p i j || q i j || s i j) ≡ true)
     → (e : Extent) (h l r : Holding) (t : Table)
     → IsShown (narrowed p e) h t → IsShown (narrowed q e) l t → IsShown (narrowed s e) r t
-        → IsShown e (together (together h l) r) t
+    → IsShown e (together (together h l) r) t
 joined_shown p q s all Wholly h l r t rest left right =
     part_same (λ i j. (p i j || q i j) || s i j) (λ i j. true) (together (together h l) r) t
-        (λ i j. grouped (p i j) (q i j) (s i j) ∙ all i j)
+    (λ i j. grouped (p i j) (q i j) (s i j) ∙ all i j)
     (part_together (λ i j. p i j || q i j) s (together h l) r t
-        (part_together p q h l t rest left) right)
+    (part_together p q h l t rest left) right)
   where
     grouped : (a b c : Bool) → ((a || b) || c) ≡ (a || b || c)
     grouped true b c = refl
     grouped false b c = refl
 joined_shown p q s all (Has test) h l r t rest left right =
     part_same (λ i j. ((test i j && p i j) || (test i j && q i j)) || (test i j && s i j)) test
-        (together (together h l) r) t
+    (together (together h l) r) t
     (λ i j. grouped (test i j && p i j) (test i j && q i j) (test i j && s i j)
-        ∙ any_of (test i j) (p i j) (q i j) (s i j) (all i j))
+    ∙ any_of (test i j) (p i j) (q i j) (s i j) (all i j))
     (part_together (λ i j. (test i j && p i j) || (test i j && q i j)) (λ i j. test i j && s i j)
-        (together h l) r t
+    (together h l) r t
     (part_together (λ i j. test i j && p i j) (λ i j. test i j && q i j) h l t rest left) right)
   where
     grouped : (a b c : Bool) → ((a || b) || c) ≡ (a || b || c)
@@ -309,8 +331,12 @@ pub part_other : (test : ℤ → ℤ → Bool) (h : Holding) (t u : Table) → u
     → ((i j : ℤ) → has_cell t i j ≡ true → test i j ≡ true → cell_of u i j ≡ cell_of t i j)
     → IsPart test h t → IsPart test h u
 part_other test h t u rows cols many same part = record {
-  size = record { rows = part.size.rows ∙ sym rows; cols = part.size.cols ∙ sym cols; full =
-      rw (rows, cols) (many ∙ part.size.full) };
+  size = record {
+    rows = part.size.rows ∙ sym rows;
+    cols = part.size.cols ∙ sym cols;
+    full =
+        rw (rows, cols) (many ∙ part.size.full);
+  };
   cells = λ i j. part.cells i j ∙ by_place i j (has_cell t i j) (test i j) refl refl;
 }
   where

@@ -67,8 +67,8 @@ module _ (code : Listing) (heartbeat : ℕ) where
     pub points : (i : World) (ns : List Note) (r : Result) (state after : State) → AtMostAChance ns
         → is_at_point code after ≡ true → step code heartbeat false state ≡ Goes after
         → (step code heartbeat true state ≡ Goes after) ⊎
-            ((other : State) × (step code heartbeat true state ≡ Beats other)
-            × (diverted i r).Holds other)
+        ((other : State) × (step code heartbeat true state ≡ Beats other)
+        × (diverted i r).Holds other)
         → (owing i r).Holds after → (owing i (noting ns r)).Holds state
     -- where chances aren't counted, one needs no point
     pub counts : Bool
@@ -129,20 +129,20 @@ module _ (code : Listing) (heartbeat : ℕ) where
         → (owing_by i (noting ns r)).Holds state
     noted i ns r state few holds = λ given can.
         subst (λ (e : Ending). Bound code heartbeat false (terms.least i (noting ns r)) state e)
-            (sym (terms.blind i ns r))
+        (sym (terms.blind i ns r))
         (lesser false (terms.least i r) (terms.least i (noting ns r)) state (terms.ending i r) few
-            (holds given (terms.fewer i ns r given) can))
+        (holds given (terms.fewer i ns r given) can))
 
     pub at_point : (i : World) (ns : List Note) (r : Result) (state after : State)
         → AtMostAChance ns → is_at_point code after ≡ true
         → step code heartbeat false state ≡ Goes after
         → (step code heartbeat true state ≡ Goes after) ⊎
-            ((other : State) × (step code heartbeat true state ≡ Beats other)
-            × (turned_by i r).Holds other)
+        ((other : State) × (step code heartbeat true state ≡ Beats other)
+        × (turned_by i r).Holds other)
         → (owing_by i r).Holds after → (owing_by i (noting ns r)).Holds state
     at_point i ns r state after one at calm loud holds = λ given can.
         subst (λ (e : Ending). Bound code heartbeat false (terms.least i (noting ns r)) state e)
-            (sym (terms.blind i ns r)) (by_step (terms.fewer i ns r given) can loud)
+        (sym (terms.blind i ns r)) (by_step (terms.fewer i ns r given) can loud)
       where
         few : terms.least i (noting ns r) ≤ owes.points code after + terms.least i r
         few =
@@ -159,7 +159,7 @@ module _ (code : Listing) (heartbeat : ℕ) where
             (terms.ending i r) few goes (holds given (can_go_on state after goes can))
         by_step given can (inr (other, beats, turned)) =
             owes.beats (terms.least i (noting ns r)) (terms.least i r) state after other
-                (terms.ending i r) few calm beats
+            (terms.ending i r) few calm beats
             (holds given (record {
               right = can.right;
               runs = subst (IsStepOf code) calm

@@ -16,8 +16,7 @@ use Rattle.block_lower.specs.Owing.{IsWholeOf}
 use Rattle.block_lower.proofs.Tables.{AreWhole, IsRead, table_names, listed_names}
 
 -- How much of a table a task holds: every cell, exactly those of the table that pass a test, or
--- some that aren't
--- known.
+-- some that aren't known.
 pub data Extent : Type 0 where
   Wholly : Extent
   Has : (ℤ → ℤ → Bool) → Extent
@@ -181,11 +180,13 @@ module _ (scope : Scope) (ts : List Table) where
       → AllByRecursion (IsRead scope ts) ns → AllByRecursion (Covers region) ns
       → AllByRecursion (IsHeld scope ts state) ns
   held_reads region state shown listed [] read covered = tt
-  held_reads region state shown listed (Reads t i j ∷ ns) read covered =
-      (cell_shown (region t) (table_at state.tables (number_in scope.tables.items t))
-          (table_of ts t) i j
-          (shown_at region state.tables ts scope.tables.items t shown listed read.0.0) read.0.1
-          covered.0, held_reads region state shown listed ns read.1 covered.1)
+  held_reads region state shown listed (Reads t i j ∷ ns) read covered = (
+    cell_shown (region t) (table_at state.tables (number_in scope.tables.items t))
+        (table_of ts t) i j
+        (shown_at region state.tables ts scope.tables.items t shown listed read.0.0) read.0.1
+        covered.0,
+    held_reads region state shown listed ns read.1 covered.1,
+  )
   held_reads region state shown listed (Writes t i j ∷ ns) read covered = absurd read.0
   held_reads region state shown listed (Emits t ∷ ns) read covered = absurd read.0
   held_reads region state shown listed (Chance ∷ ns) read covered = absurd read.0

@@ -46,8 +46,7 @@ pub record Same (z : ℕ) (may : ℕ → Type 0) (level : ℕ) (s t : StackValue
       → word_at t (pos a) ≡ word_at s (pos a)
 
 -- A handler that cuts a world changes no variable in the activation that begins at z, no cell that
--- a statement
--- may change, and nothing from a level on. What lies below that activation may be gone.
+-- a statement may change, and nothing from a level on. What lies below that activation may be gone.
 pub record Near (z : ℕ) (may : ℕ → Type 0) (lowest : ℕ) (s t : StackValue) : Type 0 where
   pub low : t.base ≤ z
   pub top : t.base + length t.cells ≡ s.base + length s.cells
@@ -122,9 +121,8 @@ facts around i = record {
 }
 
 -- A task of a world, whichever statement runs in it: its ticks and its tables are those of a state,
--- some of it
--- printed before it began. So many cells of the activation that begins at z stand. More marks may
--- stand above.
+-- some of it printed before it began. So many cells of the activation that begins at z stand. More
+-- marks may stand above.
 pub record RunsIn (z size fuel : ℕ) (world : Facts) (more : List Mark) (st : meaning.State)
     (state : machine.State) : Type 0 where
   pub many : length state.registers ≡ 32
@@ -205,8 +203,7 @@ abbrev pub header : ℕ
 header = cursor_cell 0
 
 -- What goes on round a statement, in an activation that begins at z. Its worlds are closed under
--- cuts of their
--- oldest mark.
+-- cuts of their oldest mark.
 pub record Scene (code : Listing) (heartbeat z : ℕ) : Type 1 where
   pub World : Type 0
   -- how many levels of calls are left, and how many ticks there are
@@ -237,7 +234,7 @@ pub record Scene (code : Listing) (heartbeat z : ℕ) : Type 1 where
       → IsEarly stop → last.fuel.ticks ≡ st.ticks → st.output ≡ before i ++ last.output
       → last.goal ≡ goal i
       → ((allowed : Bool) → step code heartbeat allowed state ≡ Ends (ended code stop last))
-          → (owing i (out stop st)).Holds state
+      → (owing i (out stop st)).Holds state
   pub stopped : (i : World) (stop : Stop) (st : meaning.State) (output : List ℕ) → IsEarly stop
       → st.output ≡ before i ++ output
       → ending i (out stop st) ≡ ended_together (goal i) stop st.ticks output
@@ -248,17 +245,16 @@ pub record Scene (code : Listing) (heartbeat z : ℕ) : Type 1 where
   -- whether promotion points may be reached
   pub is_open : Bool
   -- A diverted task whose oldest mark is that of a world: where it owes what it should as soon as
-  -- it goes back,
-  -- in this world and in the one behind a cut, it owes it. More marks may stand in its activation
-  -- and above.
+  -- it goes back, in this world and in the one behind a cut, it owes it. More marks may stand in
+  -- its activation and above.
   pub handles : is_open ≡ true → (i : World) (more : List Mark) (r : Result) (st : meaning.State)
       (state : machine.State) → (marks i ≡ [] → ⊥)
       → AllByRecursion (StandsFrom (z + value_cell lowest)) more → IsDiverted dispatch state
       → RunsIn z size fuel (facts around i) more st state
       → ((u : machine.State) → GoesBack code state u → IsUncut state u → (owing i r).Holds u)
       → ((k : ℕ) (u : machine.State) → GoesBack code state u → Near z may lowest state.stack u.stack
-          → RunsIn z size fuel (facts around (cut i k st.output)) more st u
-          → (owing (cut i k st.output) r).Holds u)
+      → RunsIn z size fuel (facts around (cut i k st.output)) more st u
+      → (owing (cut i k st.output) r).Holds u)
       → (diverted i r).Holds state
 
 module _ (code : Listing) (heartbeat z : ℕ) (act : Activation) (fuel : ℕ) where
@@ -305,4 +301,4 @@ module _ (code : Listing) (heartbeat z : ℕ) (act : Activation) (fuel : ℕ) wh
       → (meaning.State → Result) → Type 0
   Owed S names instrs end f =
       (i : S.World) (st : meaning.State) (state : machine.State) → ShowsIn S i names st state
-          → Remains code state.block state.at instrs end → (S.owing i (f st)).Holds state
+      → Remains code state.block state.at instrs end → (S.owing i (f st)).Holds state
