@@ -1,0 +1,26 @@
+-- The conditions of a code on the blocks of a site.
+use Rattle.std.specs.Prelude.{◌<◌, List, length, All}
+use Rattle.std.specs.List.{AllByRecursion}
+use Rattle.tpal_syntax.specs.Conditions.{IsBlock}
+use Rattle.tpal_syntax.specs.declared.blocks.Block.{Block}
+use Rattle.tpal_syntax.specs.declared.blocks.CodeTable.{CodeTable}
+use Rattle.tpal_syntax.specs.declared.sites.CallSite.{CallSite}
+use Rattle.tpal_syntax.specs.declared.sites.LoopSite.{LoopSite}
+use Rattle.tpal_syntax.specs.Parts.{table_of}
+use Rattle.handler_gen.specs.Sites.{joined_label, none_label, split_label}
+
+-- these blocks meet the conditions on those of a code with such tables and blocks
+abbrev pub AreBlocksOf : List CodeTable → List Block → List Block → Type 0
+AreBlocksOf tables all blocks = AllByRecursion (IsBlock tables all) blocks
+
+-- a code has blocks at the labels of a loop's site and round it, and the tables that are carried
+pub record HasLoopPlaces (site : LoopSite) (tables : List CodeTable) (all : List Block) : Type 0
+  where
+    pub none : none_label site.label < length all
+    pub split : split_label site < length all
+    pub carried : All (λ c. table_of c < length tables) site.carries
+
+-- a code has blocks at the labels of a pair of calls and round it
+pub record HasCallPlaces (site : CallSite) (all : List Block) : Type 0 where
+  pub joined : joined_label site.label < length all
+  pub entry : site.entry < length all
