@@ -1,6 +1,7 @@
 -- A turn of one instruction is a step.
-use Rattle.std.proofs.Common.{◌≡◌, ℕ, refl, sym, ap, subst, arith}
-use Rattle.std.specs.Prelude.{Bool, ◌≢◌, Option, Result, Ok, Err}
+use Rattle.std.proofs.Common.{◌≡◌, ℕ, refl, sym, ap, ◌∙◌, subst}
+use Rattle.std.proofs.lemmas.Bool.{eq-eqb, ne_eqb, cond-true, cond-false}
+use Rattle.std.specs.Prelude.{Bool, ◌≢◌, ◌==◌, if◌then◌else◌, Option, Result, Ok, Err}
 use Rattle.tpal_syntax.specs.Listing.{Listing}
 use Rattle.tpal_syntax.specs.Conditions.{IsCode}
 use Rattle.tpal_machine.specs.declared.ends.Ending.{Ending}
@@ -30,50 +31,13 @@ use Rattle.schedule_core.specs.Core.{one_more, is_allowed}
 use Rattle.schedule_core.specs.Effects.{Stepped, SeatStepped, CanRun, IsStepOnce, OnceGives, IsWant, emptied, counted, least_free}
 use Rattle.schedule_core.specs.Standing.{Standing, worker_at}
 
-abbrev kind : Stopped → ℕ
-kind (Pauses s) = 0
-kind (Waits s) = 1
-kind (Parts p) = 2
-kind (Comes e) = 3
-kind (Sticks f b a) = 4
-
-clash : {A : Type 0} (x y : Stopped) → x ≡ y → (kind x ≡ kind y → ⊥) → A
-clash x y is n = absurd (n (ap kind is))
-
-abbrev paused : State → Stopped → State
-paused d (Pauses s) = s
-paused d (Waits s) = d
-paused d (Parts p) = d
-paused d (Comes e) = d
-paused d (Sticks f b a) = d
-
-abbrev waited : State → Stopped → State
-waited d (Pauses s) = d
-waited d (Waits s) = s
-waited d (Parts p) = d
-waited d (Comes e) = d
-waited d (Sticks f b a) = d
-
-abbrev parts : Forked → Stopped → Forked
-parts d (Pauses s) = d
-parts d (Waits s) = d
-parts d (Parts p) = p
-parts d (Comes e) = d
-parts d (Sticks f b a) = d
-
-abbrev came : Ending → Stopped → Ending
-came d (Pauses s) = d
-came d (Waits s) = d
-came d (Parts p) = d
-came d (Comes e) = e
-came d (Sticks f b a) = d
-
-abbrev stuck : Fault → Stopped → Fault
-stuck d (Pauses s) = d
-stuck d (Waits s) = d
-stuck d (Parts p) = d
-stuck d (Comes e) = d
-stuck d (Sticks f b a) = f
+-- the step of a turn of one instruction, by how that ended and by its beats
+abbrev step_told : Stopped → ℕ → Step
+step_told (Pauses after) b = if b == 0 then machine.Goes after else machine.Beats after
+step_told (Waits waits) b = machine.Asks waits
+step_told (Parts parts) b = machine.Forks parts
+step_told (Comes e) b = machine.Ends e
+step_told (Sticks fault block at) b = machine.Stuck fault
 
 -- what a turn tells of its step, with so many beats
 abbrev pub Told : Step → Turn → ℕ → Type 0
@@ -89,56 +53,33 @@ module _ (code : Listing) (s : State) where
   abbrev whole : Step → Turned
   whole x = went_on x 0 0 s (λ after. ends_here 1 0 (Pauses after)) (λ after. ends_here 1 1 (Pauses after))
 
-  told : (x : Step) (t : Turn) (b : ℕ) → IsTurn (whole x).stopped t → HadMemory t (b ≡ (whole x).beats) → IsStepOf code x → Told x t b
-  told (machine.Goes u) (turn.Pause t) b is few of = ((λ z. ap machine.Goes (ap (paused u) is)), (λ n. absurd (n few)))
-  told (machine.Beats u) (turn.Pause t) b is few of = ((λ z. absurd (omega (arith, z, few))), (λ n. ap machine.Beats (ap (paused u) is)))
-  told (machine.Ends u) (turn.Pause t) b is few of = clash _ _ is (λ z. omega (arith, z))
-  told (machine.Asks u) (turn.Pause t) b is few of = clash _ _ is (λ z. omega (arith, z))
-  told (machine.Forks u) (turn.Pause t) b is few of = clash _ _ is (λ z. omega (arith, z))
-  told (machine.Stuck u) (turn.Pause t) b is few of = clash _ _ is (λ z. omega (arith, z))
-  told machine.Strays (turn.Pause t) b is few of = absurd of
-  told (machine.Goes u) (turn.NeedRecord t) b is few of = clash _ _ is (λ z. omega (arith, z))
-  told (machine.Beats u) (turn.NeedRecord t) b is few of = clash _ _ is (λ z. omega (arith, z))
-  told (machine.Ends u) (turn.NeedRecord t) b is few of = clash _ _ is (λ z. omega (arith, z))
-  told (machine.Asks u) (turn.NeedRecord t) b is few of = ap machine.Asks (ap (waited u) is)
-  told (machine.Forks u) (turn.NeedRecord t) b is few of = clash _ _ is (λ z. omega (arith, z))
-  told (machine.Stuck u) (turn.NeedRecord t) b is few of = clash _ _ is (λ z. omega (arith, z))
-  told machine.Strays (turn.NeedRecord t) b is few of = absurd of
-  told (machine.Goes u) (turn.Forked l r c k) b is few of = clash _ _ is (λ z. omega (arith, z))
-  told (machine.Beats u) (turn.Forked l r c k) b is few of = clash _ _ is (λ z. omega (arith, z))
-  told (machine.Ends u) (turn.Forked l r c k) b is few of = clash _ _ is (λ z. omega (arith, z))
-  told (machine.Asks u) (turn.Forked l r c k) b is few of = clash _ _ is (λ z. omega (arith, z))
-  told (machine.Forks u) (turn.Forked l r c k) b is few of = ap machine.Forks (ap (parts u) is)
-  told (machine.Stuck u) (turn.Forked l r c k) b is few of = clash _ _ is (λ z. omega (arith, z))
-  told machine.Strays (turn.Forked l r c k) b is few of = absurd of
-  told (machine.Goes u) (turn.Arrived k d o) b is few of = clash _ _ is (λ z. omega (arith, z))
-  told (machine.Beats u) (turn.Arrived k d o) b is few of = clash _ _ is (λ z. omega (arith, z))
-  told (machine.Ends u) (turn.Arrived k d o) b is few of = ap machine.Ends (ap (came u) is)
-  told (machine.Asks u) (turn.Arrived k d o) b is few of = clash _ _ is (λ z. omega (arith, z))
-  told (machine.Forks u) (turn.Arrived k d o) b is few of = clash _ _ is (λ z. omega (arith, z))
-  told (machine.Stuck u) (turn.Arrived k d o) b is few of = clash _ _ is (λ z. omega (arith, z))
-  told machine.Strays (turn.Arrived k d o) b is few of = absurd of
-  told (machine.Goes u) (turn.Halted o) b is few of = clash _ _ is (λ z. omega (arith, z))
-  told (machine.Beats u) (turn.Halted o) b is few of = clash _ _ is (λ z. omega (arith, z))
-  told (machine.Ends u) (turn.Halted o) b is few of = ap machine.Ends (ap (came u) is)
-  told (machine.Asks u) (turn.Halted o) b is few of = clash _ _ is (λ z. omega (arith, z))
-  told (machine.Forks u) (turn.Halted o) b is few of = clash _ _ is (λ z. omega (arith, z))
-  told (machine.Stuck u) (turn.Halted o) b is few of = clash _ _ is (λ z. omega (arith, z))
-  told machine.Strays (turn.Halted o) b is few of = absurd of
-  told (machine.Goes u) (turn.Stuck f bl a) b is few of = clash _ _ is (λ z. omega (arith, z))
-  told (machine.Beats u) (turn.Stuck f bl a) b is few of = clash _ _ is (λ z. omega (arith, z))
-  told (machine.Ends u) (turn.Stuck f bl a) b is few of = clash _ _ is (λ z. omega (arith, z))
-  told (machine.Asks u) (turn.Stuck f bl a) b is few of = clash _ _ is (λ z. omega (arith, z))
-  told (machine.Forks u) (turn.Stuck f bl a) b is few of = clash _ _ is (λ z. omega (arith, z))
-  told (machine.Stuck u) (turn.Stuck f bl a) b is few of = ap machine.Stuck (ap (stuck u) is)
-  told machine.Strays (turn.Stuck f bl a) b is few of = absurd of
-  told (machine.Goes u) turn.NoMemory b is few of = tt
-  told (machine.Beats u) turn.NoMemory b is few of = tt
-  told (machine.Ends u) turn.NoMemory b is few of = tt
-  told (machine.Asks u) turn.NoMemory b is few of = tt
-  told (machine.Forks u) turn.NoMemory b is few of = tt
-  told (machine.Stuck u) turn.NoMemory b is few of = tt
-  told machine.Strays turn.NoMemory b is few of = tt
+  is_told : (x : Step) → IsStepOf code x → x ≡ step_told (whole x).stopped (whole x).beats
+  is_told (machine.Goes after) of = refl
+  is_told (machine.Beats diverted) of = refl
+  is_told (machine.Ends e) of = refl
+  is_told (machine.Asks waits) of = refl
+  is_told (machine.Forks parts) of = refl
+  is_told (machine.Stuck fault) of = refl
+  is_told machine.Strays of = absurd of
+
+  told_by : (x : Step) (stopped : Stopped) → IsStepOf code x → (whole x).stopped ≡ stopped
+      → x ≡ step_told stopped (whole x).beats
+  told_by x stopped of is = is_told x of ∙ ap (λ s. step_told s (whole x).beats) is
+
+  told : (x : Step) (t : Turn) (b : ℕ) → IsTurn (whole x).stopped t
+      → HadMemory t (b ≡ (whole x).beats) → IsStepOf code x → Told x t b
+  told x (turn.Pause t) b is few of =
+      let all = told_by x (Pauses t) of is ∙ ap (step_told (Pauses t)) (sym few) in
+      (
+        (λ none. all ∙ cond-true (b == 0) (machine.Goes t) (machine.Beats t) (eq-eqb b 0 none)),
+        (λ some. all ∙ cond-false (b == 0) (machine.Goes t) (machine.Beats t) (ne_eqb b 0 some)),
+      )
+  told x (turn.NeedRecord t) b is few of = told_by x _ of is
+  told x (turn.Forked l r c k) b is few of = told_by x _ of is
+  told x (turn.Arrived k d o) b is few of = told_by x _ of is
+  told x (turn.Halted o) b is few of = told_by x _ of is
+  told x (turn.Stuck f bl a) b is few of = told_by x _ of is
+  told x turn.NoMemory b is few of = tt
 
 one_turn : (code : Listing) (heartbeat : ℕ) (allowed : Bool) (s : State) → turn_of 1 code heartbeat allowed s ≡ whole code s (step code heartbeat allowed s)
 unfolding turn_from
