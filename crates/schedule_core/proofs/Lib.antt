@@ -46,3 +46,5 @@ pub mod Turning
 pub mod Soloing
 -- a solo run is a list of events of the core
 pub mod Sharing
+-- a solo run comes to one end
+pub mod OneRun

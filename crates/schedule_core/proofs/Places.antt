@@ -69,6 +69,19 @@ place_other (j ∷ js) k i ne = ⊎_elim
     (λ (n : j ≡ i → ⊥). place_next j i (js ++ k ∷ []) n ∙ (ap later (place_other js k i ne) ∙ sym (place_next j i js n)))
     (cases_eq j i)
 
+-- the last of a list has the greatest place
+pub place_most : (js : List ℕ) (k i : ℕ) → place js k ≡ 0
+    → place (js ++ k ∷ []) i ≤ place (js ++ k ∷ []) k
+place_most js k i none =
+    let last = place_last js k none in
+    ⊎_elim
+    (λ (same : k ≡ i). let here = ap (place (js ++ k ∷ [])) same in omega (arith, here))
+    (λ (other : k ≡ i → ⊥).
+    let there = place_other js k i other in
+    let short = place_short js i in
+    omega (arith, last, there, short))
+    (cases_eq k i)
+
 pub once_more : (js : List ℕ) (k : ℕ) → place js k ≡ 0 → IsOnce js → IsOnce (js ++ k ∷ [])
 once_more [] k z o = (refl, tt)
 once_more (j ∷ js) k z o = ⊎_elim
@@ -92,6 +105,44 @@ module _ (j k i : ℕ) (js : List ℕ) where
 
   stays : (ne : j ≡ k → ⊥) → place (without k (j ∷ js)) i ≡ place (j ∷ without k js) i
   stays ne = ap (λ xs. place xs i) (without_next k j js ne)
+
+-- a record that was opened last is taken out
+pub without_last : (js : List ℕ) (k : ℕ) → place js k ≡ 0 → without k (js ++ k ∷ []) ≡ js
+without_last [] k none = without_here k k [] refl
+without_last (j ∷ js) k none = ⊎_elim
+    (λ (same : j ≡ k). let here = place_here j k js same in absurd (omega (arith, here, none)))
+    (λ (other : j ≡ k → ⊥).
+    without_next k j (js ++ k ∷ []) other
+    ∙ ap (λ xs. j ∷ xs)
+    (without_last js k (later_zero (place js k) (sym (place_next j k js other) ∙ none))))
+    (cases_eq j k)
+
+-- the records 0 to n, each of which was opened while those below it were open
+unfoldable pub nested : ℕ → List ℕ
+nested zero = []
+nested (suc n) = nested n ++ n ∷ []
+
+pub nested_first : [] ≡ nested 0
+unfolding nested
+nested_first = refl
+
+pub nested_none : (n k : ℕ) → n ≤ k → place (nested n) k ≡ 0
+unfolding nested
+nested_none zero k far = refl
+nested_none (suc n) k far =
+    place_other (nested n) n k (λ same. omega (arith, far, same)) ∙ nested_none n k (omega (arith, far))
+
+pub nested_last : (n i : ℕ) → place (nested (suc n)) i ≤ place (nested (suc n)) n
+unfolding nested
+nested_last n i = place_most (nested n) n i (nested_none n n (omega arith))
+
+pub nested_without : (n : ℕ) → without n (nested (suc n)) ≡ nested n
+unfolding nested
+nested_without n = without_last (nested n) n (nested_none n n (omega arith))
+
+pub nested_more : (n : ℕ) → nested n ++ n ∷ [] ≡ nested (suc n)
+unfolding nested
+nested_more n = refl
 
 pub without_absent : (js : List ℕ) (k i : ℕ) → place js i ≡ 0 → place (without k js) i ≡ 0
 without_absent [] k i z = refl

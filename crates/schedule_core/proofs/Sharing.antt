@@ -36,13 +36,14 @@ use Rattle.schedule_core.specs.Core as core
 use Rattle.schedule_core.specs.Core.{top, Config, Event, LeastFree, AnyFree, CoreStep, first, put}
 use Rattle.schedule_core.specs.Lanes.{Placed, end_at, RestOwed, ChildOwed, EndOwed, ArrivalOwed, LaneOwed, StageOwed}
 use Rattle.schedule_core.specs.Run as running
-use Rattle.schedule_core.specs.Run.{CoreRun}
-use Rattle.schedule_core.specs.Sharing.{cell_of, CellsAre, GivenAt, CountsAre, SharedRun}
+use Rattle.schedule_core.specs.Run.{CoreRun, EachEvent}
+use Rattle.schedule_core.specs.Sharing.{cell_of, CellsAre, GivenAt, CountsAre, ClaimsLast, SharedRun}
 use Rattle.schedule_core.specs.Solo.{Lane, Stage, Runs, Over, Lost, Comes, over, on, records, runs, next, after_step, asked, forked, arrived, arrived_with, arrived_at, on_joined, turned, one_skipped, first_lane, SoloRun}
 use Rattle.schedule_core.specs.Tasks.{tasks, MergesSides, merged_of}
 use Rattle.schedule_core.specs.Tasks as shared
-use Rattle.schedule_core.specs.Sound.{total}
+use Rattle.schedule_core.specs.Sound.{total, place}
 use Rattle.schedule_core.proofs.Asked.{any_of}
+use Rattle.schedule_core.proofs.Places.{nested, nested_first, nested_last, nested_more, nested_without}
 use Rattle.schedule_core.proofs.Puts.{put_here, put_else}
 use Rattle.schedule_core.proofs.Ruling.{begins_sound, run_sound, ends_owed}
 use Rattle.schedule_core.proofs.Finishing.{forks_at}
@@ -77,6 +78,7 @@ record Stands (lane : Lane) (c : Config State RestState Ending) : Type 0 where
   cells : CellsAre lane.opened c.cells
   above : (k : ℕ) → length lane.opened < k → c.cells k ≡ core.free
   given : GivenAt lane.task.pending (length lane.opened) c.cells
+  order : c.order ≡ nested (length lane.opened)
   unfinished : c.outcome ≡ None
   counts : CountsAre lane.tally c
   small : lane.tally.beats ≤ 2 ^ 64 - 1
@@ -91,6 +93,10 @@ module _ (code : Listing) (heartbeat forks : ℕ) where
   abbrev Many : Config State RestState Ending → List Event → Config State RestState Ending → Type 0
   Many c es d = CoreRun (tasks code heartbeat) LeastFree forks records 1 c es d
 
+  -- each claim of a list is of the record that was opened last
+  abbrev Claims : {c d : Config State RestState Ending} {es : List Event} → Many c es d → Type 0
+  Claims run = EachEvent (tasks code heartbeat) LeastFree forks records 1 ClaimsLast run
+
   -- the core comes to a stage of the solo run
   abbrev At_stage : Stage → Config State RestState Ending → Type 0
   At_stage (Runs lane) c = Stands lane c
@@ -101,13 +107,14 @@ module _ (code : Listing) (heartbeat forks : ℕ) where
     events : List Event
     last : Config State RestState Ending
     run : Many c events last
+    claims : Claims run
     at : At_stage stage last
 
   here : (c : Config State RestState Ending) (stage : Stage) → At_stage stage c → Reaches c stage
-  here c stage at = record { events = []; last = c; run = running.here c; at = at }
+  here c stage at = record { events = []; last = c; run = running.here c; claims = tt; at = at }
 
-  first_then : (c d : Config State RestState Ending) (e : Event) (stage : Stage) → One c e d → Reaches d stage → Reaches c stage
-  first_then c d e stage one rest = record { events = e ∷ rest.events; last = rest.last; run = running.on c d rest.last e rest.events one rest.run; at = rest.at }
+  first_then : (c d : Config State RestState Ending) (e : Event) (stage : Stage) → One c e d → ClaimsLast c e → Reaches d stage → Reaches c stage
+  first_then c d e stage one claims rest = record { events = e ∷ rest.events; last = rest.last; run = running.on c d rest.last e rest.events one rest.run; claims = (claims, rest.claims); at = rest.at }
 
   some : 0 < 1
   some = omega arith
@@ -119,6 +126,7 @@ module _ (code : Listing) (heartbeat forks : ℕ) where
     place : place_of e ≡ end_at opened
     cells : CellsAre opened c.cells
     above : (k : ℕ) → length opened ≤ k → c.cells k ≡ core.free
+    order : c.order ≡ nested (length opened)
     unfinished : c.outcome ≡ None
     counts : CountsAre tally c
     small : tally.beats ≤ 2 ^ 64 - 1
@@ -133,7 +141,7 @@ module _ (code : Listing) (heartbeat forks : ℕ) where
   finishing : (opened : List Opened) (tally : Tally) (outcome : Outcome) (c : Config State RestState Ending) → Ended_at opened tally (ending.Root outcome) c → Reaches c (Over outcome tally)
   finishing opened tally outcome c at =
       let d = core.over c 0 (ending.Root outcome) in
-      first_then c d (core.Finish 0) (Over outcome tally) (core.finishes 0 (ending.Root outcome) some at.seat refl)
+      first_then c d (core.Finish 0) (Over outcome tally) (core.finishes 0 (ending.Root outcome) some at.seat refl) tt
       (here d (Over outcome tally) (refl, record { tasks = at.counts.tasks; beats = at.counts.beats; skipped = at.counts.skipped; instructions = at.counts.instructions }))
 
   same_end : (k n : ℕ) (name other : SideName) (side : Side) → «end».At k name ≡ «end».At n other → ending.At k name side ≡ ending.At n other side
@@ -149,27 +157,28 @@ module _ (code : Listing) (heartbeat forks : ℕ) where
       let seat : d.seats 0 ≡ core.resting = put_here c.seats 0 ((core.left_arrives 0 n e (c.cells n)).1) ∙ ap (λ x. (core.left_arrives 0 n e x).1) at.cells.0 in
       let x : core.Cell State RestState Ending = core.opened rest None (Some e) None in
       let f = core.moved d 0 (core.running child false) n x in
-      first_then c d (core.Arrive 0) _ (core.arrives_left 0 n e some at.seat refl)
-      (first_then d f (core.Claim 0 n) _ (core.claims 0 n rest child (Some e) None some seat cell)
+      first_then c d (core.Arrive 0) _ (core.arrives_left 0 n e some at.seat refl) tt
+      (first_then d f (core.Claim 0 n) _ (core.claims 0 n rest child (Some e) None some seat cell) (λ j unclaimed. subst (λ o. place o j ≤ place o n) (sym at.order) (nested_last n j))
       (here f _ (record {
         due = false;
         seat = put_here d.seats 0 (core.running child false);
         cells = (put_here d.cells n x, cells_put opened d.cells n x (omega arith) (cells_put opened c.cells n ((core.left_arrives 0 n e (c.cells n)).0) (omega arith) at.cells.1));
         above = λ k far. put_else d.cells n x k (λ same. omega (arith, far, same)) ∙ put_else c.cells n ((core.left_arrives 0 n e (c.cells n)).0) k (λ same. omega (arith, far, same)) ∙ at.above k (omega (arith, far));
         given = subst (λ p. GivenAt p (suc n) f.cells) (sym none) (put_else d.cells n x (suc n) (λ same. omega (arith, same)) ∙ put_else c.cells n ((core.left_arrives 0 n e (c.cells n)).0) (suc n) (λ same. omega (arith, same)) ∙ at.above (suc n) (omega arith));
+        order = at.order;
         unfinished = at.unfinished;
         counts = record { tasks = at.counts.tasks; beats = at.counts.beats; skipped = at.counts.skipped; instructions = at.counts.instructions };
         small = at.small;
       })))
 
   -- the right side arrives, and the two are merged
-  merged_on : (rest : RestState) (left side : Side) (opened : List Opened) (tally : Tally) (out : Outcome) (f : Config State RestState Ending) (both : Joined) → Arrives opened → merging.joined code rest left side ≡ both → end_of rest.goal ≡ end_at opened → (f.seats 0 ≡ core.merged_seat (merged_of both)) → CellsAre opened f.cells → ((k : ℕ) → length opened ≤ k → f.cells k ≡ core.free) → f.outcome ≡ None → CountsAre tally f → tally.beats ≤ 2 ^ 64 - 1 → Rattle.schedule_core.specs.Lanes.JoinedOwed code heartbeat both opened (More code heartbeat opened out) → Reaches f (on_joined both opened tally (λ e. arrived_with e tally (λ other. arrived_at opened code tally other)))
-  merged_on rest left side opened tally out f (merging.Goes task) each gives place seat cells above unfinished counts small owed =
+  merged_on : (rest : RestState) (left side : Side) (opened : List Opened) (tally : Tally) (out : Outcome) (f : Config State RestState Ending) (both : Joined) → Arrives opened → merging.joined code rest left side ≡ both → end_of rest.goal ≡ end_at opened → (f.seats 0 ≡ core.merged_seat (merged_of both)) → CellsAre opened f.cells → ((k : ℕ) → length opened ≤ k → f.cells k ≡ core.free) → f.order ≡ nested (length opened) → f.outcome ≡ None → CountsAre tally f → tally.beats ≤ 2 ^ 64 - 1 → Rattle.schedule_core.specs.Lanes.JoinedOwed code heartbeat both opened (More code heartbeat opened out) → Reaches f (on_joined both opened tally (λ e. arrived_with e tally (λ other. arrived_at opened code tally other)))
+  merged_on rest left side opened tally out f (merging.Goes task) each gives place seat cells above order unfinished counts small owed =
       let kept = subst (JoinedKeeps rest) gives (merge_keeps code rest left side) in
-      here f _ (record { due = false; seat = seat; cells = cells; above = λ k far. above k (omega (arith, far)); given = subst (λ p. GivenAt p (length opened) f.cells) (sym kept.pending) (above (length opened) (omega arith)); unfinished = unfinished; counts = counts; small = small })
-  merged_on rest left side opened tally out f (merging.Ends e) each gives place seat cells above unfinished counts small owed =
+      here f _ (record { due = false; seat = seat; cells = cells; above = λ k far. above k (omega (arith, far)); given = subst (λ p. GivenAt p (length opened) f.cells) (sym kept.pending) (above (length opened) (omega arith)); order = order; unfinished = unfinished; counts = counts; small = small })
+  merged_on rest left side opened tally out f (merging.Ends e) each gives place seat cells above order unfinished counts small owed =
       let kept : place_of e ≡ end_of rest.goal = subst (JoinedKeeps rest) gives (merge_keeps code rest left side) in
-      each tally e out f (record { seat = seat; place = kept ∙ place; cells = cells; above = above; unfinished = unfinished; counts = counts; small = small }) owed
+      each tally e out f (record { seat = seat; place = kept ∙ place; cells = cells; above = above; order = order; unfinished = unfinished; counts = counts; small = small }) owed
 
   arrives_second : (rest : RestState) (left : Side) (opened : List Opened) (tally : Tally) (side : Side) (out : Outcome) (c : Config State RestState Ending) → Arrives opened → Ended_at (Half rest left ∷ opened) tally (ending.At (length opened) Right side) c → RestOwed code heartbeat rest left side opened (More code heartbeat opened out) → Reaches c (on_joined (merging.joined code rest left side) opened tally (λ e. arrived_with e tally (λ other. arrived_at opened code tally other)))
   arrives_second rest left opened tally side out c each at owed =
@@ -183,8 +192,8 @@ module _ (code : Listing) (heartbeat forks : ℕ) where
       let f = core.freed d 0 s n in
       let x : core.Cell State RestState Ending = core.free in
       subst (λ both. Reaches c (on_joined both opened tally (λ g. arrived_with g tally (λ other. arrived_at opened code tally other)))) (sym owed.merge.gives)
-      (first_then c d (core.Arrive 0) _ (core.arrives_right 0 n e some at.seat refl)
-      (first_then d f (core.Free 0) _ (core.frees 0 n 0 rest p e (merged_of owed.both) some seat cell (record { joined = owed.both; merge = owed.merge; is = refl }))
+      (first_then c d (core.Arrive 0) _ (core.arrives_right 0 n e some at.seat refl) tt
+      (first_then d f (core.Free 0) _ (core.frees 0 n 0 rest p e (merged_of owed.both) some seat cell (record { joined = owed.both; merge = owed.merge; is = refl })) tt
       (merged_on rest left side opened tally out f owed.both each owed.merge.gives owed.place
       (put_here d.seats 0 s)
       (cells_put opened d.cells n x (omega arith) (cells_put opened c.cells n ((core.right_arrives 0 n e (c.cells n)).0) (omega arith) at.cells.1))
@@ -192,6 +201,7 @@ module _ (code : Listing) (heartbeat forks : ℕ) where
       (λ (same : k ≡ n). ap f.cells same ∙ put_here d.cells n x)
       (λ (other : k ≡ n → ⊥). put_else d.cells n x k other ∙ put_else c.cells n ((core.right_arrives 0 n e (c.cells n)).0) k other ∙ at.above k (omega (arith, far, other)))
       (cases_eq k n))
+      (ap (core.without n) at.order ∙ nested_without n)
       at.unfinished (record { tasks = at.counts.tasks; beats = at.counts.beats; skipped = at.counts.skipped; instructions = at.counts.instructions }) at.small owed.owed)))
 
   moved_end : (opened : List Opened) (tally : Tally) (e f : Ending) (c : Config State RestState Ending) → e ≡ f → Ended_at opened tally e c → Ended_at opened tally f c
@@ -252,13 +262,14 @@ module _ (code : Listing) (heartbeat forks : ℕ) where
     steps_goes : (after : State) → step code heartbeat (nat_lt lane.tally.beats forks) lane.task ≡ Goes after → after.pending ≡ lane.task.pending → Reaches c (runs after lane.opened (turned 1 0 lane.tally))
     steps_goes after is same =
         let d = core.stepped c 0 (core.running after at.due) in
-        first_then c d (core.Step 0) _ (core.goes 0 lane.task at.due after some at.seat (turn_is (Goes after) is))
+        first_then c d (core.Step 0) _ (core.goes 0 lane.task at.due after some at.seat (turn_is (Goes after) is)) tt
         (here d _ (record {
           due = at.due;
           seat = put_here c.seats 0 (core.running after at.due);
           cells = at.cells;
           above = at.above;
           given = given_at lane.task.pending after.pending (length lane.opened) c.cells same at.given;
+          order = at.order;
           unfinished = at.unfinished;
           counts = counts_on lane.tally c d at.small at.counts refl refl refl refl;
           small = small_on lane.tally at.small;
@@ -267,13 +278,14 @@ module _ (code : Listing) (heartbeat forks : ℕ) where
     steps_beats : (after : State) → step code heartbeat (nat_lt lane.tally.beats forks) lane.task ≡ Beats after → after.pending ≡ lane.task.pending → Reaches c (runs after lane.opened (turned 1 1 lane.tally))
     steps_beats after is same =
         let d = core.diverted c 0 after in
-        first_then c d (core.Step 0) _ (core.beats 0 lane.task at.due after some at.seat (turn_is (Beats after) is))
+        first_then c d (core.Step 0) _ (core.beats 0 lane.task at.due after some at.seat (turn_is (Beats after) is)) tt
         (here d _ (record {
           due = true;
           seat = put_here c.seats 0 (core.running after true);
           cells = at.cells;
           above = at.above;
           given = given_at lane.task.pending after.pending (length lane.opened) c.cells same at.given;
+          order = at.order;
           unfinished = at.unfinished;
           counts = record { tasks = at.counts.tasks; beats = put_here c.beats 0 (core.one_more (c.beats 0)) ∙ ap core.one_more at.counts.beats; skipped = at.counts.skipped; instructions = ap core.one_more at.counts.instructions };
           small = Rattle.std.proofs.Math.Nat.min-le_right (lane.tally.beats + 1) (2 ^ 64 - 1);
@@ -282,7 +294,7 @@ module _ (code : Listing) (heartbeat forks : ℕ) where
     steps_ends : (e out : _) → step code heartbeat (nat_lt lane.tally.beats forks) lane.task ≡ Ends e → place_of e ≡ end_at lane.opened → lane.task.pending ≡ None → EndOwed code heartbeat lane.opened out e → Reaches c (arrived code lane.opened (turned 1 0 lane.tally) e)
     steps_ends e out is place none owed =
         let d = core.stepped c 0 (core.ended e) in
-        first_then c d (core.Step 0) _ (core.ends 0 lane.task at.due e some at.seat (turn_is (Ends e) is))
+        first_then c d (core.Step 0) _ (core.ends 0 lane.task at.due e some at.seat (turn_is (Ends e) is)) tt
         (arrives lane.opened (turned 1 0 lane.tally) e out d (record {
           seat = put_here c.seats 0 (core.ended e);
           place = place;
@@ -291,6 +303,7 @@ module _ (code : Listing) (heartbeat forks : ℕ) where
               (λ (same : k ≡ length lane.opened). ap c.cells same ∙ given_none lane.task.pending (length lane.opened) c.cells none at.given)
               (λ (other : k ≡ length lane.opened → ⊥). at.above k (omega (arith, far, other)))
               (cases_eq k (length lane.opened));
+          order = at.order;
           unfinished = at.unfinished;
           counts = counts_on lane.tally c d at.small at.counts refl refl refl refl;
           small = small_on lane.tally at.small;
@@ -315,13 +328,14 @@ module _ (code : Listing) (heartbeat forks : ℕ) where
         by_room true room =
             let few : length lane.opened < records = room_of (length lane.opened) records room in
             let d = core.given c 0 (answered (Some (length lane.opened)) waits) (Some (length lane.opened)) in
-            first_then c d (core.Step 0) _ (core.asks 0 lane.task at.due (λ rec. answered rec waits) (Some (length lane.opened)) some at.seat (turn_is (Asks waits) is) (few, free_here, λ j below free. stack_taken lane.opened c.cells j at.cells below free))
+            first_then c d (core.Step 0) _ (core.asks 0 lane.task at.due (λ rec. answered rec waits) (Some (length lane.opened)) some at.seat (turn_is (Asks waits) is) (few, free_here, λ j below free. stack_taken lane.opened c.cells j at.cells below free)) tt
             (here d _ (record {
               due = false;
               seat = put_here c.seats 0 (core.running (answered (Some (length lane.opened)) waits) false);
               cells = cells_put lane.opened c.cells (length lane.opened) (core.taken 0) (omega arith) at.cells;
               above = λ k far. put_else c.cells (length lane.opened) (core.taken 0) k (λ same. omega (arith, far, same)) ∙ at.above k far;
               given = number_some (answered (Some (length lane.opened)) waits).pending (length lane.opened) d.cells some_kept.pending (put_here c.cells (length lane.opened) (core.taken 0)) few;
+              order = at.order;
               unfinished = at.unfinished;
               counts = counts_on lane.tally c d at.small at.counts refl refl refl refl;
               small = small_on lane.tally at.small;
@@ -330,13 +344,14 @@ module _ (code : Listing) (heartbeat forks : ℕ) where
             let full : records ≤ length lane.opened = full_of (length lane.opened) records room in
             let d = core.given c 0 (answered None waits) None in
             let counts = counts_on lane.tally c (core.stepped c 0 (core.running (answered None waits) false)) at.small at.counts refl refl refl refl in
-            first_then c d (core.Step 0) _ (core.asks 0 lane.task at.due (λ rec. answered rec waits) None some at.seat (turn_is (Asks waits) is) (λ j below free. stack_taken lane.opened c.cells j at.cells (omega (arith, below, full)) free))
+            first_then c d (core.Step 0) _ (core.asks 0 lane.task at.due (λ rec. answered rec waits) None some at.seat (turn_is (Asks waits) is) (λ j below free. stack_taken lane.opened c.cells j at.cells (omega (arith, below, full)) free)) tt
             (here d _ (record {
               due = false;
               seat = put_here c.seats 0 (core.running (answered None waits) false);
               cells = at.cells;
               above = at.above;
               given = number_none (answered None waits).pending (length lane.opened) c.cells none_kept.pending free_here;
+              order = at.order;
               unfinished = at.unfinished;
               counts = record { tasks = counts.tasks; beats = counts.beats; skipped = ap core.one_more at.counts.skipped; instructions = counts.instructions };
               small = small_on lane.tally at.small;
@@ -350,14 +365,15 @@ module _ (code : Listing) (heartbeat forks : ℕ) where
         let f = core.opens_record d 0 n parts.left parts.child parts.rest in
         let x : core.Cell State RestState Ending = core.opened parts.rest (Some parts.child) None None in
         let counts = counts_on lane.tally c d at.small at.counts refl refl refl refl in
-        first_then c d (core.Step 0) _ (core.forks 0 lane.task at.due parts.rec parts.left parts.child parts.rest some at.seat (turn_is (Forks parts) is))
-        (first_then d f (core.Open 0) _ (core.opens 0 n parts.left parts.child parts.rest some given.1 (put_here c.seats 0 (core.forked parts.rec parts.left parts.child parts.rest) ∙ ap (λ (k : ℕ). core.forked k parts.left parts.child parts.rest) number))
+        first_then c d (core.Step 0) _ (core.forks 0 lane.task at.due parts.rec parts.left parts.child parts.rest some at.seat (turn_is (Forks parts) is)) tt
+        (first_then d f (core.Open 0) _ (core.opens 0 n parts.left parts.child parts.rest some given.1 (put_here c.seats 0 (core.forked parts.rec parts.left parts.child parts.rest) ∙ ap (λ (k : ℕ). core.forked k parts.left parts.child parts.rest) number)) tt
         (here f _ (record {
           due = false;
           seat = put_here d.seats 0 (core.running parts.left false);
           cells = (put_here c.cells n x, cells_put lane.opened c.cells n x (omega arith) at.cells);
           above = λ k far. put_else c.cells n x k (λ same. omega (arith, far, same)) ∙ at.above k (omega (arith, far));
           given = given_at None parts.left.pending (suc n) f.cells kept.left_pending (put_else c.cells n x (suc n) (λ same. omega (arith, same)) ∙ at.above (suc n) (omega arith));
+          order = ap (λ o. o ++ n ∷ []) at.order ∙ nested_more n;
           unfinished = at.unfinished;
           counts = record { tasks = ap core.one_more at.counts.tasks; beats = counts.beats; skipped = counts.skipped; instructions = counts.instructions };
           small = small_on lane.tally at.small;
@@ -397,10 +413,16 @@ module _ (code : Listing) (heartbeat forks : ℕ) where
     appended c d e es fs (running.here _) second = second
     appended c d e es fs (running.on _ b _ v vs one rest) second = running.on c b e v (vs ++ fs) one (appended b d e vs fs rest second)
 
+    claims_appended : (c d e : Config State RestState Ending) (es fs : List Event) (run : Many c es d) (second : Many d fs e) → Claims run → Claims second → Claims (appended c d e es fs run second)
+    unfolding appended
+    claims_appended c d e es fs (running.here _) second claims others = others
+    claims_appended c d e es fs (running.on _ b _ v vs one rest) second claims others = (claims.0, claims_appended b d e vs fs rest second claims.1 others)
+
     record To_end (c : Config State RestState Ending) (outcome : Outcome) (tally : Tally) : Type 0 where
       events : List Event
       last : Config State RestState Ending
       run : Many c events last
+      claims : Claims run
       outcome_is : last.outcome ≡ Some (ending.Root outcome)
       counts : CountsAre tally last
 
@@ -408,12 +430,12 @@ module _ (code : Listing) (heartbeat forks : ℕ) where
     lost_not n outcome tally stage comes is = never_lost code heartbeat forks right n outcome tally (subst (λ s. Comes code heartbeat forks n s outcome tally) is comes)
 
     to_end : (n : ℕ) (stage : Stage) (outcome out : Outcome) (tally : Tally) (c : Config State RestState Ending) → Comes code heartbeat forks n stage outcome tally → At_stage stage c → StageOwed code heartbeat out stage → To_end c outcome tally
-    to_end n stage outcome out tally c (over _ _) at owed = record { events = []; last = c; run = running.here c; outcome_is = at.0; counts = at.1 }
+    to_end n stage outcome out tally c (over _ _) at owed = record { events = []; last = c; run = running.here c; claims = tt; outcome_is = at.0; counts = at.1 }
     to_end n stage outcome out tally c (on k lane _ _ comes) at owed =
         let further = goes_on lane c out at owed (step code heartbeat (nat_lt lane.tally.beats forks) lane.task) refl (step_keeps heartbeat code (nat_lt lane.tally.beats forks) lane.task) (one_step code heartbeat forks right (nat_lt lane.tally.beats forks) owed.due lane.task owed.ending owed.task.owes) (lost_not k outcome tally (next code heartbeat forks lane) comes) in
         let reached = further.reaches in
         let later = to_end k (next code heartbeat forks lane) outcome out tally reached.last comes reached.at further.owed in
-        record { events = reached.events ++ later.events; last = later.last; run = appended c reached.last later.last reached.events later.events reached.run later.run; outcome_is = later.outcome_is; counts = later.counts }
+        record { events = reached.events ++ later.events; last = later.last; run = appended c reached.last later.last reached.events later.events reached.run later.run; claims = claims_appended c reached.last later.last reached.events later.events reached.run later.run reached.claims later.claims; outcome_is = later.outcome_is; counts = later.counts }
 
 -- a solo run is a list of events of the core
 pub solo_shared : (code : Listing) → IsCode code.tables code.blocks → (heartbeat forks fuel : ℕ) (held : List Holding) (out outcome : Outcome) (tally : Tally) → Owes code heartbeat false 0 (first_state held fuel) (ending.Root out) → SoloRun code heartbeat forks (first_state held fuel) outcome tally → SharedRun code heartbeat forks (first_state held fuel) outcome tally
@@ -425,13 +447,14 @@ solo_shared code right heartbeat forks fuel held out outcome tally owes run =
       cells = tt;
       above = λ k far. refl;
       given = refl;
+      order = nested_first;
       unfinished = refl;
       counts = record { tasks = refl; beats = refl; skipped = refl; instructions = refl };
       small = omega arith;
     } in
     let owed : LaneOwed code heartbeat (first_lane task) out = record { due = false; ending = ending.Root out; task = record { owes = owes; placed = record { place = refl; given = inl refl } }; more = refl } in
     let all = to_end code heartbeat forks right run.instructions (Runs (first_lane task)) outcome out tally (first task) run.comes stands owed in
-    record { events = all.events; last = all.last; run = all.run; outcome_is = all.outcome_is; counts = all.counts }
+    record { events = all.events; last = all.last; run = all.run; claims = all.claims; outcome_is = all.outcome_is; counts = all.counts }
 
 -- ---- its counts
 

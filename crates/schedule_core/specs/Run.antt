@@ -16,6 +16,16 @@ pub data CoreRun {Task Rest Ending : Type 0} (M : Machine Task Rest Ending)
       → CoreRun M choice N K W next events last
       → CoreRun M choice N K W c (event ∷ events) last
 
+module _ {Task Rest Ending : Type 0} (M : Machine Task Rest Ending)
+    (choice : Choice Task Rest Ending) (N K W : ℕ) where
+  -- each event of a list is such a one in the configuration in which it happens
+  abbrev pub EachEvent : (Config Task Rest Ending → Event → Type 0)
+      → {c last : Config Task Rest Ending} {events : List Event}
+      → CoreRun M choice N K W c events last
+      → Type 0
+  EachEvent P (here c) = Unit {0}
+  EachEvent P (on c next last event events step run) = P c event × EachEvent P run
+
 -- where a run has its outcome: it is the one that was owed, no record is open and no worker has
 -- anything, each beat made a task or was skipped, and H instructions were executed for each task
 pub record Finished {Task Rest Ending : Type 0} (H W : ℕ) (out e : Ending)
@@ -38,7 +48,8 @@ one_left seen = (suc seen.0, seen.1)
 abbrev pub one_right : ℕ × ℕ → ℕ × ℕ
 one_right seen = (seen.0, suc seen.1)
 
-module _ {Task Rest Ending : Type 0} (M : Machine Task Rest Ending) (choice : Choice Task Rest Ending) (N K W : ℕ) where
+module _ {Task Rest Ending : Type 0} (M : Machine Task Rest Ending)
+    (choice : Choice Task Rest Ending) (N K W : ℕ) where
   -- what one event adds
   abbrev pub counted : {c next : Config Task Rest Ending} {event : Event}
       → CoreStep M choice N K W c event next

@@ -1,5 +1,5 @@
 -- A solo run as a list of events of the core.
-use Rattle.std.specs.Prelude.{◌≡◌, ℕ, ◌<◌, List, [], ◌∷◌, length, Option, None, Some}
+use Rattle.std.specs.Prelude.{◌≡◌, ℕ, ◌<◌, ◌≤◌, List, [], ◌∷◌, length, Option, None, Some}
 use Rattle.tp_value.specs.declared.values.Outcome.{Outcome}
 use Rattle.tpal_syntax.specs.Listing.{Listing}
 use Rattle.tpal_machine.specs.declared.ends.Ending.{Ending}
@@ -12,9 +12,12 @@ use Rattle.schedule_core.specs.declared.lanes.Opened.{Opened}
 use Rattle.schedule_core.specs.declared.lanes.Opened.TheVariants.{Waiting, Half}
 use Rattle.schedule_core.specs.declared.lanes.Tally.{Tally}
 use Rattle.schedule_core.specs.Core as core
-use Rattle.schedule_core.specs.Core.{Config, Event, LeastFree, first}
-use Rattle.schedule_core.specs.Run.{CoreRun}
+use Rattle.schedule_core.specs.Core.{Config, Event, Step, Open, Claim, Arrive, Free, Finish}
+use Rattle.schedule_core.specs.Core.{LeastFree, first}
+use Rattle.schedule_core.specs.Enabled.{IsUnclaimed}
+use Rattle.schedule_core.specs.Run.{CoreRun, EachEvent}
 use Rattle.schedule_core.specs.Solo.{records}
+use Rattle.schedule_core.specs.Sound.{place}
 use Rattle.schedule_core.specs.Tasks.{tasks}
 
 -- an open record of the solo run, as the core has it
@@ -40,12 +43,23 @@ pub record CountsAre (tally : Tally) (c : Config State RestState Ending) : Type 
   pub skipped : c.skipped ≡ tally.skipped
   pub instructions : c.instructions ≡ tally.instructions
 
+-- a claim takes the child of the record that was opened last, of those whose child is unclaimed
+abbrev pub ClaimsLast : Config State RestState Ending → Event → Type 0
+ClaimsLast c (Step w) = Unit {0}
+ClaimsLast c (Open w) = Unit {0}
+ClaimsLast c (Claim w k) = (j : ℕ) → IsUnclaimed (c.cells j) → place c.order j ≤ place c.order k
+ClaimsLast c (Arrive w) = Unit {0}
+ClaimsLast c (Free w) = Unit {0}
+ClaimsLast c (Finish w) = Unit {0}
+
 -- the solo run of a code from a task is a list of events of the core: of one worker, with 64
--- records, of which the least free one is given. It comes to this outcome with these counts
+-- records, of which the least free one is given and that which was opened last is claimed. It comes
+-- to this outcome with these counts
 pub record SharedRun (code : Listing) (heartbeat forks : ℕ) (task : State) (outcome : Outcome)
     (tally : Tally) : Type 0 where
   pub events : List Event
   pub last : Config State RestState Ending
   pub run : CoreRun (tasks code heartbeat) LeastFree forks records 1 (first task) events last
+  pub claims : EachEvent (tasks code heartbeat) LeastFree forks records 1 ClaimsLast run
   pub outcome_is : last.outcome ≡ Some (ending.Root outcome)
   pub counts : CountsAre tally last

@@ -1,11 +1,11 @@
-// The law that ties the solo run to the events of the core.
+// Laws of the solo run: it is one, and a list of events of the core.
 
 ghost use Rattle.std.specs.Prelude.{◌≡◌, ◌+◌, ◌*◌, ◌≤◌, ℕ, false, List};
 ghost use Rattle.slices.specs.Holding.{Holding};
 ghost use Rattle.tp_value.specs.declared.values.Outcome.{Outcome};
 ghost use Rattle.tpal_machine.specs.declared.ends.Ending.TheVariants as ending;
 ghost use Rattle.tpal_machine.specs.Owes.{Owes};
-ghost use Rattle.tpal_machine.specs.State.{first_state};
+ghost use Rattle.tpal_machine.specs.State.{State, first_state};
 ghost use Rattle.schedule_core.specs.declared.lanes.Tally.{Tally};
 ghost use Rattle.schedule_core.specs.Core.{top};
 ghost use Rattle.schedule_core.specs.Sharing.{SharedRun};
@@ -13,8 +13,16 @@ ghost use Rattle.schedule_core.specs.Solo.{SoloRun};
 
 use tpal_syntax::Code;
 
+/// A task has at most one solo run.
+pub fn one_solo_run(code: &Code)
+    ensures { (heartbeat forks : ℕ) (task : State) (outcome other : Outcome) (tally later : Tally)
+        → SoloRun code.now heartbeat forks task outcome tally
+        → SoloRun code.now heartbeat forks task other later
+        → (outcome ≡ other) × (tally ≡ later) }
+{}
+
 /// A solo run is a list of events of the core: of one worker with 64 records, of which a task that
-/// asks is given the least free one.
+/// asks is given the least free one, and the one that was opened last is claimed.
 pub fn solo_run_of_events(code: &Code)
     ensures { (heartbeat forks fuel : ℕ) (held : List Holding) (out outcome : Outcome)
         (tally : Tally)
