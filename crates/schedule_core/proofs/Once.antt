@@ -69,8 +69,7 @@ module _ (code : Listing) (s : State) where
   told : (x : Step) (t : Turn) (b : ℕ) → IsTurn (whole x).stopped t
       → HadMemory t (b ≡ (whole x).beats) → IsStepOf code x → Told x t b
   told x (turn.Pause t) b is few of =
-      let all = told_by x (Pauses t) of is ∙ ap (step_told (Pauses t)) (sym few) in
-      (
+      let all = told_by x (Pauses t) of is ∙ ap (step_told (Pauses t)) (sym few) in (
         (λ none. all ∙ cond-true (b == 0) (machine.Goes t) (machine.Beats t) (eq-eqb b 0 none)),
         (λ some. all ∙ cond-false (b == 0) (machine.Goes t) (machine.Beats t) (ne_eqb b 0 some)),
       )

@@ -29,4 +29,6 @@ pub use solo::solo_run;
 #[cfg(test)]
 mod solo_tests;
 #[cfg(test)]
+mod sum_tests;
+#[cfg(test)]
 mod tests;

@@ -1,0 +1,8 @@
+use Rattle.schedule_core.specs.Apply.{Belongs, IsSound}
+use Rattle.schedule_core.specs.Standing.{stands}
+use Rattle.sum_code.specs.Sum.{prints_sum}
+use Rattle.schedule_core.proofs.sum_tests.run.Given as goal
+
+abbrev pub invariant-loop-turn : goal.invariant-loop-turn
+invariant-loop-turn l =
+    Belongs l.code (stands l.config) × IsSound l.code l.config (prints_sum 100)
