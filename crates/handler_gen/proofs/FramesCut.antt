@@ -5,18 +5,20 @@ use Rattle.std.specs.Prelude.{ℤ, pos, int_lt, AllPairs}
 use Rattle.frame_machine.specs.Splitting.{cut_of, parts_of, ranges_at}
 use Rattle.frame_machine.specs.Splitting as splitting
 use Rattle.loop_meaning.specs.declared.frame.Frame.{Frame}
-use Rattle.loop_meaning.specs.declared.frame.Frame.TheVariants.{Range}
+use Rattle.loop_meaning.specs.declared.frame.Frame.TheVariants.{Range, Pair}
 use Rattle.reduce_ops.specs.Reduction.{unit}
 use Rattle.stack_marks.specs.Stacks.{StackValue, word_at, with_word, without_oldest}
 use Rattle.tp_value.specs.declared.Op.{Op}
+use Rattle.tpal_syntax.specs.declared.sites.CallSite.{CallSite}
 use Rattle.tpal_syntax.specs.declared.sites.LoopSite.{LoopSite}
 use Rattle.tpal_syntax.specs.declared.words.Word.TheVariants.{Int}
 use Rattle.tpal_machine.specs.State.{State}
-use Rattle.handler_gen.specs.Frames.{HoldAccs, Shows, CutsFrame}
+use Rattle.handler_gen.specs.CallCuts.{IsAtCalls, child_call_cells}
+use Rattle.handler_gen.specs.Frames.{HoldAccs, HoldNumbers, Shows, ShowsCall, CutsFrame, CutsPair}
 use Rattle.handler_gen.specs.LoopCuts.{IsAtLoop, left_cells, child_cells, with_units}
-use Rattle.handler_gen.specs.Sites.{IsLoopSite}
+use Rattle.handler_gen.specs.Sites.{IsCallSite, call_cells, IsLoopSite}
 use Rattle.handler_gen.proofs.Cells.{Has, has_set}
-use Rattle.handler_gen.proofs.CutCells.{left_word, left_bound, child_word, child_cursor, units_other, has_child_2, child_2}
+use Rattle.handler_gen.proofs.CutCells.{left_word, left_bound, child_word, child_cursor, child_call_word, units_other, has_child_2, child_2}
 use Rattle.handler_gen.proofs.Offsets.{cells_of, bound_in, cursor_in, accs_in}
 use Rattle.handler_gen.proofs.Words.{word_same}
 
@@ -150,4 +152,41 @@ module _ (site : LoopSite) (right : IsLoopSite site) where
     child = λ z next middle end accs lower upper state k at shows is.
         subst (λ (f : Frame). Shows site z f (child_cells site z middle k state.stack)) (sym (upper_is next middle end accs lower upper at.cut is))
         (upper_shown site right z next middle end accs state k at shows);
+  }
+
+-- ---- pairs of calls
+
+-- cells that are the same hold the same numbers
+numbers_same : (cells : List ℕ) (numbers : List ℤ) (s t : StackValue) (z : ℕ) → All (λ c. word_at t (pos (z + c)) ≡ word_at s (pos (z + c))) cells → HoldNumbers s z cells numbers → HoldNumbers t z cells numbers
+numbers_same [] [] s t z same hold = tt
+numbers_same [] (n ∷ numbers) s t z same hold = absurd hold
+numbers_same (c ∷ cells) [] s t z same hold = absurd hold
+numbers_same (c ∷ cells) (n ∷ numbers) s t z same hold = (
+  All-head (λ (d : ℕ). word_at t (pos (z + d)) ≡ word_at s (pos (z + d))) c cells same ∙ hold.0,
+  numbers_same cells numbers s t z (All-tail (λ (d : ℕ). word_at t (pos (z + d)) ≡ word_at s (pos (z + d))) c cells same) hold.1,
+)
+
+taken_is : (second : List ℕ) (args : List ℤ) (rest upper : Frame) → parts_of (Pair second args false) ≡ Some (rest, upper) → Pair second args true ≡ upper
+unfolding upper_of
+taken_is second args rest upper is = ap (λ o. upper_of o upper) is
+
+module _ (site : CallSite) (right : IsCallSite site) where
+  abbrev Inside : ℕ → Type 0
+  Inside off = off < site.cells
+
+  args_in : All Inside site.args
+  args_in = All-tail Inside site.rec site.args (All-tail Inside site.mark (call_cells site) right.offsets)
+
+  rec_apart_args : All (λ c. site.rec ≢ c) site.args
+  rec_apart_args = first_apart site.rec site.args right.offsets_differ
+
+  child_shown : (z : ℕ) (args : List ℤ) (state : State) (k : ℕ) → IsAtCalls site z state → HoldNumbers state.stack z site.args args → HoldNumbers (child_call_cells site z k state.stack) z site.args args
+  child_shown z args state k at hold =
+      numbers_same site.args args state.stack (child_call_cells site z k state.stack) z (λ i d below. child_call_word site z k state.stack at.held _ (args_in i d below) (λ e. rec_apart_args i d below (sym e))) hold
+
+  pub cuts_pair : CutsPair site
+  cuts_pair = record {
+    child = λ z second args rest upper state k at shows is.
+        subst (λ (f : Frame). ShowsCall site z f (child_call_cells site z k state.stack)) (taken_is second args rest upper is) (child_shown z args state k at shows);
+    left = λ z state k at. refl;
   }

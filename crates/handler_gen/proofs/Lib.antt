@@ -34,3 +34,5 @@ pub mod CutCells
 mod FramesCut
 -- the blocks meet the conditions of a code
 pub mod Fits
+-- entering a promotion-ready block
+pub mod Ready

@@ -54,7 +54,7 @@ module _ (code : Listing) (heartbeat : ℕ) where
   instr_step : (state : State) (i : Instr) → IsNext code state i → (allowed : Bool) → step code heartbeat allowed state ≡ executed code heartbeat allowed i (advanced state)
   instr_step state i at allowed = step_of_instr code heartbeat allowed state at.block i at.found at.is
 
-  term_step : (state : State) (t : Term) → IsAtEnd code state t → (allowed : Bool) → step code heartbeat allowed state ≡ finished code heartbeat allowed t (advanced state)
+  pub term_step : (state : State) (t : Term) → IsAtEnd code state t → (allowed : Bool) → step code heartbeat allowed state ≡ finished code heartbeat allowed t (advanced state)
   term_step state t at allowed =
       step_of_term code heartbeat allowed state (advanced state) at.block at.found at.none refl
       ∙ ap (λ u. finished code heartbeat allowed u (advanced state)) at.is

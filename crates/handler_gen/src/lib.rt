@@ -2,7 +2,7 @@
 //! where each beat comes, and the handler of each site. They stand on the code types of
 //! `tpal_syntax`; contracts speak of the steps of `tpal_machine`, and the place of a cut is that of
 //! `frame_machine`. Start with `loops`. `labels` says where the blocks of a site stand, and those
-//! round them to which they go on; `laws` that a loop is cut as its frame is.
+//! round them to which they go on; `laws` that frames are cut as `split_frame` cuts them.
 #![tactic(auto)]
 
 mod blocks;
@@ -17,7 +17,7 @@ pub use labels::{
     back_label, child_end_label, child_label, comb_label, first_label, joined_label,
     left_end_label, none_label, over_label, prep_label, side_label, split_label, target_label,
 };
-pub use laws::cuts_frame;
+pub use laws::{cuts_frame, cuts_pair};
 pub use loops::loop_handler;
 
 #[cfg(test)]
