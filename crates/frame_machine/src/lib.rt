@@ -8,8 +8,6 @@ mod frame;
 pub mod laws;
 mod range;
 pub mod rules;
-#[cfg(test)]
-mod tests;
 
 pub use frame::{merge_frames, split_frame};
 pub use range::split_range;

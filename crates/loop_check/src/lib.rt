@@ -15,8 +15,6 @@ mod round;
 mod shape;
 mod spot;
 mod statement;
-#[cfg(test)]
-mod tests;
 mod usage;
 mod whole;
 

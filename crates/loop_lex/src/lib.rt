@@ -9,6 +9,3 @@ mod token;
 
 pub use lexer::lex;
 pub use token::{LexFault, Token, TokenKind};
-
-#[cfg(test)]
-mod tests;

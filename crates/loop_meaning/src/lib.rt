@@ -14,8 +14,6 @@ mod plain;
 mod run;
 mod setting;
 mod simple;
-#[cfg(test)]
-mod tests;
 mod value;
 
 pub use frame::Frame;

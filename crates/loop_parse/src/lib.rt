@@ -12,7 +12,5 @@ mod reader;
 mod simple;
 mod statement;
 mod terminal;
-#[cfg(test)]
-mod tests;
 
 pub use parser::{ParseFault, parse};

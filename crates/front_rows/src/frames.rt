@@ -4,7 +4,7 @@ ghost use Rattle.std.specs.Prelude.{◌≡◌, IfOk, List, [], ◌∷◌};
 ghost use Rattle.loop_meaning.specs.declared.frame.Frame.TheVariants.{Range};
 ghost use Rattle.frame_machine.specs.Splitting.{IsShort};
 
-use crate::{merge_frames, split_frame, split_range};
+use frame_machine::{merge_frames, split_frame, split_range};
 use loop_meaning::Frame;
 use std::alloc::Global;
 use std::test::Fail;

@@ -3,7 +3,7 @@
 
 ghost use Rattle.std.specs.Prelude.{◌≤◌};
 
-use super::*;
+use loop_meaning::plain_run;
 use loop_rules::{Resolved, resolve};
 use loop_syntax::{App, BinOp, Expr, Func, Name, ParLoop, Program, Reduce, Stmt, TableDecl};
 use std::alloc::Global;

@@ -1,6 +1,6 @@
 // Sources that are accepted and refused, with their places worked out by hand.
 
-use crate::check;
+use loop_check::check;
 use loop_lex::lex;
 use loop_parse::parse;
 use loop_rules::{Resolved, RuleFault, resolve};

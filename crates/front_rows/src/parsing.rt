@@ -1,7 +1,7 @@
 // Texts that are refused, with their faults, worked out by hand.
 
-use crate::{ParseFault, parse};
 use loop_lex::lex;
+use loop_parse::{ParseFault, parse};
 use std::alloc::Global;
 use tp_value::Place;
 

@@ -1,6 +1,6 @@
 // Texts with their tokens or their fault, worked out by hand.
 
-use crate::{LexFault, Token, TokenKind, lex};
+use loop_lex::{LexFault, Token, TokenKind, lex};
 use std::alloc::Global;
 use tp_value::Place;
 
