@@ -25,10 +25,3 @@ pub use event::{ApplyFault, Event};
 pub use job::{Job, Report};
 pub use lanes::{Opened, Tally};
 pub use solo::solo_run;
-
-#[cfg(test)]
-mod solo_tests;
-#[cfg(test)]
-mod sum_tests;
-#[cfg(test)]
-mod tests;

@@ -1,6 +1,6 @@
 use Rattle.std.proofs.Common.{[], ◌∷◌}
 use Rattle.tp_value.specs.declared.values.Stop.TheVariants.{Done}
-use Rattle.schedule_core.proofs.solo_tests.ran.Goals as goal
+use Rattle.core_rows.proofs.solo.ran.Goals as goal
 
 pub solo_run-requires-clause-owes : goal.solo_run-requires-clause-owes
 solo_run-requires-clause-owes c =

@@ -1,8 +1,8 @@
 use Rattle.schedule_core.specs.Apply.{Belongs, IsSound}
 use Rattle.schedule_core.specs.Standing.{stands}
 use Rattle.sum_code.specs.Sum.{prints_sum}
-use Rattle.schedule_core.proofs.sum_tests.run.Given as goal
+use Rattle.core_rows.proofs.orders.first_of.Given as goal
 
-abbrev pub invariant-loop-turn : goal.invariant-loop-turn
-invariant-loop-turn l =
+abbrev pub invariant-loop-event : goal.invariant-loop-event
+invariant-loop-event l =
     Belongs l.code (stands l.config) × IsSound l.code l.config (prints_sum 100)

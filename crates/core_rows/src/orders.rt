@@ -6,8 +6,8 @@ ghost use Rattle.tp_value.specs.declared.limits.TheConstants.{MAX_BEAT, MAX_FORK
 ghost use Rattle.schedule_core.specs.Apply.{Belongs, IsSound};
 ghost use Rattle.schedule_core.specs.Standing.{stands};
 
-use crate::laws::sides_fit;
-use crate::{ApplyFault, Config, Event, Job, Report, apply, solo_run};
+use schedule_core::laws::sides_fit;
+use schedule_core::{ApplyFault, Config, Event, Job, Report, apply, solo_run};
 use std::alloc::Global;
 use std::test::Fail;
 use sum_code::laws::sum_is_owed;

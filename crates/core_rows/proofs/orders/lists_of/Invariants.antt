@@ -1,5 +1,5 @@
 use Rattle.std.proofs.Common.{◌≡◌, length}
-use Rattle.schedule_core.proofs.sum_tests.lists_of.Given as goal
+use Rattle.core_rows.proofs.orders.lists_of.Given as goal
 
 -- a list for each worker so far
 abbrev pub invariant-loop-worker : goal.invariant-loop-worker

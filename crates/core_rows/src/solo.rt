@@ -1,42 +1,16 @@
 // The solo run of a code.
 
-ghost use Rattle.std.specs.Prelude.{◌≡◌, ◌≤◌, IfOk, IfSome};
+ghost use Rattle.std.specs.Prelude.{◌≡◌, ◌≤◌};
 ghost use Rattle.tp_value.specs.declared.limits.TheConstants.{MAX_BEAT, MAX_FORKS};
 ghost use Rattle.tpal_machine.specs.Sample.{two_and_three};
 
-use crate::{Job, Report, solo_run};
+use crate::codes::five;
+use schedule_core::{Job, Report, solo_run};
 use std::alloc::Global;
 use std::test::Fail;
 use tp_value::{Items, MAX_BEAT, MAX_FORKS, NoMemory, Stop};
 use tpal_machine::laws::sum_owes;
-use tpal_syntax::{Alu, Block, Code, Instr, Note, Term, Value};
-
-// main: plain            r0 := 2, r0 := r0 add 3, print r0, halt
-fn five(alloc: Global) -> Result<Option<Code>, NoMemory>
-    ensures { IfOk result (λ made. IfSome made (λ code. code ≡ two_and_three)) }
-{
-    let body = [
-        Instr::Move {
-            to: 0,
-            value: Value::Int(2),
-        },
-        Instr::Calc {
-            to: 0,
-            left: 0,
-            alu: Alu::Add,
-            right: Value::Int(3),
-        },
-        Instr::Print(0),
-    ];
-    let mut blocks = Vec::new(alloc);
-    blocks.push(Block {
-        name: Items::new(Vec::from_slice(alloc, b"main")?),
-        note: Note::Plain,
-        body: Items::new(Vec::from_slice(alloc, &body)?),
-        term: Term::Halt,
-    })?;
-    Code::new(alloc, Vec::new(alloc), blocks)
-}
+use tpal_syntax::Code;
 
 fn ran(alloc: Global, code: &Code, heartbeat: u64, forks: u32) -> Result<Report, NoMemory>
     requires code { code.now ≡ two_and_three }

@@ -1,4 +1,4 @@
-use Rattle.schedule_core.proofs.tests.+stepped.Given as goal
+use Rattle.core_rows.proofs.events.+stepped.Given as goal
 
 -- the instructions left
 abbrev pub decreases-stepped : goal.decreases-stepped

@@ -1,5 +1,5 @@
 use Rattle.sum_code.specs.Sum.{prints_sum}
-use Rattle.schedule_core.proofs.sum_tests.first.Goals as goal
+use Rattle.core_rows.proofs.orders.first.Goals as goal
 
 pub returns-clause-sound : goal.returns-clause-sound
 returns-clause-sound c =
