@@ -14,7 +14,11 @@ mod fetches;
 #[cfg(test)]
 mod harness;
 #[cfg(test)]
+mod inputs;
+#[cfg(test)]
 mod limits;
+#[cfg(test)]
+mod outside;
 #[cfg(test)]
 mod rules;
 #[cfg(test)]

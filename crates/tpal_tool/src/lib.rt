@@ -37,4 +37,4 @@ pub use tool::tpal;
 #[cfg(test)]
 mod input_tests;
 #[cfg(test)]
-mod outside_tests;
+mod writing_tests;
