@@ -1,7 +1,6 @@
 -- The code of each statement is written where that of its parts is.
-use Rattle.std.proofs.Common.{◌≡◌, ℕ, List, [], ◌∷◌, ◌++◌, length, Some, Vec, refl, sym, subst}
+use Rattle.std.proofs.Common.{◌≡◌, ℕ, List, [], ◌∷◌, ◌++◌, length, Some, refl, sym, subst}
 use Rattle.std.specs.Prelude.{ℤ}
-use Rattle.std.specs.declared.alloc.Global.{Global}
 use Rattle.tp_value.specs.declared.Place.{Place}
 use Rattle.loop_syntax.specs.declared.Name.{Name}
 use Rattle.loop_syntax.specs.declared.Expr.{Expr}
@@ -137,25 +136,30 @@ module _ (on : Body) (reduces : List Reduce) where
   no_other_written scope exit old code tables names round same sees fits stands exits =
       (stands, subst (λ (l : ℕ). Other code (activation on tables) round names [] l exit) exits nothing)
 
-  pub if_written : (scope second_scope : Scope) (e : Expr) (body other : Vec Stmt Global) (first second exit : ℕ) (old test middle new : Output)
-      → WritesTest scope e first second old test → LowersBranch on reduces scope body.items exit test middle → LowersOther on reduces second_scope other.items exit middle new
-      → SeesAfter (λ names. names) scope second_scope → IsFresh new → first ≡ label test → second ≡ label middle → exit ≡ label new → Lowers on reduces scope (If e body other) old new
-  if_written scope second_scope e body other first second exit old test middle new tests one two keeps fresh first_is second_is exit_is code tables names round more last same sees fits c =
-      let v : Stands code middle × Other code (activation on tables) round names other.items (label middle) exit =
-      two code tables names round same (keeps names tables sees) (fit_of_vec tables (entries on.callees.items) on.most round names other fits.2) c.closed exit_is in
-      let u : Stands code test × Branch code (activation on tables) round names body.items (label test) exit =
-      one code tables names round same sees (fit_of_vec tables (entries on.callees.items) on.most round names body fits.1) v.0 in
+  pub if_written : (scope second_scope : Scope) (e : Expr) (body other : List Stmt) (first second exit : ℕ) (old test middle new : Output)
+      → WritesTest scope e first second old test → LowersBranch on reduces scope body exit test middle → LowersOther on reduces second_scope other exit middle new
+      → SeesAfter (λ names. names) scope second_scope → IsFresh new → first ≡ label test → second ≡ label middle → exit ≡ label new
+      → WithBody body (λ v. WithBody other (λ w. Lowers on reduces scope (If e v w) old new))
+  if_written scope second_scope e body other first second exit old test middle new tests one two keeps fresh first_is second_is exit_is p is q is_other code tables names round more last same sees fits c =
+      let inside : AllFit tables (entries on.callees.items) on.most round names body =
+      subst (λ (ss : List Stmt). AllFit tables (entries on.callees.items) on.most round names ss) is (fit_of_vec tables (entries on.callees.items) on.most round names p fits.1) in
+      let beside : AllFit tables (entries on.callees.items) on.most round names other =
+      subst (λ (ss : List Stmt). AllFit tables (entries on.callees.items) on.most round names ss) is_other (fit_of_vec tables (entries on.callees.items) on.most round names q fits.2) in
+      let v : Stands code middle × Other code (activation on tables) round names other (label middle) exit = two code tables names round same (keeps names tables sees) beside c.closed exit_is in
+      let u : Stands code test × Branch code (activation on tables) round names body (label test) exit = one code tables names round same sees inside v.0 in
       let w : Leads code old (λ instrs end. (end ≡ to second) × Computes code (activation on tables) names e 0 instrs (instr.IfJump 0 first ∷ [])) = tests code (activation on tables) names sees fits.0 u.0 in
       let ends : Opens code exit more last = subst (λ (l : ℕ). Opens code l more last) (sym exit_is) (fresh_opens code new more last fresh c) in
+      let own : Branch code (activation on tables) round names p.items first exit =
+      subst (λ (ss : List Stmt). Branch code (activation on tables) round names ss first exit) (sym is)
+      (subst (λ (l : ℕ). Branch code (activation on tables) round names body l exit) (sym first_is) u.1) in
+      let others : Other code (activation on tables) round names q.items second exit =
+      subst (λ (ss : List Stmt). Other code (activation on tables) round names ss second exit) (sym is_other)
+      (subst (λ (l : ℕ). Other code (activation on tables) round names other l exit) (sym second_is) v.1) in
       record {
         instrs = w.instrs;
         end = w.end;
         continues = w.continues;
-        told = subst (λ (t : Term). Code code (activation on tables) round names (If e body other) w.instrs t more last) (sym w.told.0)
-            (if_code body other w.told.1
-            (subst (λ (l : ℕ). Branch code (activation on tables) round names body.items l exit) (sym first_is) u.1)
-            (subst (λ (l : ℕ). Other code (activation on tables) round names other.items l exit) (sym second_is) v.1)
-            ends);
+        told = subst (λ (t : Term). Code code (activation on tables) round names (If e p q) w.instrs t more last) (sym w.told.0) (if_code p q w.told.1 own others ends);
       }
 
   -- ---- loops

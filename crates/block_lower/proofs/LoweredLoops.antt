@@ -27,7 +27,11 @@ use Rattle.block_lower.specs.Bodies.{entries, activation}
 use Rattle.block_lower.specs.Code.{Opens, Computes, Code, loop_code, loop_to_code, par_code, Codes, to, store, load, below_test, step_up, wide_test}
 use Rattle.block_lower.specs.Fitting.{AllFit}
 use Rattle.block_lower.specs.Layout.{value_cell, bound_cell}
-use Rattle.block_lower.specs.Lowering.{WritesValue, WritesBelow, WritesStart, AreBounds, WritesBounds, WritesSome, WritesWide, Lowers, WithBody, IsBodyAt, LowersBody}
+use Rattle.block_lower.specs.declared.repeat.Bound.{Bound}
+use Rattle.block_lower.specs.declared.repeat.Bound.TheVariants as bound
+use Rattle.block_lower.specs.Lowering.{WritesValue, WritesBelow, WritesStart, AreBounds, WritesBounds}
+use Rattle.block_lower.specs.Lowering.{WritesBoundedStart, BeginsLoop, turn, WritesSome, WritesWide}
+use Rattle.block_lower.specs.Lowering.{Lowers, WithBody, IsBodyAt, LowersBody}
 use Rattle.block_lower.specs.Names.{Sees}
 use Rattle.block_lower.specs.Round.{Round, loop_round, par_round}
 use Rattle.block_lower.specs.Writing.{label, next_label, IsFresh, Pushes, Traps, Closes, Stands, Continues, Leads}
@@ -75,6 +79,11 @@ bounds_written scope a b old first stores second bounds new one push two push_bo
       );
     }
 
+pub bounded_start_written : (scope : Scope) (a b : Expr) (again exit : ℕ) (old bounds new : Output)
+    → WritesBounds scope a b old bounds → WritesBelow 1 (value.Reg 0) again exit bounds new → WritesBoundedStart scope a b again exit old new
+bounded_start_written scope a b again exit old bounds new starts test code act names sees visible_a visible_b stands =
+    starts code act names (below_test 1 (value.Reg 0) again) (to exit) sees visible_a visible_b (test code stands)
+
 -- ---- the loop
 
 -- the body with what stands behind it, and the begin of its block
@@ -107,7 +116,7 @@ module _ (on : Body) (reduces : List Reduce) (scope : Scope) (x : Name) (body : 
         ends = subst (λ (l : ℕ). Opens code l more last) (sym exit_is) (fresh_opens code new more last fresh c);
       }
 
-pub loop_to_written : (on : Body) (reduces : List Reduce) (scope : Scope) (x : Name) (a b : Expr) (n : ℤ) (body : List Stmt) (level again exit : ℕ) (old start inner new : Output) → literal b ≡ Some n → InRange n
+loop_to_written : (on : Body) (reduces : List Reduce) (scope : Scope) (x : Name) (a b : Expr) (n : ℤ) (body : List Stmt) (level again exit : ℕ) (old start inner new : Output) → literal b ≡ Some n → InRange n
     → level ≡ length scope.cells.items → WritesStart scope a n again exit old start → IsFresh start → again ≡ label start → LowersBody on reduces scope x.text.items body start inner
     → ((code : Listing) → Stands code new → Continues code inner (step_up 0 level (below_test 0 (value.Int n) again)) (to exit)) → IsFresh new → exit ≡ label new → WithBody body (λ v. Lowers on reduces scope (Loop x a b v) old new)
 loop_to_written on reduces scope x a b n body level again exit old start inner new is_literal in_n long starts fresh_start again_is lowers turn fresh exit_is v is code tables names round more last same sees fits c =
@@ -123,21 +132,29 @@ loop_to_written on reduces scope x a b n body level again exit old start inner n
       told = subst (λ (t : Term). Code code (activation on tables) round names (Loop x a b v) w.instrs t more last) (sym w.told.0) (loop_to_code v fits.0 is_literal in_n w.told.1 q.begins q.codes q.ends);
     }
 
-pub loop_written : (on : Body) (reduces : List Reduce) (scope : Scope) (x : Name) (a b : Expr) (body : List Stmt) (level again exit : ℕ) (old bounds start inner new : Output)
-    → level ≡ length scope.cells.items → WritesBounds scope a b old bounds → WritesBelow 1 (value.Reg 0) again exit bounds start → IsFresh start → again ≡ label start → LowersBody on reduces scope x.text.items body start inner
+loop_bounded_written : (on : Body) (reduces : List Reduce) (scope : Scope) (x : Name) (a b : Expr) (body : List Stmt) (level again exit : ℕ) (old start inner new : Output)
+    → level ≡ length scope.cells.items → WritesBoundedStart scope a b again exit old start → IsFresh start → again ≡ label start → LowersBody on reduces scope x.text.items body start inner
     → ((code : Listing) → Stands code new → Continues code inner (step_up 1 level (load 0 (bound_cell level) ∷ below_test 1 (value.Reg 0) again)) (to exit)) → IsFresh new → exit ≡ label new → WithBody body (λ v. Lowers on reduces scope (Loop x a b v) old new)
-loop_written on reduces scope x a b body level again exit old bounds start inner new long starts test fresh_start again_is lowers turn fresh exit_is v is code tables names round more last same sees fits c =
+loop_bounded_written on reduces scope x a b body level again exit old start inner new long starts fresh_start again_is lowers turn fresh exit_is v is code tables names round more last same sees fits c =
     let behind : ℕ → List Instr = λ l. step_up 1 l (load 0 (bound_cell l) ∷ below_test 1 (value.Reg 0) again) in
     let q : Looped on reduces scope x body level again exit start inner new behind long fresh_start again_is lowers turn fresh exit_is code tables names (loop_round round (length names)) v more last =
     looped on reduces scope x body level again exit start inner new behind long fresh_start again_is lowers turn fresh exit_is code tables names (loop_round round (length names)) v more last same is sees (fit_of_vec tables (entries on.callees.items) on.most (loop_round round (length names)) (names ++ x.text.items ∷ []) v fits.3) c in
     let w : Leads code old (λ instrs end. (end ≡ to exit) × AreBounds code (activation on tables) names a b instrs (below_test 1 (value.Reg 0) again)) =
-    starts code (activation on tables) names (below_test 1 (value.Reg 0) again) (to exit) sees fits.1 fits.2 (test code q.before) in
+    starts code (activation on tables) names sees fits.1 fits.2 q.before in
     record {
       instrs = w.instrs;
       end = w.end;
       continues = w.continues;
       told = subst (λ (t : Term). Code code (activation on tables) round names (Loop x a b v) w.instrs t more last) (sym w.told.0) (loop_code v fits.0 w.told.1.from w.told.1.to q.begins q.codes q.ends);
     }
+
+pub loop_written : (on : Body) (reduces : List Reduce) (scope : Scope) (x : Name) (a b : Expr) (body : List Stmt) (level : ℕ) (own : Bound) (again exit : ℕ) (old start inner new : Output)
+    → level ≡ length scope.cells.items → BeginsLoop scope a b own again exit old start → IsFresh start → again ≡ label start → LowersBody on reduces scope x.text.items body start inner
+    → ((code : Listing) → Stands code new → Continues code inner (turn level own again) (to exit)) → IsFresh new → exit ≡ label new → WithBody body (λ v. Lowers on reduces scope (Loop x a b v) old new)
+loop_written on reduces scope x a b body level (bound.Number n) again exit old start inner new long begins fresh_start again_is lowers ends fresh exit_is =
+    loop_to_written on reduces scope x a b n body level again exit old start inner new begins.0 begins.1 long begins.2 fresh_start again_is lowers ends fresh exit_is
+loop_written on reduces scope x a b body level bound.Cell again exit old start inner new long begins fresh_start again_is lowers ends fresh exit_is =
+    loop_bounded_written on reduces scope x a b body level again exit old start inner new long begins fresh_start again_is lowers ends fresh exit_is
 
 -- ---- `par`
 

@@ -1,7 +1,7 @@
 -- What is promised of writing the code of expressions and statements: wherever what is written at
 -- the end stands in a code, what was written before goes on there with the code of the expression
 -- or the statement.
-use Rattle.std.specs.Prelude.{◌≡◌, ℕ, ◌+◌, ℤ, List, [], ◌∷◌, ◌++◌, length, Vec}
+use Rattle.std.specs.Prelude.{◌≡◌, ℕ, ◌+◌, ℤ, List, [], ◌∷◌, ◌++◌, length, Some, Vec}
 use Rattle.std.specs.declared.alloc.Global.{Global}
 use Rattle.loop_syntax.specs.declared.Expr.{Expr}
 use Rattle.loop_syntax.specs.declared.Reduce.{Reduce}
@@ -16,14 +16,18 @@ use Rattle.tpal_syntax.specs.declared.instructions.Value.{Value}
 use Rattle.tpal_syntax.specs.declared.instructions.Value.TheVariants as value
 use Rattle.tpal_syntax.specs.Listing.{Listing}
 use Rattle.expr_lower.specs.declared.scope.Scope.{Scope}
-use Rattle.expr_lower.specs.Bodies.{trap_block}
+use Rattle.loop_meaning.specs.InRange.{InRange}
+use Rattle.expr_lower.specs.Bodies.{literal, trap_block}
 use Rattle.expr_lower.specs.Standing.{AreAt}
 use Rattle.block_lower.specs.declared.body.Body.{Body}
 use Rattle.block_lower.specs.declared.output.Output.{Output}
+use Rattle.block_lower.specs.declared.repeat.Bound.{Bound}
+use Rattle.block_lower.specs.declared.repeat.Bound.TheVariants as bound
+use Rattle.block_lower.specs.declared.repeat.Turns.{Turns}
 use Rattle.block_lower.specs.Bodies.{entries, activation}
 use Rattle.block_lower.specs.Code.{Opens, Computes, Operand, Arguments, parameter_cell, passed}
 use Rattle.block_lower.specs.Code.{Calls, Code, Codes, Branch, Other, to, store, load, below_test}
-use Rattle.block_lower.specs.Code.{wide_test, put_tested}
+use Rattle.block_lower.specs.Code.{step_up, wide_test, put_tested}
 use Rattle.block_lower.specs.Fitting.{IsVisible, AreVisible, Fits, AllFit}
 use Rattle.block_lower.specs.Layout.{value_cell, bound_cell, kept_cell, Entry, Activation}
 use Rattle.block_lower.specs.Names.{Sees}
@@ -90,6 +94,38 @@ WritesBounds scope a b old new =
     → IsVisible act.tables names b
     → Continues code new more last
     → Leads code old (λ instrs end. (end ≡ last) × AreBounds code act names a b instrs more)
+
+-- the begin of a `loop` up to the value of an expression was written, and its block closed
+abbrev pub WritesBoundedStart : Scope → Expr → Expr → ℕ → ℕ → Output → Output → Type 0
+WritesBoundedStart scope a b again exit old new =
+    (code : Listing) (act : Activation) (names : List (List ℕ))
+    → Sees scope names act.tables
+    → IsVisible act.tables names a
+    → IsVisible act.tables names b
+    → Stands code new
+    → Leads code old
+    (λ instrs end. (end ≡ to exit)
+    × AreBounds code act names a b instrs (below_test 1 (value.Reg 0) again))
+
+-- the begin of a `loop` was written, whose bound is as told
+abbrev pub BeginsLoop : Scope → Expr → Expr → Bound → ℕ → ℕ → Output → Output → Type 0
+BeginsLoop scope a b (bound.Number n) again exit old new =
+    (literal b ≡ Some n) × InRange n × WritesStart scope a n again exit old new
+BeginsLoop scope a b bound.Cell again exit old new =
+    WritesBoundedStart scope a b again exit old new
+
+-- behind the body of a loop: the next number, and the body again where that is below the bound
+abbrev pub turn : ℕ → Bound → ℕ → List Instr
+turn level (bound.Number n) again = step_up 0 level (below_test 0 (value.Int n) again)
+turn level bound.Cell again =
+    step_up 1 level (load 0 (bound_cell level) ∷ below_test 1 (value.Reg 0) again)
+
+-- the end of a loop was written, and its block closed
+abbrev pub EndsLoop : Turns → Output → Output → Type 0
+EndsLoop turns old new =
+    (code : Listing)
+    → Stands code new
+    → Continues code old (turn turns.level turns.bound turns.again) (to turns.exit)
 
 -- ---- `par`
 

@@ -6,7 +6,6 @@ ghost use Rattle.tp_value.specs.declared.limits.TheConstants.{MAX_PARAMETERS, MA
 ghost use Rattle.loop_syntax.specs.declared.Reduce.{Reduce};
 ghost use Rattle.loop_syntax.specs.declared.Stmt;
 ghost use Rattle.tpal_syntax.specs.Listing.{Listing};
-ghost use Rattle.block_lower.specs.declared.body.Body.{Body};
 ghost use Rattle.block_lower.specs.Bodies.{HasRoomFor};
 ghost use Rattle.block_lower.specs.Code as codes;
 ghost use Rattle.block_lower.specs.Heights.{AreLowArguments};
@@ -17,244 +16,225 @@ ghost use Rattle.block_lower.specs.Sizes as sizes;
 ghost use Rattle.block_lower.specs.Writing as writing;
 ghost use Rattle.block_lower.specs.Writing.{IsFresh, Pushes, Stands, Continues};
 
-use crate::body::{Body, Target, kept_cell, parameter_cell, target_of};
+use crate::body::{Target, target_of};
 use crate::layout::{BASE, KEPT_VALUE, LEVELS, RETURN};
-use crate::output::{Output, close, next_label, push};
-use crate::piece::{jump, load, push_operand, store};
-use expr_lower::{Scope, offset_of};
+use crate::lowering::{Lowering, jump};
 use loop_syntax::{App, Expr, Name};
-use std::alloc::Global;
 use tp_value::{NoMemory, Place, TrapKind};
 use tpal_syntax::{Alu, Instr, Term, Value};
 
-/// The values of arguments, in cells that stand at a distance from one another from the first on.
-fn push_arguments(
-    alloc: Global,
-    out: &mut Output,
-    scope: &Scope,
-    arguments: &[Expr],
-    first: u16,
-    distance: u16,
-) -> Result<(), NoMemory>
-    requires few_tables { length scope.now.tables.items ≤ MAX_TABLES }
-    requires low { AreLowArguments arguments.now }
-    requires labels { writing.next_label out.old + sizes.trap_counts arguments.now ≤ MAX_BLOCKS }
-    requires cells { (first ≤ 1000) × (distance ≤ 2) }
-    ensures labels { OnOk result
-        (writing.next_label out.new
-        ≡ writing.next_label out.old + sizes.trap_counts arguments.now) }
-    ensures code { OnOk result
-        (WritesArguments scope.now arguments.now (λ i. first + i * distance) out.old out.new) }
-{
-    for (i, e) in arguments.iter().enumerate() {
-        let value = push_operand(alloc, out, scope, e, 0)?;
-        store(out, first + i as u16 * distance, value)?;
+impl Lowering {
+    /// The values of arguments, in cells that stand at a distance from one another from the first
+    /// on.
+    fn arguments(&mut self, list: &[Expr], first: u16, distance: u16) -> Result<(), NoMemory>
+        requires few_tables { length self.old.scope.tables.items ≤ MAX_TABLES }
+        requires low { AreLowArguments list.now }
+        requires labels { writing.next_label self.old.out + sizes.trap_counts list.now
+            ≤ MAX_BLOCKS }
+        requires cells { (first ≤ 1000) × (distance ≤ 2) }
+        ensures labels { OnOk result
+            (writing.next_label self.new.out
+            ≡ writing.next_label self.old.out + sizes.trap_counts list.now) }
+        ensures code { OnOk result
+            (WritesArguments self.old.scope list.now (λ i. first + i * distance)
+            self.old.out self.new.out) }
+        ensures on { OnOk result (self.new.on ≡ self.old.on) }
+        ensures scope { OnOk result (self.new.scope ≡ self.old.scope) }
+    {
+        for (i, e) in list.iter().enumerate() {
+            let value = self.operand(e, 0)?;
+            self.store(first + i as u16 * distance, value)?;
+        }
+        Ok(())
     }
-    Ok(())
-}
 
-/// So many kept numbers, which become the arguments of a call.
-fn push_passed(out: &mut Output, on: &Body, count: u16) -> Result<(), NoMemory>
-    requires room { HasRoomFor on.now kept_by_both }
-    requires few { count ≤ MAX_PARAMETERS }
-    ensures labels { OnOk result (writing.next_label out.new ≡ writing.next_label out.old) }
-    ensures code { OnOk result (WritesPassed on.now count out.old out.new) }
-{
-    for i in 0..count {
-        load(out, 0, kept_cell(on, i))?;
-        store(out, parameter_cell(on, i), Value::Reg(0))?;
+    /// So many kept numbers, which become the arguments of a call.
+    fn passed(&mut self, count: u16) -> Result<(), NoMemory>
+        requires room { HasRoomFor self.old.on kept_by_both }
+        requires few { count ≤ MAX_PARAMETERS }
+        ensures labels { OnOk result
+            (writing.next_label self.new.out ≡ writing.next_label self.old.out) }
+        ensures code { OnOk result (WritesPassed self.old.on count self.old.out self.new.out) }
+        ensures on { OnOk result (self.new.on ≡ self.old.on) }
+        ensures scope { OnOk result (self.new.scope ≡ self.old.scope) }
+    {
+        for i in 0..count {
+            let kept = self.kept_cell(i);
+            let parameter = self.parameter_cell(i);
+            self.load(0, kept)?;
+            self.store(parameter, Value::Reg(0))?;
+        }
+        Ok(())
     }
-    Ok(())
-}
 
-/// A tick, and a trap where no level of calls is left.
-fn push_call_test(alloc: Global, out: &mut Output, go: u32, place: Place) -> Result<(), NoMemory>
-    requires { writing.next_label out.old ≤ MAX_BLOCKS }
-    ensures labels { OnOk result (writing.next_label out.new ≡ writing.next_label out.old + 1) }
-    ensures fresh { OnOk result (IsFresh out.new) }
-    ensures code { OnOk result
-        ((code : Listing)
-        → Stands code out.new
-        → Continues code out.old (codes.call_test go place) Term.Halt) }
-{
-    push(out, Instr::Tick)?;
-    load(out, 0, LEVELS)?;
-    push(out, Instr::IfJump { test: 0, label: go })?;
-    push(
-        out,
-        Instr::Trap {
+    /// A tick, and a trap where no level of calls is left.
+    fn push_call_test(&mut self, go: u32, place: Place) -> Result<(), NoMemory>
+        requires { writing.next_label self.old.out ≤ MAX_BLOCKS }
+        ensures labels { OnOk result
+            (writing.next_label self.new.out ≡ writing.next_label self.old.out + 1) }
+        ensures fresh { OnOk result (IsFresh self.new.out) }
+        ensures code { OnOk result
+            ((code : Listing)
+            → Stands code self.new.out
+            → Continues code self.old.out (codes.call_test go place) Term.Halt) }
+        ensures on { OnOk result (self.new.on ≡ self.old.on) }
+        ensures scope { OnOk result (self.new.scope ≡ self.old.scope) }
+    {
+        self.push(Instr::Tick)?;
+        self.load(0, LEVELS)?;
+        self.jump_if(0, go)?;
+        self.push(Instr::Trap {
             kind: TrapKind::Deep,
             place,
-        },
-    )?;
-    close(alloc, out, Term::Halt)?;
-    Ok(())
-}
+        })?;
+        self.close(Term::Halt)?;
+        Ok(())
+    }
 
-/// The position of the activation that runs goes up or down by the cells of the caller's.
-fn push_move(out: &mut Output, on: &Body, alu: Alu) -> Result<(), NoMemory>
-    ensures pushed { OnOk result
-        (Pushes (Instr.Calc 31 31 alu (Value.Int (pos on.now.size)) ∷ []) out.old out.new) }
-    ensures labels { OnOk result (writing.next_label out.new ≡ writing.next_label out.old) }
-{
-    push(
-        out,
-        Instr::Calc {
-            to: BASE,
-            left: BASE,
-            alu,
-            right: Value::Int(on.size as i64),
-        },
-    )
-}
+    /// The position of the activation that runs goes up or down by the cells of the caller's.
+    fn push_move(&mut self, alu: Alu) -> Result<(), NoMemory>
+        ensures pushed { OnOk result
+            (Pushes (Instr.Calc 31 31 alu (Value.Int (pos self.old.on.size)) ∷ []) self.old.out
+            self.new.out) }
+        ensures labels { OnOk result
+            (writing.next_label self.new.out ≡ writing.next_label self.old.out) }
+        ensures on { OnOk result (self.new.on ≡ self.old.on) }
+        ensures scope { OnOk result (self.new.scope ≡ self.old.scope) }
+    {
+        let size = self.on.size as i64;
+        self.calc(BASE, BASE, alu, Value::Int(size))
+    }
 
-/// The block that enters a callee, which has one level of calls less, and returns to a label.
-fn push_entry(
-    alloc: Global,
-    out: &mut Output,
-    on: &Body,
-    label: u32,
-    back: u32,
-) -> Result<(), NoMemory>
-    requires labels { writing.next_label out.old ≤ MAX_BLOCKS }
-    requires size { on.now.size ≤ MAX_ACTIVATION_CELLS }
-    ensures labels { OnOk result (writing.next_label out.new ≡ writing.next_label out.old + 1) }
-    ensures fresh { OnOk result (IsFresh out.new) }
-    ensures code { OnOk result
-        ((code : Listing)
-        → Stands code out.new
-        → Continues code out.old (codes.call_entry on.now.size back) (codes.to label)) }
-{
-    push(
-        out,
-        Instr::Calc {
-            to: 0,
-            left: 0,
-            alu: Alu::Sub,
-            right: Value::Int(1),
-        },
-    )?;
-    store(out, on.size + LEVELS, Value::Reg(0))?;
-    store(out, on.size + RETURN, Value::Label(back))?;
-    push_move(out, on, Alu::Add)?;
-    close(alloc, out, jump(label))?;
-    Ok(())
-}
+    /// The block that enters a callee, which has one level of calls less, and returns to a label.
+    fn push_entry(&mut self, label: u32, back: u32) -> Result<(), NoMemory>
+        requires labels { writing.next_label self.old.out ≤ MAX_BLOCKS }
+        requires size { self.old.on.size ≤ MAX_ACTIVATION_CELLS }
+        ensures labels { OnOk result
+            (writing.next_label self.new.out ≡ writing.next_label self.old.out + 1) }
+        ensures fresh { OnOk result (IsFresh self.new.out) }
+        ensures code { OnOk result
+            ((code : Listing)
+            → Stands code self.new.out
+            → Continues code self.old.out (codes.call_entry self.old.on.size back)
+            (codes.to label)) }
+        ensures on { OnOk result (self.new.on ≡ self.old.on) }
+        ensures scope { OnOk result (self.new.scope ≡ self.old.scope) }
+    {
+        let size = self.on.size;
+        self.calc(0, 0, Alu::Sub, Value::Int(1))?;
+        self.store(size + LEVELS, Value::Reg(0))?;
+        self.store(size + RETURN, Value::Label(back))?;
+        self.push_move(Alu::Add)?;
+        self.close(jump(label))?;
+        Ok(())
+    }
 
-/// A call of a function, whose arguments stand in its activation. The block behind it, in which that
-/// activation goes, is open.
-fn push_call(
-    alloc: Global,
-    out: &mut Output,
-    on: &Body,
-    target: Target,
-    place: Place,
-) -> Result<(), NoMemory>
-    requires labels { writing.next_label out.old + 2 ≤ MAX_BLOCKS }
-    requires size { on.now.size ≤ MAX_ACTIVATION_CELLS }
-    ensures labels { OnOk result (writing.next_label out.new ≡ writing.next_label out.old + 2) }
-    ensures code { OnOk result
-        (WritesCall on.now place target.label target.size out.old out.new) }
-{
-    let go = next_label(out);
-    push_call_test(alloc, out, go, place)?;
-    push_entry(alloc, out, on, target.label, go + 1)?;
-    push(out, Instr::Sfree(target.size))?;
-    push_move(out, on, Alu::Sub)?;
-    Ok(())
-}
+    /// A call of a function, whose arguments stand in its activation. The block behind it, in which
+    /// that activation goes, is open.
+    fn push_call(&mut self, target: Target, place: Place) -> Result<(), NoMemory>
+        requires labels { writing.next_label self.old.out + 2 ≤ MAX_BLOCKS }
+        requires size { self.old.on.size ≤ MAX_ACTIVATION_CELLS }
+        ensures labels { OnOk result
+            (writing.next_label self.new.out ≡ writing.next_label self.old.out + 2) }
+        ensures code { OnOk result
+            (WritesCall self.old.on place target.label target.size self.old.out self.new.out) }
+        ensures on { OnOk result (self.new.on ≡ self.old.on) }
+        ensures scope { OnOk result (self.new.scope ≡ self.old.scope) }
+    {
+        let go = self.next_label();
+        self.push_call_test(go, place)?;
+        self.push_entry(target.label, go + 1)?;
+        self.push(Instr::Sfree(target.size))?;
+        self.push_move(Alu::Sub)?;
+        Ok(())
+    }
 
-/// A call of a function.
-pub fn lower_call(
-    alloc: Global,
-    out: &mut Output,
-    scope: &Scope,
-    on: &Body,
-    x: &Name,
-    f: &App,
-) -> Result<(), NoMemory>
-    requires few_tables { length scope.now.tables.items ≤ MAX_TABLES }
-    requires low { AreLowArguments f.now.args.items }
-    requires labels { writing.next_label out.old + (sizes.trap_counts f.now.args.items + 2) ≤ MAX_BLOCKS }
-    requires size { on.now.size ≤ MAX_ACTIVATION_CELLS }
-    ensures labels { OnOk result
-        (writing.next_label out.new
-        ≡ writing.next_label out.old + (sizes.trap_counts f.now.args.items + 2)) }
-    ensures code { OnOk result
-        ((reduces : List Reduce)
-        → Lowers on.now reduces scope.now (Stmt.Call x.now f.now) out.old out.new) }
-{
-    let target = target_of(on, &f.callee.text);
-    push(out, Instr::Salloc(target.size))?;
-    push_arguments(alloc, out, scope, &f.args, parameter_cell(on, 0), 2)?;
-    push_call(alloc, out, on, target, f.callee.place)?;
-    store(out, offset_of(scope, &x.text), Value::Reg(0))?;
-    Ok(())
-}
+    /// A call of a function.
+    pub fn lower_call(&mut self, x: &Name, f: &App) -> Result<(), NoMemory>
+        requires few_tables { length self.old.scope.tables.items ≤ MAX_TABLES }
+        requires low { AreLowArguments f.now.args.items }
+        requires labels { writing.next_label self.old.out + (sizes.trap_counts f.now.args.items + 2)
+            ≤ MAX_BLOCKS }
+        requires size { self.old.on.size ≤ MAX_ACTIVATION_CELLS }
+        ensures labels { OnOk result
+            (writing.next_label self.new.out
+            ≡ writing.next_label self.old.out + (sizes.trap_counts f.now.args.items + 2)) }
+        ensures code { OnOk result
+            ((reduces : List Reduce)
+            → Lowers self.old.on reduces self.old.scope (Stmt.Call x.now f.now) self.old.out
+            self.new.out) }
+        ensures on { OnOk result (self.new.on ≡ self.old.on) }
+        ensures scope { OnOk result (self.new.scope ≡ self.old.scope) }
+    {
+        let target = target_of(&self.on, &f.callee.text);
+        let first = self.parameter_cell(0);
+        let cell = self.offset(x);
+        self.push(Instr::Salloc(target.size))?;
+        self.arguments(&f.args, first, 2)?;
+        self.push_call(target, f.callee.place)?;
+        self.store(cell, Value::Reg(0))?;
+        Ok(())
+    }
 
-/// The arguments of both calls: those of the first in its activation, the others kept.
-fn push_both_arguments(
-    alloc: Global,
-    out: &mut Output,
-    scope: &Scope,
-    on: &Body,
-    f: &App,
-    g: &App,
-) -> Result<(), NoMemory>
-    requires few_tables { length scope.now.tables.items ≤ MAX_TABLES }
-    requires low { AreLowArguments f.now.args.items × AreLowArguments g.now.args.items }
-    requires labels { writing.next_label out.old
-        + (sizes.trap_counts f.now.args.items + sizes.trap_counts g.now.args.items)
-        ≤ MAX_BLOCKS }
-    requires room { HasRoomFor on.now kept_by_both }
-    ensures labels { OnOk result
-        (writing.next_label out.new
-        ≡ writing.next_label out.old
-        + (sizes.trap_counts f.now.args.items + sizes.trap_counts g.now.args.items)) }
-    ensures code { OnOk result
-        (WritesBothArguments on.now scope.now f.now.args.items g.now.args.items out.old out.new) }
-{
-    push_arguments(alloc, out, scope, &f.args, parameter_cell(on, 0), 2)?;
-    push_arguments(alloc, out, scope, &g.args, kept_cell(on, 0), 1)?;
-    Ok(())
-}
+    /// The arguments of both calls: those of the first in its activation, the others kept.
+    fn both_arguments(&mut self, f: &App, g: &App) -> Result<(), NoMemory>
+        requires few_tables { length self.old.scope.tables.items ≤ MAX_TABLES }
+        requires low { AreLowArguments f.now.args.items × AreLowArguments g.now.args.items }
+        requires labels { writing.next_label self.old.out
+            + (sizes.trap_counts f.now.args.items + sizes.trap_counts g.now.args.items)
+            ≤ MAX_BLOCKS }
+        requires room { HasRoomFor self.old.on kept_by_both }
+        ensures labels { OnOk result
+            (writing.next_label self.new.out
+            ≡ writing.next_label self.old.out
+            + (sizes.trap_counts f.now.args.items + sizes.trap_counts g.now.args.items)) }
+        ensures code { OnOk result
+            (WritesBothArguments self.old.on self.old.scope f.now.args.items g.now.args.items
+            self.old.out self.new.out) }
+        ensures on { OnOk result (self.new.on ≡ self.old.on) }
+        ensures scope { OnOk result (self.new.scope ≡ self.old.scope) }
+    {
+        let first = self.parameter_cell(0);
+        let kept = self.kept_cell(0);
+        self.arguments(&f.args, first, 2)?;
+        self.arguments(&g.args, kept, 1)?;
+        Ok(())
+    }
 
-/// Two calls, one after the other, whose arguments are all computed before.
-pub fn lower_both(
-    alloc: Global,
-    out: &mut Output,
-    scope: &Scope,
-    on: &Body,
-    x: &Name,
-    f: &App,
-    y: &Name,
-    g: &App,
-) -> Result<(), NoMemory>
-    requires few_tables { length scope.now.tables.items ≤ MAX_TABLES }
-    requires low { AreLowArguments f.now.args.items × AreLowArguments g.now.args.items }
-    requires labels { writing.next_label out.old
-        + (sizes.trap_counts f.now.args.items + sizes.trap_counts g.now.args.items + 4)
-        ≤ MAX_BLOCKS }
-    requires room { HasRoomFor on.now kept_by_both }
-    ensures labels { OnOk result
-        (writing.next_label out.new
-        ≡ writing.next_label out.old
-        + (sizes.trap_counts f.now.args.items + sizes.trap_counts g.now.args.items + 4)) }
-    ensures code { OnOk result
-        ((reduces : List Reduce)
-        → Lowers on.now reduces scope.now (Stmt.Both x.now f.now y.now g.now) out.old out.new) }
-{
-    let first = target_of(on, &f.callee.text);
-    let second = target_of(on, &g.callee.text);
-    push(out, Instr::Salloc(first.size))?;
-    push_both_arguments(alloc, out, scope, on, f, g)?;
-    push_call(alloc, out, on, first, f.callee.place)?;
-    store(out, kept_cell(on, KEPT_VALUE), Value::Reg(0))?;
-    push(out, Instr::Salloc(second.size))?;
-    push_passed(out, on, g.args.len() as u16)?;
-    push_call(alloc, out, on, second, g.callee.place)?;
-    load(out, 1, kept_cell(on, KEPT_VALUE))?;
-    store(out, offset_of(scope, &x.text), Value::Reg(1))?;
-    store(out, offset_of(scope, &y.text), Value::Reg(0))?;
-    Ok(())
+    /// Two calls, one after the other, whose arguments are all computed before.
+    pub fn lower_both(&mut self, x: &Name, f: &App, y: &Name, g: &App) -> Result<(), NoMemory>
+        requires few_tables { length self.old.scope.tables.items ≤ MAX_TABLES }
+        requires low { AreLowArguments f.now.args.items × AreLowArguments g.now.args.items }
+        requires labels { writing.next_label self.old.out
+            + (sizes.trap_counts f.now.args.items + sizes.trap_counts g.now.args.items + 4)
+            ≤ MAX_BLOCKS }
+        requires room { HasRoomFor self.old.on kept_by_both }
+        ensures labels { OnOk result
+            (writing.next_label self.new.out
+            ≡ writing.next_label self.old.out
+            + (sizes.trap_counts f.now.args.items + sizes.trap_counts g.now.args.items + 4)) }
+        ensures code { OnOk result
+            ((reduces : List Reduce)
+            → Lowers self.old.on reduces self.old.scope (Stmt.Both x.now f.now y.now g.now)
+            self.old.out self.new.out) }
+        ensures on { OnOk result (self.new.on ≡ self.old.on) }
+        ensures scope { OnOk result (self.new.scope ≡ self.old.scope) }
+    {
+        let first = target_of(&self.on, &f.callee.text);
+        let second = target_of(&self.on, &g.callee.text);
+        let kept = self.kept_cell(KEPT_VALUE);
+        let x_cell = self.offset(x);
+        let y_cell = self.offset(y);
+        self.push(Instr::Salloc(first.size))?;
+        self.both_arguments(f, g)?;
+        self.push_call(first, f.callee.place)?;
+        self.store(kept, Value::Reg(0))?;
+        self.push(Instr::Salloc(second.size))?;
+        self.passed(g.args.len() as u16)?;
+        self.push_call(second, g.callee.place)?;
+        self.load(1, kept)?;
+        self.store(x_cell, Value::Reg(1))?;
+        self.store(y_cell, Value::Reg(0))?;
+        Ok(())
+    }
 }

@@ -17,18 +17,15 @@ ghost use Rattle.block_lower.specs.Sizes as sizes;
 ghost use Rattle.block_lower.specs.Writing as writing;
 ghost use Rattle.block_lower.specs.Writing.{IsFresh, Stands, Continues};
 
-use crate::body::{Body, Callee};
+use crate::body::Callee;
 use crate::layout::{RETURN, value_cell};
-use crate::output::{Output, close, push, push_value};
-use crate::piece::load;
-use crate::scope::{declare, leave};
+use crate::lowering::Lowering;
+use crate::round::Round;
 use crate::sizes::{added_by_func, declared_by_list, kept_by_list};
-use crate::statement::lower_list;
-use expr_lower::Scope;
 use loop_syntax::{Func, Name};
 use std::alloc::Global;
 use tp_value::NoMemory;
-use tpal_syntax::{Instr, Term, Value};
+use tpal_syntax::{Term, Value};
 
 /// How many variables the activation of a function has room for.
 fn most_of(f: &Func) -> usize
@@ -68,91 +65,96 @@ pub fn callees_of(alloc: Global, fs: &[Func], first: u32) -> Result<Vec<Callee>,
     Ok(callees)
 }
 
-/// Makes the parameters visible.
-fn declare_all(alloc: Global, scope: &mut Scope, params: &[Name]) -> Result<(), NoMemory>
-    requires { length scope.old.cells.items + length params.now ≤ MAX_DECLARED_VARIABLES }
-    ensures sees { OnOk result (SeesAfter (λ names. names ++ texts params.now) scope.old scope.new) }
-    ensures cells { OnOk result
-        (length scope.new.cells.items ≡ length scope.old.cells.items + length params.now) }
-    ensures tables { OnOk result (scope.new.tables ≡ scope.old.tables) }
-{
-    for x in params {
-        declare(alloc, scope, &x.text)?;
+impl Lowering {
+    /// Makes the parameters visible.
+    fn declare_all(&mut self, params: &[Name]) -> Result<(), NoMemory>
+        requires { length self.old.scope.cells.items + length params.now
+            ≤ MAX_DECLARED_VARIABLES }
+        ensures sees { OnOk result
+            (SeesAfter (λ names. names ++ texts params.now) self.old.scope self.new.scope) }
+        ensures cells { OnOk result
+            (length self.new.scope.cells.items
+            ≡ length self.old.scope.cells.items + length params.now) }
+        ensures tables { OnOk result (self.new.scope.tables ≡ self.old.scope.tables) }
+        ensures on { OnOk result (self.new.on ≡ self.old.on) }
+        ensures out { OnOk result (self.new.out ≡ self.old.out) }
+    {
+        for x in params {
+            self.declare(x)?;
+        }
+        Ok(())
     }
-    Ok(())
-}
 
-/// The end of a function, whose result is in register 0: control returns. Its activation still
-/// stands, and goes behind the call.
-fn push_return(alloc: Global, out: &mut Output) -> Result<(), NoMemory>
-    requires { writing.next_label out.old ≤ MAX_BLOCKS }
-    ensures labels { OnOk result (writing.next_label out.new ≡ writing.next_label out.old + 1) }
-    ensures fresh { OnOk result (IsFresh out.new) }
-    ensures code { OnOk result
-        ((code : Listing)
-        → Stands code out.new
-        → Continues code out.old (codes.load 1 return_cell ∷ [])
-        (Term.Jump (Value.Reg 1))) }
-{
-    load(out, 1, RETURN)?;
-    close(alloc, out, Term::Jump(Value::Reg(1)))?;
-    Ok(())
-}
-
-/// The blocks of a function.
-fn lower_func(
-    alloc: Global,
-    out: &mut Output,
-    scope: &mut Scope,
-    on: &Body,
-    f: &Func,
-) -> Result<(), NoMemory>
-    requires few_tables { length scope.old.tables.items ≤ MAX_TABLES }
-    requires low { FuncIsLow f.now }
-    requires small { FuncIsSmall f.now }
-    requires labels { writing.next_label out.old + sizes.added_by_func f.now ≤ MAX_BLOCKS }
-    requires room { HasRoomFor on.now (sizes.kept_by_list f.now.body.items) }
-    requires params { length f.now.params.items ≤ on.now.most }
-    requires cells { scope.old.cells.items ≡ [] }
-    requires fresh { IsFresh out.old }
-    ensures labels { OnOk result
-        (writing.next_label out.new ≡ writing.next_label out.old + sizes.added_by_func f.now) }
-    ensures cells { OnOk result (scope.new.cells.items ≡ []) }
-    ensures tables { OnOk result (scope.new.tables ≡ scope.old.tables) }
-    ensures fresh { OnOk result (IsFresh out.new) }
-    ensures code { OnOk result (LowersFunc on.now scope.old f.now out.old out.new) }
-{
-    declare_all(alloc, scope, &f.params)?;
-    lower_list(alloc, out, scope, on, &[], &f.body)?;
-    push_value(alloc, out, scope, &f.result, 0)?;
-    push_return(alloc, out)?;
-    leave(scope, 0);
-    Ok(())
-}
-
-/// The blocks of functions, one behind the other.
-pub fn lower_funcs(
-    alloc: Global,
-    out: &mut Output,
-    scope: &mut Scope,
-    on: &mut Body,
-    fs: &[Func],
-) -> Result<(), NoMemory>
-    requires few_tables { length scope.old.tables.items ≤ MAX_TABLES }
-    requires low { AllByRecursion FuncIsLow fs.now }
-    requires small { AllByRecursion FuncIsSmall fs.now }
-    requires labels { writing.next_label out.old + programs.added_by_funcs fs.now ≤ MAX_BLOCKS }
-    requires cells { scope.old.cells.items ≡ [] }
-    requires fresh { IsFresh out.old }
-    ensures labels { OnOk result
-        (writing.next_label out.new ≡ writing.next_label out.old + programs.added_by_funcs fs.now) }
-    ensures fresh { OnOk result (IsFresh out.new) }
-    ensures code { OnOk result (LowersFuncs (entries on.old.callees.items) scope.old fs.now out.old out.new) }
-{
-    for f in fs {
-        on.most = most_of(f);
-        on.size = size_of(f);
-        lower_func(alloc, out, scope, on, f)?;
+    /// The end of a function, whose result is in register 0: control returns. Its activation still
+    /// stands, and goes behind the call.
+    fn push_return(&mut self) -> Result<(), NoMemory>
+        requires { writing.next_label self.old.out ≤ MAX_BLOCKS }
+        ensures labels { OnOk result
+            (writing.next_label self.new.out ≡ writing.next_label self.old.out + 1) }
+        ensures fresh { OnOk result (IsFresh self.new.out) }
+        ensures code { OnOk result
+            ((code : Listing)
+            → Stands code self.new.out
+            → Continues code self.old.out (codes.load 1 return_cell ∷ [])
+            (Term.Jump (Value.Reg 1))) }
+        ensures on { OnOk result (self.new.on ≡ self.old.on) }
+        ensures scope { OnOk result (self.new.scope ≡ self.old.scope) }
+    {
+        self.load(1, RETURN)?;
+        self.close(Term::Jump(Value::Reg(1)))?;
+        Ok(())
     }
-    Ok(())
+
+    /// The blocks of a function.
+    fn lower_func(&mut self, f: &Func) -> Result<(), NoMemory>
+        requires few_tables { length self.old.scope.tables.items ≤ MAX_TABLES }
+        requires low { FuncIsLow f.now }
+        requires small { FuncIsSmall f.now }
+        requires labels { writing.next_label self.old.out + sizes.added_by_func f.now ≤ MAX_BLOCKS }
+        requires room { HasRoomFor self.old.on (sizes.kept_by_list f.now.body.items) }
+        requires params { length f.now.params.items ≤ self.old.on.most }
+        requires cells { self.old.scope.cells.items ≡ [] }
+        requires fresh { IsFresh self.old.out }
+        ensures labels { OnOk result
+            (writing.next_label self.new.out
+            ≡ writing.next_label self.old.out + sizes.added_by_func f.now) }
+        ensures cells { OnOk result (self.new.scope.cells.items ≡ []) }
+        ensures tables { OnOk result (self.new.scope.tables ≡ self.old.scope.tables) }
+        ensures fresh { OnOk result (IsFresh self.new.out) }
+        ensures code { OnOk result
+            (LowersFunc self.old.on self.old.scope f.now self.old.out self.new.out) }
+        ensures on { OnOk result (self.new.on ≡ self.old.on) }
+    {
+        self.declare_all(&f.params)?;
+        self.lower_list(Round { reduces: &[] }, &f.body)?;
+        self.value(&f.result, 0)?;
+        self.push_return()?;
+        self.leave(0);
+        Ok(())
+    }
+
+    /// The blocks of functions, one behind the other.
+    pub fn lower_funcs(&mut self, fs: &[Func]) -> Result<(), NoMemory>
+        requires few_tables { length self.old.scope.tables.items ≤ MAX_TABLES }
+        requires low { AllByRecursion FuncIsLow fs.now }
+        requires small { AllByRecursion FuncIsSmall fs.now }
+        requires labels { writing.next_label self.old.out + programs.added_by_funcs fs.now
+            ≤ MAX_BLOCKS }
+        requires cells { self.old.scope.cells.items ≡ [] }
+        requires fresh { IsFresh self.old.out }
+        ensures labels { OnOk result
+            (writing.next_label self.new.out
+            ≡ writing.next_label self.old.out + programs.added_by_funcs fs.now) }
+        ensures fresh { OnOk result (IsFresh self.new.out) }
+        ensures code { OnOk result
+            (LowersFuncs (entries self.old.on.callees.items) self.old.scope fs.now
+            self.old.out self.new.out) }
+    {
+        for f in fs {
+            self.on.most = most_of(f);
+            self.on.size = size_of(f);
+            self.lower_func(f)?;
+        }
+        Ok(())
+    }
 }

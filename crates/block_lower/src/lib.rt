@@ -1,8 +1,8 @@
 //! The compiler: from a checked program to the code of the machine. It stands on the tree and the
 //! rules of `loop_syntax`, `loop_rules` and `loop_check`, and on the code of expressions of
 //! `expr_lower`. Start with `specs/Code.antt`, which says which code is the code of a statement,
-//! and `laws`; what writes such code begins in `program`, and `statement` has a function for each
-//! form.
+//! and `laws`; what writes such code begins in `program`. `lowering` has the type that writes it,
+//! whose methods stand by what they write; `statement` says which of them writes which form.
 #![tactic(auto)]
 
 mod body;
@@ -12,11 +12,14 @@ mod fault;
 mod function;
 pub mod laws;
 mod layout;
+mod lowering;
 mod make;
 mod output;
-mod piece;
+mod par;
 mod program;
 mod quiet;
+mod repeat;
+mod round;
 mod scope;
 mod sizes;
 mod statement;

@@ -3,7 +3,6 @@
 ghost use Rattle.std.specs.Prelude.{◌≡◌, ◌+◌, ◌≤◌, pos, max, map, ◌∷◌, [], length, IfOk, IfErr};
 ghost use Rattle.std.specs.Prelude.{OnOk};
 ghost use Rattle.tp_value.specs.declared.limits.TheConstants.{MAX_BLOCKS, MAX_TABLES};
-ghost use Rattle.loop_rules.specs.Names.{texts};
 ghost use Rattle.tpal_syntax.specs.Listing.{Listing};
 ghost use Rattle.expr_lower.specs.Standing.{AreAt};
 ghost use Rattle.block_lower.specs.Bodies.{HasRoomFor};
@@ -19,19 +18,17 @@ ghost use Rattle.block_lower.specs.Programs.{LowersMain};
 ghost use Rattle.block_lower.specs.Refusing.{IsCause};
 ghost use Rattle.block_lower.specs.Sizes as sizes;
 ghost use Rattle.block_lower.specs.Writing as writing;
-ghost use Rattle.block_lower.specs.Writing.{IsFresh, Pushes, Stands};
+ghost use Rattle.block_lower.specs.Writing.{IsFresh, Pushes};
 
 use crate::body::{Body, Callee};
 use crate::count::block_count;
 use crate::fault::LowerFault;
-use crate::function::{callees_of, lower_funcs};
+use crate::function::callees_of;
 use crate::layout::{LEVELS, value_cell};
-use crate::make::push_makes;
-use crate::output::{Output, close, no_output, push};
-use crate::piece::store;
-use crate::scope::leave;
+use crate::lowering::Lowering;
+use crate::output::{Output, no_output};
+use crate::round::Round;
 use crate::sizes::{added_by_decls, added_by_list, declared_by_list, kept_by_decls, kept_by_list};
-use crate::statement::lower_list;
 use expr_lower::Scope;
 use loop_check::Checked;
 use loop_syntax::{Program, TableDecl};
@@ -75,57 +72,61 @@ fn main_body(program: &Program, callees: Vec<Callee>) -> Body
     }
 }
 
-/// The first instructions of main: its activation, with all levels of calls left.
-fn push_head(out: &mut Output, on: &Body) -> Result<(), NoMemory>
-    ensures pushed { OnOk result
-        (Pushes
-        (Instr.Salloc on.now.size ∷ codes.store levels_cell (Value.Int (pos MAX_CALL_DEPTH))
-        ∷ [])
-        out.old out.new) }
-    ensures labels { OnOk result (writing.next_label out.new ≡ writing.next_label out.old) }
-{
-    push(out, Instr::Salloc(on.size))?;
-    store(out, LEVELS, Value::Int(MAX_CALL_DEPTH as i64))?;
-    Ok(())
-}
+impl Lowering {
+    /// The first instructions of main: its activation, with all levels of calls left.
+    fn push_first_activation(&mut self) -> Result<(), NoMemory>
+        ensures pushed { OnOk result
+            (Pushes
+            (Instr.Salloc self.old.on.size
+            ∷ codes.store levels_cell (Value.Int (pos MAX_CALL_DEPTH)) ∷ [])
+            self.old.out self.new.out) }
+        ensures labels { OnOk result
+            (writing.next_label self.new.out ≡ writing.next_label self.old.out) }
+        ensures on { OnOk result (self.new.on ≡ self.old.on) }
+        ensures scope { OnOk result (self.new.scope ≡ self.old.scope) }
+    {
+        let size = self.on.size;
+        self.push(Instr::Salloc(size))?;
+        self.store(LEVELS, Value::Int(MAX_CALL_DEPTH as i64))?;
+        Ok(())
+    }
 
-/// The blocks of main, which declares the tables on its way.
-fn lower_main(
-    alloc: Global,
-    out: &mut Output,
-    scope: &mut Scope,
-    on: &Body,
-    program: &Program,
-) -> Result<(), NoMemory>
-    requires fits { ProgramFits program.now }
-    requires labels { writing.next_label out.old + programs.added_by_main program.now ≤ MAX_BLOCKS }
-    requires most { on.now.most ≡ sizes.declared_by_list program.now.main.items }
-    requires room { HasRoomFor on.now
-        (max (sizes.kept_by_list program.now.main.items)
-        (sizes.kept_by_decls program.now.tables.items)) }
-    requires nothing { (scope.old.cells.items ≡ []) × (scope.old.tables.items ≡ []) }
-    ensures labels { OnOk result
-        (writing.next_label out.new
-        ≡ writing.next_label out.old + programs.added_by_main program.now) }
-    ensures fresh { OnOk result (IsFresh out.new) }
-    ensures cells { OnOk result (scope.new.cells.items ≡ []) }
-    ensures tables { OnOk result (length scope.new.tables.items ≤ MAX_TABLES) }
-    ensures sees { OnOk result (Sees scope.new [] (map table_name program.now.tables.items)) }
-    ensures code { OnOk result (LowersMain on.now program.now out.old out.new) }
-{
-    push_head(out, on)?;
-    push_makes(alloc, out, scope, on, &program.tables)?;
-    lower_list(alloc, out, scope, on, &[], &program.main)?;
-    close(alloc, out, Term::Halt)?;
-    leave(scope, 0);
-    Ok(())
+    /// The blocks of main, which declares the tables on its way.
+    fn lower_main(&mut self, program: &Program) -> Result<(), NoMemory>
+        requires fits { ProgramFits program.now }
+        requires labels { writing.next_label self.old.out + programs.added_by_main program.now
+            ≤ MAX_BLOCKS }
+        requires most { self.old.on.most ≡ sizes.declared_by_list program.now.main.items }
+        requires room { HasRoomFor self.old.on
+            (max (sizes.kept_by_list program.now.main.items)
+            (sizes.kept_by_decls program.now.tables.items)) }
+        requires nothing { (self.old.scope.cells.items ≡ []) × (self.old.scope.tables.items ≡ []) }
+        ensures labels { OnOk result
+            (writing.next_label self.new.out
+            ≡ writing.next_label self.old.out + programs.added_by_main program.now) }
+        ensures fresh { OnOk result (IsFresh self.new.out) }
+        ensures cells { OnOk result (self.new.scope.cells.items ≡ []) }
+        ensures tables { OnOk result (length self.new.scope.tables.items ≤ MAX_TABLES) }
+        ensures sees { OnOk result
+            (Sees self.new.scope [] (map table_name program.now.tables.items)) }
+        ensures code { OnOk result (LowersMain self.old.on program.now self.old.out self.new.out) }
+        ensures on { OnOk result (self.new.on ≡ self.old.on) }
+    {
+        self.push_first_activation()?;
+        self.push_makes(&program.tables)?;
+        self.lower_list(Round { reduces: &[] }, &program.main)?;
+        self.close(Term::Halt)?;
+        self.leave(0);
+        Ok(())
+    }
 }
 
 /// The blocks of a program, by their labels: those of main, then those of its functions.
 fn program_blocks(alloc: Global, program: &Program) -> Result<Vec<Block>, NoMemory>
     requires fits { ProgramFits program.now }
     requires labels { programs.added_by_program program.now + 1 ≤ MAX_BLOCKS }
-    ensures count { IfOk result (λ blocks. length blocks.items ≡ programs.added_by_program program.now) }
+    ensures count { IfOk result
+        (λ blocks. length blocks.items ≡ programs.added_by_program program.now) }
     ensures code { IfOk result
         (λ blocks. (code : Listing)
         → AreDeclared program.now.tables.items code.tables
@@ -134,20 +135,28 @@ fn program_blocks(alloc: Global, program: &Program) -> Result<Vec<Block>, NoMemo
 {
     let first = added_by_decls(&program.tables) + added_by_list(&program.main) + 1;
     let callees = callees_of(alloc, &program.funcs, first)?;
-    let mut on = main_body(program, callees);
-    let mut out = no_output(alloc);
-    let mut scope = Scope {
-        cells: Vec::new(alloc),
-        tables: Vec::new(alloc),
-        next_label: 0,
+    let mut lowering = Lowering {
+        alloc,
+        out: no_output(alloc),
+        scope: Scope {
+            cells: Vec::new(alloc),
+            tables: Vec::new(alloc),
+            next_label: 0,
+        },
+        on: main_body(program, callees),
     };
-    lower_main(alloc, &mut out, &mut scope, &on, program)?;
-    lower_funcs(alloc, &mut out, &mut scope, &mut on, &program.funcs)?;
-    let Output {
-        blocks,
-        body: _,
-        traps: _,
-    } = out;
+    lowering.lower_main(program)?;
+    lowering.lower_funcs(&program.funcs)?;
+    let Lowering {
+        alloc: _,
+        out: Output {
+            blocks,
+            body: _,
+            traps: _,
+        },
+        scope: _,
+        on: _,
+    } = lowering;
     Ok(blocks)
 }
 

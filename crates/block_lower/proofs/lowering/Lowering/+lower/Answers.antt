@@ -1,0 +1,312 @@
+use Rattle.std.proofs.Common.{◌≡◌, ◌+◌, ◌≤◌, List, length, take, take_all, refl, ap, sym, subst, ◌∙◌, arith}
+use Rattle.std.specs.List.{sum_by}
+use Rattle.std.proofs.lemmas.List.{length-append}
+use Rattle.std.proofs.lemmas.List.Sums.{sum_by_more, sum_by_more_le}
+use Rattle.loop_rules.specs.Declarations.{declared_all}
+use Rattle.loop_syntax.specs.declared.Stmt.{Stmt}
+use Rattle.loop_syntax.specs.declared.Stmt.TheBlock.{hidden-the_row-Stmt-0}
+use Rattle.block_lower.specs.Heights.{AreLow}
+use Rattle.block_lower.specs.Count.{blocks}
+use Rattle.block_lower.specs.Lowering.{LowersAll, LowersOther}
+use Rattle.block_lower.specs.Names.{SeesAfter, names_after_list}
+use Rattle.block_lower.specs.Sizes.{added, declared, kept, kept_by_list}
+use Rattle.block_lower.proofs.Counting.{blocks_of_vec}
+use Rattle.block_lower.proofs.Adding.{added_of_vec, second_of_vec, declared_of_vec, kept_of_vec}
+use Rattle.block_lower.proofs.Fitting.{low_of_vec}
+use Rattle.block_lower.proofs.Keeping.{sees_block, sees_body, sees_more}
+use Rattle.block_lower.proofs.Lowered.{none_written, more_written, branch_written, other_written, no_other_written, if_written, while_written, body_written}
+use Rattle.block_lower.proofs.LoweredLoops.{loop_written, par_written}
+use Rattle.block_lower.proofs.Stepping.{on_ok, low_at, kept_at, room_within, first_more, no_items}
+use Rattle.block_lower.proofs.lowering.Lowering.+lower.Goals as goal
+
+-- ---- branches and bodies
+
+pub lower_branch-returns-clause-sees : goal.lower_branch-returns-clause-sees
+lower_branch-returns-clause-sees t c =
+    rw c.in_ok-close.ensures.scope
+    (sees_block c.args.self.now.scope c.lower_list.new.self.scope c.leave.new.self.scope c.level-level.result c.args.body.now c.level-level.ensures c.in_ok-lower_list.ensures.sees c.leave.ensures.sees)
+
+pub lower_branch-returns-clause-code : goal.lower_branch-returns-clause-code
+lower_branch-returns-clause-code t c =
+    branch_written c.args.self.now.on c.args.round.reduces.now c.args.self.now.scope c.args.body.now c.args.exit c.args.self.now.out c.lower_list.new.self.out c.close.new.self.out
+    c.requires.fresh c.in_ok-lower_list.ensures.code (rw (c.jump.ensures, c.leave.ensures.out) at c.in_ok-close.ensures.closed)
+
+pub lower_other-returns-then-is_empty-clause-code : goal.lower_other-returns-then-is_empty-clause-code
+lower_other-returns-then-is_empty-clause-code t c =
+    subst (λ (ss : List Stmt). LowersOther c.args.self.now.on c.args.round.reduces.now c.args.self.now.scope ss c.args.exit c.args.self.now.out c.args.self.now.out) (sym (no_items c.args.body.now c.if-is_empty.ensures))
+    (no_other_written c.args.self.now.on c.args.round.reduces.now c.args.self.now.scope c.args.exit c.args.self.now.out)
+
+pub lower_other-returns-clause-code : goal.lower_other-returns-clause-code
+lower_other-returns-clause-code t c =
+    other_written c.args.self.now.on c.args.round.reduces.now c.args.self.now.scope c.args.body.now c.args.exit c.args.self.now.out c.lower_branch.new.self.out c.in_ok-lower_branch.ensures.code
+
+pub lower_body-returns-clause-sees : goal.lower_body-returns-clause-sees
+lower_body-returns-clause-sees t c =
+    sees_body c.args.self.now.scope c.declare.new.self.scope c.lower_list.new.self.scope c.leave.new.self.scope c.level-level.result c.args.x.now.text.items c.args.body.now c.level-level.ensures
+    c.in_ok-declare.ensures.sees (rw c.in_ok-push.ensures.scope at c.in_ok-lower_list.ensures.sees) c.leave.ensures.sees
+
+pub lower_body-returns-clause-code : goal.lower_body-returns-clause-code
+lower_body-returns-clause-code t c =
+    rw c.leave.ensures.out
+    (body_written c.args.self.now.on c.args.round.reduces.now c.args.self.now.scope c.declare.new.self.scope c.args.x.now.text.items c.args.body.now c.args.self.now.out c.push.new.self.out c.lower_list.new.self.out
+    c.requires.fresh c.in_ok-declare.ensures.sees (rw c.in_ok-declare.ensures.out at c.in_ok-push.ensures.pushed)
+    (rw (c.in_ok-push.ensures.on, c.in_ok-declare.ensures.on, c.in_ok-push.ensures.scope) at c.in_ok-lower_list.ensures.code))
+
+-- ---- lists
+
+pub lower_list-loop-s-init : goal.lower_list-loop-s-init
+lower_list-loop-s-init t c = record {
+  labels = omega arith;
+  cells = omega arith;
+  tables = refl;
+  sees = λ names tables sees. sees;
+  code = none_written c.args.self.now.on c.args.round.reduces.now c.args.self.now.scope c.args.self.now.out;
+  on = refl;
+}
+
+pub lower_list-lower_stmt-requires : goal.lower_list-lower_stmt-requires
+lower_list-lower_stmt-requires t c =
+    let body = c.args.body.now in
+    let i = c.loop-s.s-index in
+    let s = c.s-item.result in
+    let more_blocks = rw (← c.s-item.is) at (sum_by_more_le added body i s c.loop-s-test.true) in
+    let more_cells = rw (← c.s-item.is) at (sum_by_more_le declared body i s c.loop-s-test.true) in
+    let few = c.requires.few_tables in
+    let measure : sum_by blocks body + 1 ≡ t = c.decreases in
+    let within = rw (← c.s-item.is) at (sum_by_more_le blocks body i s c.loop-s-test.true) in (
+      omega (arith, measure, within),
+      (
+        rw c.loop-s.invariant.tables few,
+        (subst AreLow (sym c.s-item.is) (low_at body i s c.loop-s-test.true c.requires.low), (omega (arith, more_blocks, c.requires.labels), (rw c.loop-s.invariant.on (room_within c.args.self.now.on _ _ (subst (λ (d : Stmt). kept d ≤ kept_by_list body) (sym c.s-item.is) (kept_at body i s c.loop-s-test.true)) c.requires.room), omega (arith, more_cells, c.requires.cells)))),
+      ),
+    )
+
+pub lower_list-loop-s-preserved : goal.lower_list-loop-s-preserved
+lower_list-loop-s-preserved t c =
+    let body = c.args.body.now in
+    let i = c.loop-s.s-index in
+    let s = c.s-item.result in
+    let step : take (i + 1) body ≡ _ = first_more body i s c.loop-s-test.true c.s-item.is in
+    let more_blocks = rw (← c.s-item.is) at (sum_by_more added body i s c.loop-s-test.true) in
+    let more_cells = rw (← c.s-item.is) at (sum_by_more declared body i s c.loop-s-test.true) in
+    record {
+      labels = omega (arith, more_blocks, c.in_ok-lower_stmt.ensures.labels);
+      cells = omega (arith, more_cells, c.in_ok-lower_stmt.ensures.cells);
+      tables = c.in_ok-lower_stmt.ensures.tables ∙ c.loop-s.invariant.tables;
+      sees = subst (λ (ss : List Stmt). SeesAfter (λ names. names_after_list names ss) c.args.self.now.scope c.lower_stmt.new.self.scope) (sym step)
+          (sees_more c.args.self.now.scope c.loop-s.self.scope c.lower_stmt.new.self.scope (take i body) s c.loop-s.invariant.sees c.in_ok-lower_stmt.ensures.sees);
+      code = subst (λ (ss : List Stmt). LowersAll c.args.self.now.on c.args.round.reduces.now c.args.self.now.scope ss c.args.self.now.out c.lower_stmt.new.self.out) (sym step)
+          (more_written c.args.self.now.on c.args.round.reduces.now c.args.self.now.scope c.loop-s.self.scope (take i body) s c.args.self.now.out c.loop-s.self.out c.lower_stmt.new.self.out c.loop-s.invariant.code c.loop-s.invariant.sees (rw c.loop-s.invariant.on at c.in_ok-lower_stmt.ensures.code));
+      on = c.in_ok-lower_stmt.ensures.on ∙ c.loop-s.invariant.on;
+    }
+
+pub lower_list-returns-clause-sees : goal.lower_list-returns-clause-sees
+lower_list-returns-clause-sees t c =
+    subst (λ (ss : List Stmt). SeesAfter (λ names. names_after_list names ss) c.args.self.now.scope c.loop-s.self.scope) (take_all c.loop-s.s-index c.args.body.now c.loop-s-test.false) c.loop-s.invariant.sees
+
+-- ---- loops
+
+pub lower_while-returns-clause-sees : goal.lower_while-returns-clause-sees
+lower_while-returns-clause-sees t c =
+    rw c.in_ok-test-2.ensures.scope
+    (sees_block c.args.self.now.scope c.lower_list.new.self.scope c.leave.new.self.scope c.level-level.result c.args.body.now c.level-level.ensures
+    (rw (c.in_ok-push.ensures.scope, c.in_ok-test.ensures.scope) at c.in_ok-lower_list.ensures.sees) c.leave.ensures.sees)
+
+pub lower_while-returns-clause-code : goal.lower_while-returns-clause-code
+lower_while-returns-clause-code t c =
+    let again = c.next_label.result + c.trap_count.result in
+    let exit = again + c.added_by_body.result + c.trap_count-2.result in
+    let scope = c.in_ok-push.ensures.scope ∙ c.in_ok-test.ensures.scope in
+    let on = c.in_ok-push.ensures.on ∙ c.in_ok-test.ensures.on in
+    let listed = c.in_ok-lower_list.ensures in
+    let keeps : SeesAfter (λ names. names) c.args.self.now.scope c.leave.new.self.scope =
+    sees_block c.args.self.now.scope c.lower_list.new.self.scope c.leave.new.self.scope c.level-level.result c.args.body.now c.level-level.ensures (rw scope at listed.sees) c.leave.ensures.sees in
+    let first = c.in_ok-test.ensures in
+    let second = c.in_ok-test-2.ensures in
+    let closed = rw c.leave.ensures.out at second.labels in
+    while_written c.args.self.now.on c.args.round.reduces.now c.args.self.now.scope c.leave.new.self.scope c.args.e.now c.args.body.now again exit c.args.self.now.out c.test.new.self.out c.push.new.self.out c.lower_list.new.self.out c.test-2.new.self.out
+    first.code first.fresh (omega (arith, first.labels, ap length first.fresh.traps))
+    c.in_ok-push.ensures.pushed (rw (on, scope) at listed.code) keeps (rw c.leave.ensures.out at second.code) second.fresh
+    (omega (arith, first.labels, c.in_ok-push.ensures.labels, listed.labels, closed, ap length second.fresh.traps))
+
+pub lower_par-returns-clause-code : goal.lower_par-returns-clause-code
+lower_par-returns-clause-code t c = λ reduces.
+    let l = c.args.l.now in
+    let check = c.next_label.result + c.trap_count.result + c.trap_count-2.result in
+    let again = check + 2 in
+    let exit = again + c.added_by_body.result in
+    let bounds = c.in_ok-bounds.ensures.labels in
+    let test = c.in_ok-push_some.ensures.labels in
+    let scope = c.in_ok-push_wide.ensures.scope ∙ c.in_ok-push_some.ensures.scope ∙ c.in_ok-bounds.ensures.scope in
+    let on = c.in_ok-push_wide.ensures.on ∙ c.in_ok-push_some.ensures.on ∙ c.in_ok-bounds.ensures.on in
+    let inner = rw (c.deref-2.ensures.value, c.round_inside.ensures, on, scope) at c.in_ok-lower_body.ensures.code in
+    let behind = rw c.deref-2.ensures.value at c.in_ok-lower_body.ensures.labels in
+    let inside = rw c.deref.ensures.value at c.added_by_body.ensures in
+    let end = c.in_ok-end_loop.ensures in
+    par_written c.args.self.now.on reduces c.args.self.now.scope l c.level-level.result check again exit c.args.self.now.out c.bounds.new.self.out c.push_some.new.self.out c.push_wide.new.self.out c.lower_body.new.self.out c.end_loop.new.self.out
+    c.level-level.ensures c.in_ok-bounds.ensures.code c.in_ok-push_some.ensures.code
+    (omega (arith, bounds, test, ap length c.in_ok-push_some.ensures.fresh.traps))
+    c.in_ok-push_wide.ensures.code c.in_ok-push_wide.ensures.fresh
+    (omega (arith, bounds, test, c.in_ok-push_wide.ensures.labels, ap length c.in_ok-push_wide.ensures.fresh.traps))
+    inner end.code end.fresh
+    (omega (arith, bounds, test, c.in_ok-push_wide.ensures.labels, behind, inside, end.labels, ap length end.fresh.traps))
+
+pub lower_if-returns-clause-code : goal.lower_if-returns-clause-code
+lower_if-returns-clause-code t c =
+    let first = c.next_label.result + c.trap_count.result in
+    let second = first + c.added_by_body.result in
+    let exit = second + c.added_by_second.result in
+    let test = c.in_ok-test.ensures in
+    let one = c.in_ok-lower_branch.ensures in
+    let two = c.in_ok-lower_other.ensures in
+    let on = one.on ∙ test.on in
+    if_written c.args.self.now.on c.args.round.reduces.now c.args.self.now.scope c.lower_branch.new.self.scope c.args.e.now c.args.body.now c.args.other.now first second exit c.args.self.now.out c.test.new.self.out c.lower_branch.new.self.out c.lower_other.new.self.out
+    test.code (rw (test.on, test.scope) at one.code) (rw on at two.code) (rw test.scope at one.sees) two.fresh
+    (omega (arith, test.labels, ap length test.fresh.traps))
+    (omega (arith, test.labels, one.labels, c.added_by_body.ensures, ap length one.fresh.traps))
+    (omega (arith, test.labels, one.labels, two.labels, c.added_by_body.ensures, c.added_by_second.ensures, ap length two.fresh.traps))
+
+-- ---- statements
+
+pub lower_stmt-lower_if-requires : goal.lower_stmt-lower_if-requires
+lower_stmt-lower_if-requires t c =
+    let labels = rw c.in-If.is at c.requires.labels in
+    let cells = rw c.in-If.is at c.requires.cells in
+    let low = rw c.in-If.is at c.requires.low in
+    let room = rw c.in-If.is at c.requires.room in
+    let body = c.deref.ensures.value in
+    let other = c.deref-in-If.ensures.value in
+    let many = length-append (declared_all (hidden-the_row-Stmt-0 c.in-If.body)) (declared_all (hidden-the_row-Stmt-0 c.in-If.other)) in
+    let measure : blocks c.args.s.now ≡ t = c.decreases in
+    let whole = rw c.in-If.is at measure in (
+      rw (body, other) (omega (arith, whole, blocks_of_vec c.in-If.body, blocks_of_vec c.in-If.other)),
+      (
+        c.requires.few_tables,
+        (
+          (low.0, rw body (low_of_vec c.in-If.body low.1), rw other (low_of_vec c.in-If.other low.2)),
+          (
+            rw (body, other) (omega (arith, added_of_vec c.in-If.body, second_of_vec c.in-If.other, labels)),
+            (
+              (
+                rw body (room_within c.args.self.now.on _ _ (omega (arith, kept_of_vec c.in-If.body)) room),
+                rw other (room_within c.args.self.now.on _ _ (omega (arith, kept_of_vec c.in-If.other)) room),
+              ),
+              rw (body, other) (omega (arith, many, declared_of_vec c.in-If.body, declared_of_vec c.in-If.other, cells)),
+            ),
+          ),
+        ),
+      ),
+    )
+
+pub lower_stmt-lower_while-requires : goal.lower_stmt-lower_while-requires
+lower_stmt-lower_while-requires t c =
+    let labels = rw c.in-While.is at c.requires.labels in
+    let cells = rw c.in-While.is at c.requires.cells in
+    let low = rw c.in-While.is at c.requires.low in
+    let room = rw c.in-While.is at c.requires.room in
+    let body = c.deref-in-While.ensures.value in
+    let measure : blocks c.args.s.now ≡ t = c.decreases in
+    let whole = rw c.in-While.is at measure in (
+      rw body (omega (arith, whole, blocks_of_vec c.in-While.body)),
+      (
+        c.requires.few_tables,
+        (
+          (low.0, rw body (low_of_vec c.in-While.body low.1)),
+          (rw body (omega (arith, added_of_vec c.in-While.body, labels)), (rw body (room_within c.args.self.now.on _ _ (omega (arith, kept_of_vec c.in-While.body)) room), rw body (omega (arith, declared_of_vec c.in-While.body, cells)))),
+        ),
+      ),
+    )
+
+pub lower_stmt-begin_loop-requires-clause-labels : goal.lower_stmt-begin_loop-requires-clause-labels
+lower_stmt-begin_loop-requires-clause-labels t c =
+    let labels = rw c.in-Loop.is at c.requires.labels in
+    rw c.deref-in-Loop.ensures.value (omega (arith, added_of_vec c.in-Loop.body, labels))
+
+pub lower_stmt-end_loop-requires-clause-labels : goal.lower_stmt-end_loop-requires-clause-labels
+lower_stmt-end_loop-requires-clause-labels t c =
+    let labels = rw c.in-Loop.is at c.requires.labels in
+    let inner = rw c.deref-in-Loop-2.ensures.value at c.in_ok-lower_body-in-Loop.ensures.labels in
+    omega (arith, added_of_vec c.in-Loop.body, labels, inner, c.in_ok-turns-in-Loop.ensures.labels)
+
+pub lower_stmt-lower_body-requires : goal.lower_stmt-lower_body-requires
+lower_stmt-lower_body-requires t c =
+    let begun = c.in_ok-turns-in-Loop.ensures in
+    let labels = rw c.in-Loop.is at c.requires.labels in
+    let cells = rw c.in-Loop.is at c.requires.cells in
+    let low = rw c.in-Loop.is at c.requires.low in
+    let room = rw c.in-Loop.is at c.requires.room in
+    let body = c.deref-in-Loop-2.ensures.value in
+    let measure : blocks c.args.s.now ≡ t = c.decreases in
+    let whole = rw c.in-Loop.is at measure in (
+      rw body (omega (arith, whole, blocks_of_vec c.in-Loop.body)),
+      (
+        rw begun.scope c.requires.few_tables,
+        (
+          rw body (low_of_vec c.in-Loop.body low.2),
+          (
+            rw body (omega (arith, added_of_vec c.in-Loop.body, labels, begun.labels)),
+            (rw (begun.on, body) (room_within c.args.self.now.on _ _ (omega (arith, kept_of_vec c.in-Loop.body)) room), (rw (begun.scope, body) (omega (arith, declared_of_vec c.in-Loop.body, cells)), begun.fresh)),
+          ),
+        ),
+      ),
+    )
+
+pub lower_stmt-lower_par-requires : goal.lower_stmt-lower_par-requires
+lower_stmt-lower_par-requires t c =
+    let l = c.in-Par.l in
+    let labels = rw c.in-Par.is at c.requires.labels in
+    let cells = rw c.in-Par.is at c.requires.cells in
+    let low = rw c.in-Par.is at c.requires.low in
+    let room = rw c.in-Par.is at c.requires.room in
+    let measure : blocks c.args.s.now ≡ t = c.decreases in
+    let whole = rw c.in-Par.is at measure in (
+      omega (arith, whole, blocks_of_vec l.body),
+      (
+        c.requires.few_tables,
+        (
+          (low.0, low.1, low_of_vec l.body low.2),
+          (omega (arith, added_of_vec l.body, labels), (room_within c.args.self.now.on _ _ (omega (arith, kept_of_vec l.body)) room, omega (arith, declared_of_vec l.body, cells))),
+        ),
+      ),
+    )
+
+pub lower_stmt-returns-in-Let-clause-sees : goal.lower_stmt-returns-in-Let-clause-sees
+lower_stmt-returns-in-Let-clause-sees t c = on_ok c.lower_let.result (λ h. rw c.in-Let.is h) c.lower_let.ensures.sees
+
+pub lower_stmt-returns-in-If-clause-labels : goal.lower_stmt-returns-in-If-clause-labels
+lower_stmt-returns-in-If-clause-labels t c =
+    on_ok c.lower_if.result
+    (λ h.
+    let inner = rw (c.deref.ensures.value, c.deref-in-If.ensures.value) at h in
+    rw c.in-If.is (omega (arith, added_of_vec c.in-If.body, second_of_vec c.in-If.other, inner)))
+    c.lower_if.ensures.labels
+
+pub lower_stmt-returns-in-While-clause-labels : goal.lower_stmt-returns-in-While-clause-labels
+lower_stmt-returns-in-While-clause-labels t c =
+    on_ok c.lower_while.result (λ h. let inner = rw c.deref-in-While.ensures.value at h in rw c.in-While.is (omega (arith, added_of_vec c.in-While.body, inner))) c.lower_while.ensures.labels
+
+pub lower_stmt-returns-in-Par-clause-labels : goal.lower_stmt-returns-in-Par-clause-labels
+lower_stmt-returns-in-Par-clause-labels t c =
+    on_ok c.lower_par.result (λ h. rw c.in-Par.is (omega (arith, added_of_vec c.in-Par.l.body, h))) c.lower_par.ensures.labels
+
+pub lower_stmt-returns-in_ok-end_loop-in-Loop-clause-labels : goal.lower_stmt-returns-in_ok-end_loop-in-Loop-clause-labels
+lower_stmt-returns-in_ok-end_loop-in-Loop-clause-labels t c =
+    let inner = rw c.deref-in-Loop-2.ensures.value at c.in_ok-lower_body-in-Loop.ensures.labels in
+    rw c.in-Loop.is (omega (arith, added_of_vec c.in-Loop.body, inner, c.in_ok-turns-in-Loop.ensures.labels, c.in_ok-end_loop-in-Loop.ensures.labels))
+
+pub lower_stmt-returns-in_ok-end_loop-in-Loop-clause-code : goal.lower_stmt-returns-in_ok-end_loop-in-Loop-clause-code
+lower_stmt-returns-in_ok-end_loop-in-Loop-clause-code t c =
+    let turns = c.in_ok-turns-in-Loop.turns in
+    let begun = c.in_ok-turns-in-Loop.ensures in
+    let inside = c.in_ok-lower_body-in-Loop.ensures in
+    let end = c.in_ok-end_loop-in-Loop.ensures in
+    let body = c.deref-in-Loop-2.ensures.value in
+    let size = rw c.deref-in-Loop.ensures.value at begun.exit in
+    let behind = rw body at inside.labels in
+    rw c.in-Loop.is
+    (loop_written c.args.self.now.on c.args.round.reduces.now c.args.self.now.scope c.in-Loop.x c.in-Loop.a c.in-Loop.b c.in-Loop.body.items turns.level turns.bound turns.again turns.exit
+    c.args.self.now.out c.begin_loop.new.self.out c.lower_body.new.self.out c.end_loop.new.self.out begun.level begun.code begun.fresh
+    (omega (arith, begun.again, begun.labels, ap length begun.fresh.traps))
+    (rw (body, begun.on, begun.scope) at inside.code) end.code end.fresh
+    (omega (arith, begun.again, begun.labels, size, behind, end.labels, ap length end.fresh.traps))
+    c.in-Loop.body refl)

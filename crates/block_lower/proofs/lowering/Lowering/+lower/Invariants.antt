@@ -1,0 +1,46 @@
+use Rattle.std.proofs.Common.{◌≡◌, ◌+◌, ◌≤◌, length, take}
+use Rattle.std.specs.List.{sum_by}
+use Rattle.block_lower.specs.Count.{blocks}
+use Rattle.block_lower.specs.Lowering.{LowersAll}
+use Rattle.block_lower.specs.Names.{SeesAfter, names_after_list}
+use Rattle.block_lower.specs.Sizes.{added, declared}
+use Rattle.block_lower.specs.Writing.{next_label}
+use Rattle.block_lower.proofs.lowering.Lowering.+lower.Given as goal
+
+abbrev pub invariant-lower_list-loop-s : goal.invariant-lower_list-loop-s
+invariant-lower_list-loop-s l = record {
+  labels : next_label l.self.out
+      ≡ next_label l.initial.self.out + sum_by added (take l.s-index l.body);
+  cells : length l.self.scope.cells.items
+      ≤ length l.initial.self.scope.cells.items + sum_by declared (take l.s-index l.body);
+  tables : l.self.scope.tables ≡ l.initial.self.scope.tables;
+  sees : SeesAfter (λ names. names_after_list names (take l.s-index l.body))
+      l.initial.self.scope l.self.scope;
+  code : LowersAll l.initial.self.on l.round.reduces.now l.initial.self.scope
+      (take l.s-index l.body) l.initial.self.out l.self.out;
+  on : l.self.on ≡ l.initial.self.on;
+}
+
+abbrev pub decreases-lower_stmt : goal.decreases-lower_stmt
+decreases-lower_stmt l = blocks l.s.now
+
+abbrev pub decreases-lower_list : goal.decreases-lower_list
+decreases-lower_list l = sum_by blocks l.body.now + 1
+
+abbrev pub decreases-lower_branch : goal.decreases-lower_branch
+decreases-lower_branch l = sum_by blocks l.body.now + 2
+
+abbrev pub decreases-lower_body : goal.decreases-lower_body
+decreases-lower_body l = sum_by blocks l.body.now + 2
+
+abbrev pub decreases-lower_other : goal.decreases-lower_other
+decreases-lower_other l = sum_by blocks l.body.now + 3
+
+abbrev pub decreases-lower_while : goal.decreases-lower_while
+decreases-lower_while l = sum_by blocks l.body.now + 3
+
+abbrev pub decreases-lower_if : goal.decreases-lower_if
+decreases-lower_if l = sum_by blocks l.body.now + sum_by blocks l.other.now + 4
+
+abbrev pub decreases-lower_par : goal.decreases-lower_par
+decreases-lower_par l = sum_by blocks l.l.now.body.items + 3

@@ -1,0 +1,16 @@
+use Rattle.block_lower.proofs.WrittenFunctions.{func_written}
+use Rattle.block_lower.proofs.lowering.Lowering.lower_func.Goals as goal
+
+pub returns-clause-code : goal.returns-clause-code
+returns-clause-code c =
+    let self = c.args.self.now in
+    let declared = c.in_ok-declare_all.ensures in
+    let listed = c.in_ok-lower_list.ensures in
+    rw c.leave.ensures.out
+    (func_written self.on self.scope c.declare_all.new.self.scope c.lower_list.new.self.scope
+    c.args.f.now _ self.out c.lower_list.new.self.out c.value.new.self.out
+    c.push_return.new.self.out c.requires.room c.requires.params c.requires.fresh
+    (rw c.deref.ensures.value at declared.sees)
+    (rw (c.deref-2.ensures.value, declared.on, declared.out) at listed.code)
+    (rw c.deref-2.ensures.value at listed.sees) c.in_ok-value.ensures.code
+    c.in_ok-push_return.ensures.code)

@@ -1,0 +1,12 @@
+use Rattle.std.proofs.Common.{refl, ◌∙◌}
+use Rattle.block_lower.proofs.WrittenTables.{made_written}
+use Rattle.block_lower.proofs.lowering.Lowering.make_low.Goals as goal
+
+pub returns-clause-code : goal.returns-clause-code
+returns-clause-code c = λ on.
+    let second = c.in_ok-value.ensures.scope in
+    let last = c.in_ok-value-2.ensures.scope ∙ second in
+    made_written on c.args.self.now.scope c.args.x.now c.args.a.now c.args.b.now _
+    c.args.self.now.out c.value.new.self.out c.value-2.new.self.out c.push_make.new.self.out
+    refl c.in_ok-value.ensures.code (rw second at c.in_ok-value-2.ensures.code)
+    (rw last at c.in_ok-push_make.ensures.pushed)

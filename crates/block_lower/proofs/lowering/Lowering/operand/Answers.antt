@@ -1,0 +1,14 @@
+use Rattle.std.proofs.Common.{sym, to_z-of_z}
+use Rattle.block_lower.proofs.Lowered.{literal_operand, computed_operand}
+use Rattle.block_lower.proofs.lowering.Lowering.operand.Goals as goal
+
+pub returns-in-Some-clause-code : goal.returns-in-Some-clause-code
+returns-in-Some-clause-code c =
+    simp (to_z-of_z, c.in-Some.ensures.in_range)
+    (literal_operand c.args.self.now.scope c.args.expr.now c.args.to c.in-Some.number
+    c.args.self.now.out (sym c.in-Some.ensures.number) c.in-Some.ensures.in_range)
+
+pub returns-in_ok-value-in-None-clause-code : goal.returns-in_ok-value-in-None-clause-code
+returns-in_ok-value-in-None-clause-code c =
+    computed_operand c.args.self.now.scope c.args.expr.now c.args.to c.args.self.now.out
+    c.value.new.self.out c.in_ok-value-in-None.ensures.code

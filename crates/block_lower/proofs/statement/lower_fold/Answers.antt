@@ -1,9 +1,0 @@
-use Rattle.std.proofs.Common.{sym}
-use Rattle.block_lower.proofs.LoweredTables.{fold_nothing_written}
-use Rattle.block_lower.proofs.Stepping.{on_ok}
-use Rattle.block_lower.proofs.statement.lower_fold.Goals as goal
-
-pub returns-in-None-clause-code : goal.returns-in-None-clause-code
-returns-in-None-clause-code c =
-    let none = rw c.deref.ensures.value at c.in-None.ensures in
-    on_ok c.push_value.result (λ h on. fold_nothing_written on c.args.reduces.now c.args.scope.now c.args.x.now c.args.e.now c.args.out.now c.push_value.new.out (sym none) h) c.push_value.ensures.code
