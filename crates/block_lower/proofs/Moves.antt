@@ -25,7 +25,7 @@ pub opened : (code : Listing) (label : ℕ) (instrs : List Instr) (end : Term) �
 opened code label instrs end o = record { block = o.block; found = o.found; rest = o.body; ends = o.ends }
 
 pub calm : (code : Listing) (label : ℕ) (instrs : List Instr) (end : Term) → Opens code label instrs end → IsCalm code label
-calm code label instrs end o = ap (λ b. is_ready (note_of b)) o.found ∙ ap is_ready o.plain
+calm code label instrs end o = ap (λ b. is_ready (note_of b)) o.found ∙ ap is_ready o.noted
 
 module _ (code : Listing) (heartbeat : ℕ) where
   -- the end of a block that jumps

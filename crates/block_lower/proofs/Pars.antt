@@ -1,6 +1,6 @@
 -- The law of `par`: a loop, behind a test of its length.
 use Rattle.std.proofs.Common.{◌≡◌, ℕ, zero, suc, ◌+◌, ◌<◌, ◌≤◌, ◌%◌, Bool, true, false, List, [], ◌∷◌, ◌++◌, length, take, Some, Ok, refl, sym, ap, subst, ◌∙◌, arith}
-use Rattle.std.specs.Prelude.{ℤ, pos, ◌-ℤ◌, ◌+ℤ◌, int_lt, int_le, nat_lt, slice_set}
+use Rattle.std.specs.Prelude.{ℤ, pos, ◌-ℤ◌, ◌+ℤ◌, int_lt, int_le, nat_lt, not, slice_set}
 use Rattle.std.specs.Int.{int_gap, int_wrap, w64}
 use Rattle.std.proofs.lemmas.Bool.{true≢false}
 use Rattle.std.proofs.lemmas.Bool.Decides.{nat_tests}
@@ -11,7 +11,9 @@ use Rattle.tp_value.specs.declared.Place.{Place}
 use Rattle.tp_value.specs.declared.limits.TheConstants.{MAX_PAR_LENGTH}
 use Rattle.tp_value.specs.declared.Stop.TheVariants.{Trap}
 use Rattle.tp_value.specs.declared.TrapKind.TheVariants.{Wide}
-use Rattle.stack_marks.specs.Stacks.{word_at}
+use Rattle.beat_count.specs.BeatState.{BeatState}
+use Rattle.beat_count.specs.Heartbeat.{counted}
+use Rattle.stack_marks.specs.Stacks.{StackValue, word_at}
 use Rattle.loop_syntax.specs.declared.ParLoop.{ParLoop}
 use Rattle.loop_syntax.specs.declared.Stmt.TheVariants.{Par}
 use Rattle.loop_meaning.specs.InRange.{InRange}
@@ -36,11 +38,13 @@ use Rattle.tpal_machine.specs.State as machine
 use Rattle.tpal_machine.specs.Step.{advanced, at_block}
 use Rattle.tpal_machine.proofs.Kit.{Back, IsCalm, on_calc, on_if, on_if_not, on_jump}
 use Rattle.expr_lower.specs.Bodies.{trap_block}
+use Rattle.expr_lower.specs.Leaving.{moved, moved_to}
 use Rattle.expr_lower.specs.Standing.{Remains, AreAt}
 use Rattle.expr_lower.proofs.Registers.{register_set, register_other}
 use Rattle.expr_lower.proofs.Standing.{next, behind, at_end}
 use Rattle.block_lower.specs.Code.{Computes, Opens, to, store, load, below_test, step_up, wide_test}
 use Rattle.block_lower.specs.Layout.{value_cell, bound_cell, Activation}
+use Rattle.block_lower.specs.Marked.{length_test}
 use Rattle.block_lower.proofs.Choices.{enters}
 use Rattle.block_lower.proofs.Gaps.{IsGap, gap_is, gap_none, gap_more}
 use Rattle.block_lower.proofs.Loops.{inside, a_turn, bounds, loop_at, reloads_bound}
@@ -104,7 +108,7 @@ none_run fuel x body place m j st none = ap (λ n. unless_wide (nat_lt MAX_PAR_L
 -- ---- tests in a register
 
 module _ (code : Listing) (heartbeat : ℕ) (K : Back code heartbeat) (state : machine.State) where
-  tests_in : (r left : ℕ) (o : Alu) (right : operands.Value) (test : Bool) (label : ℕ) (more : List Instr) (end : Term) → r < length state.registers
+  pub tests_in : (r left : ℕ) (o : Alu) (right : operands.Value) (test : Bool) (label : ℕ) (more : List Instr) (end : Term) → r < length state.registers
       → Remains code state.block state.at (instr.Calc r left o right ∷ instr.IfJump r label ∷ more) end → calculated o (register state.registers left) (operand state.registers right) ≡ Ok (word.Int (truth test)) → IsCalm code label
       → (test ≡ true → K.Holds (at_block label (advanced (with_register (advanced state) r (word.Int (pos 1))))))
       → (test ≡ false → Remains code state.block (state.at + 1 + 1) more end → K.Holds (advanced (with_register (advanced state) r (word.Int (pos 0)))))
@@ -130,19 +134,47 @@ module _ (code : Listing) (heartbeat z : ℕ) (act : Activation) (fuel : ℕ) (S
   Showing task = ShowsIn code heartbeat z act fuel S i names st task
 
   -- a register set
-  shows_set : (task : machine.State) (r : ℕ) (w : Word) → r < 24 → Showing task → Showing (with_register (advanced task) r w)
+  pub shows_set : (task : machine.State) (r : ℕ) (w : Word) → r < 24 → Showing task → Showing (with_register (advanced task) r w)
   shows_set task r w low shows = shows_words code heartbeat z act fuel S i shows (slice_set task.registers r w) (length-set task.registers r w) (register_other task.registers r 31 w (λ (q : 31 ≡ r). absurd (omega (arith, q))))
 
-  -- where the length of a loop is at most the longest one it begins, else it traps
-  measures : (r : Result) (check wide again : ℕ) (place : Place) (instrs : List Instr) (last : Term) (n : ℕ) (m j : ℤ) → InRange m → InRange j → j ≡ m +ℤ pos n
-      → Opens code check (wide_test wide again) (to wide) → AreAt code wide (trap_block wide Wide place ∷ []) → Opens code again instrs last
-      → (task : machine.State) → Showing task → task.block ≡ check → task.at ≡ 0 → register task.registers 1 ≡ word.Int m → register task.registers 0 ≡ word.Int j
+  -- a task that enters the trap block of a loop that is too wide ends so, whatever its registers and
+  -- its stack are
+  pub traps_wide : (r : Result) (wide : ℕ) (place : Place)
+      → AreAt code wide (trap_block wide Wide place ∷ []) → r ≡ out (Trap Wide place) st
+      → (task : machine.State) → Showing task → (words : List Word) (stack : StackValue)
+      (beat : BeatState)
+      → (S.owing i r).Holds (record task {
+        registers = words;
+        stack = stack;
+        beat = beat;
+        block = wide;
+        at = 0;
+      })
+  traps_wide r wide place trap is task shows words stack beat =
+      subst (λ (q : Result). (S.owing i q).Holds other) (sym is)
+      (S.stops i (Trap Wide place) st other (advanced other) tt shows.ticks shows.printed shows.ends
+      (traps code heartbeat other Wide place
+      (record { block = trap_block wide Wide place; found = trap.0; is = refl }) shows.free))
+    where
+      other : machine.State
+      other = record task { registers = words; stack = stack; beat = beat; block = wide; at = 0 }
+
+  -- whether a loop is too wide is found by two tests: behind the second one register 3 has its result
+  pub measured : (r : Result) (check wide : ℕ) (place : Place) (more : List Instr) (n : ℕ) (m j : ℤ)
+      → InRange m → InRange j → j ≡ m +ℤ pos n
+      → Opens code check (length_test wide more) (to wide)
+      → AreAt code wide (trap_block wide Wide place ∷ [])
+      → (task : machine.State) → Showing task → task.block ≡ check → task.at ≡ 0
+      → register task.registers 1 ≡ word.Int m → register task.registers 0 ≡ word.Int j
       → (nat_lt MAX_PAR_LENGTH n ≡ true → r ≡ out (Trap Wide place) st)
-      → (nat_lt MAX_PAR_LENGTH n ≡ false → (other : machine.State) → Showing other → other.stack ≡ task.stack → other.block ≡ again → other.at ≡ 0 → register other.registers 1 ≡ word.Int m → register other.registers 0 ≡ word.Int j → (S.owing i r).Holds other)
+      → ((fits : Bool) → nat_lt MAX_PAR_LENGTH n ≡ not fits → (words : List Word) (beat : BeatState)
+      (at : ℕ) → Showing (moved task words beat at) → register words 3 ≡ word.Int (truth fits)
+      → register words 1 ≡ word.Int m → register words 0 ≡ word.Int j
+      → Remains code task.block at more (to wide) → (S.owing i r).Holds (moved task words beat at))
       → (S.owing i r).Holds task
-  measures r check wide again place instrs last n m j in_m in_j is_j tests trap begins task shows at_label at_begin is_first is_second wide_go narrow_go =
-      on_calc code heartbeat K task 2 0 alu.Sub (value.Reg 1) (word.Int d) (next code task _ _ (to wide) here) gives
-      (by_width (nat_lt MAX_PAR_LENGTH n) refl)
+  measured r check wide place more n m j in_m in_j is_j tests trap task shows at_label at_begin is_first is_second wide_go go =
+      on_calc code heartbeat K task 2 0 alu.Sub (value.Reg 1) (word.Int d)
+      (next code task _ _ (to wide) here) gives (by_width (nat_lt MAX_PAR_LENGTH n) refl)
     where
       K : Back code heartbeat
       K = S.owing i r
@@ -150,10 +182,14 @@ module _ (code : Listing) (heartbeat z : ℕ) (act : Activation) (fuel : ℕ) (S
       d : ℤ
       d = wrapped (pos n)
 
-      here : Remains code task.block task.at (wide_test wide again) (to wide)
-      here = let begun : Remains code check 0 (wide_test wide again) (to wide) = opened code check (wide_test wide again) (to wide) tests in rw (at_label, at_begin) begun
+      here : Remains code task.block task.at (length_test wide more) (to wide)
+      here =
+          let begun : Remains code check 0 (length_test wide more) (to wide) =
+          opened code check (length_test wide more) (to wide) tests in
+          rw (at_label, at_begin) begun
 
-      gives : calculated alu.Sub (register task.registers 0) (register task.registers 1) ≡ Ok (word.Int d)
+      gives : calculated alu.Sub (register task.registers 0) (register task.registers 1)
+          ≡ Ok (word.Int d)
       gives = rw (is_first, is_second) (ap (λ e. Ok (word.Int (wrapped e))) (difference n m j is_j))
 
       one : machine.State
@@ -165,7 +201,9 @@ module _ (code : Listing) (heartbeat z : ℕ) (act : Activation) (fuel : ℕ) (S
       is_d : register one.registers 2 ≡ word.Int d
       is_d = register_set task.registers 2 (word.Int d) (omega (arith, shows.size))
 
-      second : Remains code task.block (task.at + 1) (instr.Calc 3 2 alu.Lt (value.Int (pos 0)) ∷ instr.IfJump 3 wide ∷ instr.Calc 3 2 alu.Le (value.Int (pos MAX_PAR_LENGTH)) ∷ instr.IfJump 3 again ∷ []) (to wide)
+      second : Remains code task.block (task.at + 1)
+          (instr.Calc 3 2 alu.Lt (value.Int (pos 0)) ∷ instr.IfJump 3 wide
+          ∷ instr.Calc 3 2 alu.Le (value.Int (pos MAX_PAR_LENGTH)) ∷ more) (to wide)
       second = behind code task.block task.at _ _ (to wide) here
 
       -- the task behind the first test
@@ -175,50 +213,171 @@ module _ (code : Listing) (heartbeat z : ℕ) (act : Activation) (fuel : ℕ) (S
       shows_two : Showing two
       shows_two = shows_set one 3 (word.Int (pos 0)) (omega arith) shows_one
 
+      is_d_two : register two.registers 2 ≡ word.Int d
+      is_d_two =
+          register_other one.registers 3 2 (word.Int (pos 0)) (λ (q : 2 ≡ 3). absurd (omega (arith, q)))
+          ∙ is_d
+
       calm_wide : IsCalm code wide
       calm_wide = ap (λ o. is_ready (note_of o)) trap.0
 
-      -- a task at the trap block
-      traps_at : r ≡ out (Trap Wide place) st → (other : machine.State) → Showing other → K.Holds (at_block wide other)
-      traps_at is other shows_other =
-          subst (λ (q : Result). (S.owing i q).Holds (at_block wide other)) (sym is)
-          (S.stops i (Trap Wide place) st (at_block wide other) (advanced (at_block wide other)) tt shows_other.ticks shows_other.printed shows_other.ends
-          (traps code heartbeat (at_block wide other) Wide place (record { block = trap_block wide Wide place; found = trap.0; is = refl }) shows_other.free))
+      -- and the one behind the second
+      three : Bool → List Word
+      three fits = slice_set two.registers 3 (word.Int (truth fits))
+
+      others : (fits : Bool) (q : ℕ) → q < 2 → register (three fits) q ≡ register task.registers q
+      others fits q low =
+          register_other two.registers 3 q (word.Int (truth fits))
+          (λ (e : q ≡ 3). absurd (omega (arith, e)))
+          ∙ (register_other one.registers 3 q (word.Int (pos 0))
+          (λ (e : q ≡ 3). absurd (omega (arith, e)))
+          ∙ register_other task.registers 2 q (word.Int d) (λ (e : q ≡ 2). absurd (omega (arith, e))))
+
+      second_test : (fits : Bool) → int_le d (pos MAX_PAR_LENGTH) ≡ fits
+          → nat_lt MAX_PAR_LENGTH n ≡ not fits
+          → Remains code two.block two.at (instr.Calc 3 2 alu.Le (value.Int (pos MAX_PAR_LENGTH)) ∷ more)
+          (to wide) → K.Holds two
+      second_test fits is width third =
+          on_calc code heartbeat K two 3 2 alu.Le (value.Int (pos MAX_PAR_LENGTH))
+          (word.Int (truth fits)) (next code two _ _ (to wide) third)
+          (rw (is_d_two) (ap (λ b. Ok (word.Int (truth b))) is))
+          (go fits width (three fits) (counted two.beat) (two.at + 1)
+          (shows_set two 3 (word.Int (truth fits)) (omega arith) shows_two)
+          (register_set two.registers 3 (word.Int (truth fits)) (omega (arith, shows_two.size)))
+          (others fits 1 (omega arith) ∙ is_first) (others fits 0 (omega arith) ∙ is_second)
+          (behind code two.block two.at _ more (to wide) third))
 
       by_width : (b : Bool) → nat_lt MAX_PAR_LENGTH n ≡ b → K.Holds one
       by_width true is =
-          tests_in code heartbeat K one 3 2 alu.Lt (value.Int (pos 0)) (int_lt d (pos 0)) wide _ (to wide) (omega (arith, shows_one.size)) second (rw is_d refl) calm_wide
-          (λ below. traps_at (wide_go is) (advanced (with_register (advanced one) 3 (word.Int (pos 1)))) (shows_set one 3 (word.Int (pos 1)) (omega arith) shows_one))
-          (λ passes third.
-          tests_in code heartbeat K two 3 2 alu.Le (value.Int (pos MAX_PAR_LENGTH)) (int_le d (pos MAX_PAR_LENGTH)) again [] (to wide) (omega (arith, shows_two.size)) third
-          (rw (is_d_two) refl) (calm code again instrs last begins)
-          (λ small. absurd (true≢false (sym small ∙ wide_second n (gap_small n m j in_m in_j is_j) is passes)))
-          (λ large fourth.
-          let three : machine.State = advanced (with_register (advanced two) 3 (word.Int (pos 0))) in
-          on_jump code heartbeat K three (value.Label wide) wide (at_end code three (to wide) fourth) refl calm_wide
-          (traps_at (wide_go is) (advanced three) (shows_set two 3 (word.Int (pos 0)) (omega arith) shows_two))))
-        where
-          is_d_two : register two.registers 2 ≡ word.Int d
-          is_d_two = register_other one.registers 3 2 (word.Int (pos 0)) (λ (q : 2 ≡ 3). absurd (omega (arith, q))) ∙ is_d
+          tests_in code heartbeat K one 3 2 alu.Lt (value.Int (pos 0)) (int_lt d (pos 0)) wide _
+          (to wide) (omega (arith, shows_one.size)) second (rw is_d refl) calm_wide
+          (λ below. traps_wide r wide place trap (wide_go is) task shows _ task.stack _)
+          (λ passes third. second_test false
+          (wide_second n (gap_small n m j in_m in_j is_j) is passes) is third)
       by_width false is =
-          tests_in code heartbeat K one 3 2 alu.Lt (value.Int (pos 0)) (int_lt d (pos 0)) wide _ (to wide) (omega (arith, shows_one.size)) second (rw is_d refl) calm_wide
+          tests_in code heartbeat K one 3 2 alu.Lt (value.Int (pos 0)) (int_lt d (pos 0)) wide _
+          (to wide) (omega (arith, shows_one.size)) second (rw is_d refl) calm_wide
           (λ below. absurd (true≢false (sym below ∙ narrow_first n is)))
-          (λ passes third.
-          tests_in code heartbeat K two 3 2 alu.Le (value.Int (pos MAX_PAR_LENGTH)) (int_le d (pos MAX_PAR_LENGTH)) again [] (to wide) (omega (arith, shows_two.size)) third
-          (rw (is_d_two) refl) (calm code again instrs last begins)
-          (λ small.
-          narrow_go is (at_block again (advanced (with_register (advanced two) 3 (word.Int (pos 1))))) (shows_set two 3 (word.Int (pos 1)) (omega arith) shows_two) refl refl refl
-          (others 1 (omega arith) ∙ is_first) (others 0 (omega arith) ∙ is_second))
-          (λ large fourth. absurd (true≢false (sym (narrow_second n is) ∙ large))))
-        where
-          is_d_two : register two.registers 2 ≡ word.Int d
-          is_d_two = register_other one.registers 3 2 (word.Int (pos 0)) (λ (q : 2 ≡ 3). absurd (omega (arith, q))) ∙ is_d
+          (λ passes third. second_test true (narrow_second n is) is third)
 
-          others : (q : ℕ) → q < 2 → register (slice_set two.registers 3 (word.Int (pos 1))) q ≡ register task.registers q
-          others q low =
-              register_other two.registers 3 q (word.Int (pos 1)) (λ (e : q ≡ 3). absurd (omega (arith, e)))
-              ∙ (register_other one.registers 3 q (word.Int (pos 0)) (λ (e : q ≡ 3). absurd (omega (arith, e)))
-              ∙ register_other task.registers 2 q (word.Int d) (λ (e : q ≡ 2). absurd (omega (arith, e))))
+-- ---- the begin of a `par`
+
+module _ (code : Listing) (heartbeat z : ℕ) (act : Activation) (set : Setting)
+    (expr_law : ExprLaw code heartbeat) (S : Scene code heartbeat z) (names : List (List ℕ))
+    (lowest : S.lowest ≤ length names) (room : length names < act.most)
+    (k : meaning.State → Result) (l : ParLoop) where
+  abbrev pub iterating : ℤ → ℤ → meaning.State → Ran
+  iterating m j =
+      iterate set.fuel l.var.text.items (run_list (record set { reduces = l.reduces.items }) l.body.items)
+      (Chance ∷ []) [] (int_gap m j) m
+
+  -- what is owed where a `par` has iterations, and the test of its length comes next
+  abbrev pub Begun : ℕ → Type 0
+  Begun check =
+      (n : ℕ) (m j : ℤ) → IsGap (suc n) m j → int_gap m j ≡ suc n → InRange m → InRange j
+      → (i : S.World) (st : meaning.State) (task : machine.State)
+      → ShowsIn code heartbeat z act set.fuel S i names st task → task.block ≡ check → task.at ≡ 0
+      → register task.registers 1 ≡ word.Int m → register task.registers 0 ≡ word.Int j
+      → word_at task.stack (pos (z + value_cell (length names))) ≡ Some (word.Int m)
+      → word_at task.stack (pos (z + bound_cell (length names))) ≡ Some (word.Int j)
+      → (S.owing i (then (result (unless_wide (too_wide m j) l.place (iterating m j) st)) k)).Holds task
+
+  pub begins_par : (check exit : ℕ) (here second tests more : List Instr) (first end : Term)
+      → Computes code act names l.from 0 here
+      (store (value_cell (length names)) (value.Reg 0) ∷ second)
+      → Computes code act names l.to 0 second
+      (store (bound_cell (length names)) (value.Reg 0) ∷ load 1 (value_cell (length names))
+      ∷ instr.Calc 2 1 alu.Lt (value.Reg 0) ∷ instr.IfJump 2 check ∷ [])
+      → Opens code check tests first → Opens code exit more end
+      → Owed code heartbeat z act set.fuel S names more end k → Begun check
+      → Owed code heartbeat z act set.fuel S names here (to exit)
+      (λ st. then (result (run set (Par l) st)) k)
+  begins_par check exit here second tests more first end c d opens ends post begun i st state shows stands =
+      subst (λ (r : Ran). (S.owing i (then (result r) k)).Holds state) (sym (run_par set l st))
+      (bounds code heartbeat z act set.fuel expr_law S names lowest room k l.from l.to here second
+      (instr.Calc 2 1 alu.Lt (value.Reg 0) ∷ instr.IfJump 2 check ∷ []) (to exit) c d
+      (λ m j. unless_wide (too_wide m j) l.place (iterating m j)) i st state shows stands at_test)
+    where
+      at_test : (m j : ℤ) → InRange m → InRange j → (task : machine.State)
+          → ShowsIn code heartbeat z act set.fuel S i names st task
+          → register task.registers 1 ≡ word.Int m → register task.registers 0 ≡ word.Int j
+          → word_at task.stack (pos (z + value_cell (length names))) ≡ Some (word.Int m)
+          → word_at task.stack (pos (z + bound_cell (length names))) ≡ Some (word.Int j)
+          → Remains code task.block task.at
+          (instr.Calc 2 1 alu.Lt (value.Reg 0) ∷ instr.IfJump 2 check ∷ []) (to exit)
+          → (S.owing i (then (result (unless_wide (too_wide m j) l.place (iterating m j) st)) k)).Holds
+          task
+      at_test m j in_m in_j task shows_task is_m is_j cell bound left =
+          by_gap (int_gap m j) refl (gap_is m j)
+        where
+          K : Back code heartbeat
+          K = S.owing i (then (result (unless_wide (too_wide m j) l.place (iterating m j) st)) k)
+
+          gives : calculated alu.Lt (register task.registers 1) (register task.registers 0)
+              ≡ Ok (word.Int (truth (int_lt m j)))
+          gives = rw (is_m, is_j) refl
+
+          tests_it : (int_lt m j ≡ true
+              → K.Holds (at_block check (advanced (with_register (advanced task) 2 (word.Int (pos 1))))))
+              → (int_lt m j ≡ false → Remains code task.block (task.at + 1 + 1) [] (to exit)
+              → K.Holds (advanced (with_register (advanced task) 2 (word.Int (pos 0)))))
+              → K.Holds task
+          tests_it =
+              tests_in code heartbeat K task 2 1 alu.Lt (value.Reg 0) (int_lt m j) check []
+              (to exit) (omega (arith, shows_task.size)) left gives (calm code check tests first opens)
+
+          kept : (b : Bool) (r : ℕ) → r < 2
+              → register (slice_set task.registers 2 (word.Int (truth b))) r
+              ≡ register task.registers r
+          kept b r low =
+              register_other task.registers 2 r (word.Int (truth b))
+              (λ (e : r ≡ 2). absurd (omega (arith, e, low)))
+
+          by_gap : (n : ℕ) → int_gap m j ≡ n → IsGap n m j → K.Holds task
+          by_gap zero none gap =
+              tests_it (λ below. absurd (true≢false (sym below ∙ gap_none m j gap)))
+              (λ above over.
+              let two : machine.State =
+              advanced (with_register (advanced task) 2 (word.Int (pos 0))) in
+              subst (λ (r : Ran). (S.owing i (then (result r) k)).Holds two)
+              (sym (none_run set.fuel l.var.text.items
+              (run_list (record set { reduces = l.reduces.items }) l.body.items) l.place m j st none))
+              (jumps code heartbeat (S.owing i (k st)) two exit more end over ends
+              (enters code heartbeat z act set.fuel S names exit more end k ends post i st
+              (at_block exit (advanced two))
+              (shows_set code heartbeat z act set.fuel S i names st task 2 (word.Int (pos 0))
+              (omega arith) shows_task) refl refl)))
+          by_gap (suc n) some gap =
+              tests_it (λ below.
+              begun n m j gap some in_m in_j i st
+              (at_block check (advanced (with_register (advanced task) 2 (word.Int (pos 1)))))
+              (shows_set code heartbeat z act set.fuel S i names st task 2 (word.Int (pos 1))
+              (omega arith) shows_task) refl refl (kept true 1 (omega arith) ∙ is_m)
+              (kept true 0 (omega arith) ∙ is_j) cell bound)
+              (λ above over. absurd (true≢false (sym (gap_more n m j gap) ∙ above)))
+
+  -- a `par` that isn't too wide runs its iterations, and one that is traps
+  pub runs_narrow : (n : ℕ) (m j : ℤ) (st : meaning.State) → int_gap m j ≡ n
+      → nat_lt MAX_PAR_LENGTH n ≡ false
+      → unless_wide (too_wide m j) l.place (iterating m j) st
+      ≡ iterate set.fuel l.var.text.items
+      (run_list (record set { reduces = l.reduces.items }) l.body.items) (Chance ∷ []) [] n m st
+  runs_narrow n m j st gap narrow =
+      ap (λ g. unless_wide (nat_lt MAX_PAR_LENGTH g) l.place
+      (iterate set.fuel l.var.text.items
+      (run_list (record set { reduces = l.reduces.items }) l.body.items) (Chance ∷ []) [] g m) st) gap
+      ∙ ap (λ b. unless_wide b l.place
+      (iterate set.fuel l.var.text.items
+      (run_list (record set { reduces = l.reduces.items }) l.body.items) (Chance ∷ []) [] n m) st)
+      narrow
+
+  pub stops_wide : (n : ℕ) (m j : ℤ) (st : meaning.State) → int_gap m j ≡ n
+      → nat_lt MAX_PAR_LENGTH n ≡ true
+      → then (result (unless_wide (too_wide m j) l.place (iterating m j) st)) k
+      ≡ out (Trap Wide l.place) st
+  stops_wide n m j st gap wide =
+      ap (λ g. then (result (unless_wide (nat_lt MAX_PAR_LENGTH g) l.place (iterating m j) st)) k) gap
+      ∙ ap (λ b. then (result (unless_wide b l.place (iterating m j) st)) k) wide
 
 module _ (code : Listing) (heartbeat z : ℕ) (act : Activation) (set : Setting) (expr_law : ExprLaw code heartbeat) (S : Scene code heartbeat z) (names inner : List (List ℕ)) (lowest : S.lowest ≤ length names) (room : length names < act.most) (first : take (length names) inner ≡ names) (k : meaning.State → Result) where
   pub par_law : (uncounted : S.counts ≡ false) (l : ParLoop) (check wide again exit : ℕ) (here second instrs more : List Instr) (last end : Term)
@@ -229,60 +388,51 @@ module _ (code : Listing) (heartbeat z : ℕ) (act : Activation) (set : Setting)
       → ((j m : ℤ) (f : meaning.State → Result) → Owed code heartbeat z act set.fuel (inside code heartbeat z S (length names) lowest m (Some j)) inner (step_up 1 (length names) (load 0 (bound_cell (length names)) ∷ below_test 1 (value.Reg 0) again)) (to exit) f
       → Owed code heartbeat z act set.fuel (inside code heartbeat z S (length names) lowest m (Some j)) (names ++ l.var.text.items ∷ []) instrs last (λ st. then (result (run_list (record set { reduces = l.reduces.items }) l.body.items st)) f))
       → Owed code heartbeat z act set.fuel S names here (to exit) (λ st. then (result (run set (Par l) st)) k)
-  par_law uncounted l check wide again exit here second instrs more last end c d tests trap begins ends post body_law i st state shows stands =
-      subst (λ (r : Ran). (S.owing i (then (result r) k)).Holds state) (sym (run_par set l st))
-      (bounds code heartbeat z act set.fuel expr_law S names lowest room k l.from l.to here second (instr.Calc 2 1 alu.Lt (value.Reg 0) ∷ instr.IfJump 2 check ∷ []) (to exit) c d
-      (λ m j. unless_wide (too_wide m j) l.place (iterating m j)) i st state shows stands at_test)
+  par_law uncounted l check wide again exit here second instrs more last end c d tests trap begins ends post body_law =
+      begins_par code heartbeat z act set expr_law S names lowest room k l check exit here second
+      (wide_test wide again) more (to wide) end c d tests ends post begun
     where
       inner_set : Setting
       inner_set = record set { reduces = l.reduces.items }
 
-      iterating : ℤ → ℤ → meaning.State → Ran
-      iterating m j = iterate set.fuel l.var.text.items (run_list inner_set l.body.items) (Chance ∷ []) [] (int_gap m j) m
-
-      at_test : (m j : ℤ) → InRange m → InRange j → (task : machine.State) → ShowsIn code heartbeat z act set.fuel S i names st task → register task.registers 1 ≡ word.Int m → register task.registers 0 ≡ word.Int j
-          → word_at task.stack (pos (z + value_cell (length names))) ≡ Some (word.Int m) → word_at task.stack (pos (z + bound_cell (length names))) ≡ Some (word.Int j) → Remains code task.block task.at (instr.Calc 2 1 alu.Lt (value.Reg 0) ∷ instr.IfJump 2 check ∷ []) (to exit)
-          → (S.owing i (then (result (unless_wide (too_wide m j) l.place (iterating m j) st)) k)).Holds task
-      at_test m j in_m in_j task shows_task is_m is_j cell bound left = by_gap (int_gap m j) refl (gap_is m j)
+      begun : Begun code heartbeat z act set expr_law S names lowest room k l check
+      begun n m j gap some in_m in_j i st task shows_task at_label at_begin is_m is_j cell bound =
+          measured code heartbeat z act set.fuel S i names st r check wide l.place
+          (instr.IfJump 3 again ∷ []) (suc n) m j in_m in_j gap tests trap task shows_task at_label at_begin is_m is_j
+          (stops_wide code heartbeat z act set expr_law S names lowest room k l (suc n) m j st some)
+          (λ fits width words beat at shows_words is_fit is_first is_second left.
+          by_fit fits width words beat at shows_words is_fit left)
         where
-          K : Back code heartbeat
-          K = S.owing i (then (result (unless_wide (too_wide m j) l.place (iterating m j) st)) k)
+          r : Result
+          r = then (result (unless_wide (too_wide m j) l.place
+              (iterating code heartbeat z act set expr_law S names lowest room k l m j) st)) k
 
-          gives : calculated alu.Lt (register task.registers 1) (register task.registers 0) ≡ Ok (word.Int (truth (int_lt m j)))
-          gives = rw (is_m, is_j) refl
-
-          tests_it : (int_lt m j ≡ true → K.Holds (at_block check (advanced (with_register (advanced task) 2 (word.Int (pos 1))))))
-              → (int_lt m j ≡ false → Remains code task.block (task.at + 1 + 1) [] (to exit) → K.Holds (advanced (with_register (advanced task) 2 (word.Int (pos 0))))) → K.Holds task
-          tests_it = tests_in code heartbeat K task 2 1 alu.Lt (value.Reg 0) (int_lt m j) check [] (to exit) (omega (arith, shows_task.size)) left gives (calm code check (wide_test wide again) (to wide) tests)
-
-          by_gap : (n : ℕ) → int_gap m j ≡ n → IsGap n m j → K.Holds task
-          by_gap zero none gap =
-              tests_it (λ below. absurd (true≢false (sym below ∙ gap_none m j gap)))
-              (λ above over.
-              let two : machine.State = advanced (with_register (advanced task) 2 (word.Int (pos 0))) in
-              subst (λ (r : Ran). (S.owing i (then (result r) k)).Holds two) (sym (none_run set.fuel l.var.text.items (run_list inner_set l.body.items) l.place m j st none))
-              (jumps code heartbeat (S.owing i (k st)) two exit more end over ends
-              (enters code heartbeat z act set.fuel S names exit more end k ends post i st (at_block exit (advanced two)) (shows_set code heartbeat z act set.fuel S i names st task 2 (word.Int (pos 0)) (omega arith) shows_task) refl refl)))
-          by_gap (suc n) some gap =
-              tests_it (λ below.
-              let two : machine.State = at_block check (advanced (with_register (advanced task) 2 (word.Int (pos 1)))) in
-              measures code heartbeat z act set.fuel S i names st (then (result (unless_wide (too_wide m j) l.place (iterating m j) st)) k) check wide again l.place (instr.Tick ∷ instrs) last (suc n) m j in_m in_j gap tests trap begins two
-              (shows_set code heartbeat z act set.fuel S i names st task 2 (word.Int (pos 1)) (omega arith) shows_task) refl refl
-              (register_other task.registers 2 1 (word.Int (pos 1)) (λ (q : 1 ≡ 2). absurd (omega (arith, q))) ∙ is_m) (register_other task.registers 2 0 (word.Int (pos 1)) (λ (q : 0 ≡ 2). absurd (omega (arith, q))) ∙ is_j)
-              (λ is_wide. ap (λ g. then (result (unless_wide (nat_lt MAX_PAR_LENGTH g) l.place (iterating m j) st)) k) some ∙ ap (λ b. then (result (unless_wide b l.place (iterating m j) st)) k) is_wide)
-              (begins_loop gap))
-              (λ above over. absurd (true≢false (sym (gap_more n m j gap) ∙ above)))
-            where
-              begins_loop : IsGap (suc n) m j → nat_lt MAX_PAR_LENGTH (suc n) ≡ false → (other : machine.State) → ShowsIn code heartbeat z act set.fuel S i names st other → other.stack ≡ task.stack → other.block ≡ again → other.at ≡ 0 → register other.registers 1 ≡ word.Int m → register other.registers 0 ≡ word.Int j → K.Holds other
-              begins_loop gap narrow other shows_other same at_label at_begin first_is second_is =
-                  let runs : unless_wide (too_wide m j) l.place (iterating m j) st ≡ iterate set.fuel l.var.text.items (run_list inner_set l.body.items) (Chance ∷ []) [] (suc n) m st =
-                  ap (λ g. unless_wide (nat_lt MAX_PAR_LENGTH g) l.place (iterate set.fuel l.var.text.items (run_list inner_set l.body.items) (Chance ∷ []) [] g m) st) some
-                  ∙ ap (λ b. unless_wide b l.place (iterate set.fuel l.var.text.items (run_list inner_set l.body.items) (Chance ∷ []) [] (suc n) m) st) narrow in
-                  subst (λ (r : Ran). (S.owing i (then (result r) k)).Holds other) (sym runs)
-                  (a_turn code heartbeat z act inner_set S names inner lowest room first k l.var.text.items l.body.items 1 (omega arith) (value.Reg 0) (Some j) j in_j again exit instrs (load 0 (bound_cell (length names)) ∷ below_test 1 (value.Reg 0) again) more last end begins ends post (body_law j) (Chance ∷ []) (S.passes uncounted)
-                  (reloads_bound code heartbeat z act set.fuel S names j (below_test 1 (value.Reg 0) again) (to exit))
-                  [] (λ w r u holds. holds) n
-                  (loop_at code heartbeat z act inner_set S names inner lowest room first k l.var.text.items l.body.items 1 (omega arith) (value.Reg 0) (Some j) j in_j again exit instrs (load 0 (bound_cell (length names)) ∷ below_test 1 (value.Reg 0) again) more last end begins ends post (body_law j) (Chance ∷ []) (S.passes uncounted)
-                  (reloads_bound code heartbeat z act set.fuel S names j (below_test 1 (value.Reg 0) again) (to exit)) n)
-                  m i st gap in_m other shows_other at_label at_begin
-                  (ap (λ s. word_at s (pos (z + value_cell (length names)))) same ∙ cell) (ap (λ s. word_at s (pos (z + bound_cell (length names)))) same ∙ bound))
+          by_fit : (fits : Bool) → nat_lt MAX_PAR_LENGTH (suc n) ≡ not fits → (words : List Word)
+              (beat : BeatState) (at : ℕ)
+              → ShowsIn code heartbeat z act set.fuel S i names st (moved task words beat at)
+              → register words 3 ≡ word.Int (truth fits)
+              → Remains code task.block at (instr.IfJump 3 again ∷ []) (to wide)
+              → (S.owing i r).Holds (moved task words beat at)
+          by_fit true narrow words beat at shows_it is left =
+              on_if code heartbeat (S.owing i r) (moved task words beat at) 3 again (pos 1)
+              (next code (moved task words beat at) _ [] (to wide) left) is refl
+              (calm code again (instr.Tick ∷ instrs) last begins)
+              (subst (λ (ran : Ran). (S.owing i (then (result ran) k)).Holds (moved_to task words (counted beat) again 0))
+              (sym (runs_narrow code heartbeat z act set expr_law S names lowest room k l (suc n) m j st some narrow))
+              (a_turn code heartbeat z act inner_set S names inner lowest room first k l.var.text.items l.body.items 1 (omega arith) (value.Reg 0) (Some j) j in_j again exit instrs (load 0 (bound_cell (length names)) ∷ below_test 1 (value.Reg 0) again) more last end begins ends post (body_law j) (Chance ∷ []) (S.passes uncounted)
+              (reloads_bound code heartbeat z act set.fuel S names j (below_test 1 (value.Reg 0) again) (to exit))
+              [] (λ w q u holds. holds) n
+              (loop_at code heartbeat z act inner_set S names inner lowest room first k l.var.text.items l.body.items 1 (omega arith) (value.Reg 0) (Some j) j in_j again exit instrs (load 0 (bound_cell (length names)) ∷ below_test 1 (value.Reg 0) again) more last end begins ends post (body_law j) (Chance ∷ []) (S.passes uncounted)
+              (reloads_bound code heartbeat z act set.fuel S names j (below_test 1 (value.Reg 0) again) (to exit)) n)
+              m i st gap in_m (moved_to task words (counted beat) again 0) shows_it refl refl cell bound))
+          by_fit false wide_it words beat at shows_it is left =
+              on_if_not code heartbeat (S.owing i r) (moved task words beat at) 3 again
+              (next code (moved task words beat at) _ [] (to wide) left) is
+              (on_jump code heartbeat (S.owing i r) (advanced (moved task words beat at))
+              (value.Label wide) wide
+              (at_end code (advanced (moved task words beat at)) (to wide)
+              (behind code task.block at _ [] (to wide) left)) refl
+              (ap (λ o. is_ready (note_of o)) trap.0)
+              (traps_wide code heartbeat z act set.fuel S i names st r wide l.place trap
+              (stops_wide code heartbeat z act set expr_law S names lowest room k l (suc n) m j st some
+              wide_it) task shows_task words task.stack (counted (counted beat))))

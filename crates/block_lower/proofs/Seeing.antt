@@ -12,7 +12,7 @@ use Rattle.block_lower.specs.Fitting.{IsVisible, level_of}
 use Rattle.block_lower.specs.Layout.{value_cell}
 use Rattle.block_lower.specs.Names.{Sees, AreLaid}
 
-has_cell : (cs : List (Vec ℕ Global × ℕ)) (x : List ℕ) → has_cell_in cs x ≡ is_in (map (λ (c : Vec ℕ Global × ℕ). c.0.items) cs) x
+pub has_cell : (cs : List (Vec ℕ Global × ℕ)) (x : List ℕ) → has_cell_in cs x ≡ is_in (map (λ (c : Vec ℕ Global × ℕ). c.0.items) cs) x
 has_cell [] x = refl
 has_cell (c ∷ cs) x = ap (λ b. bytes_eq c.0.items x || b) (has_cell cs x)
 

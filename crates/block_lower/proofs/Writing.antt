@@ -26,7 +26,7 @@ pub reopened : (code : Listing) (l m : ℕ) (xs ys : List Instr) (end : Term) �
 reopened code l m xs ys end there same o = record {
   block = o.block;
   found = subst (λ (n : ℕ). block_at code n ≡ Some o.block) there o.found;
-  plain = o.plain;
+  noted = o.noted;
   body = o.body ∙ same;
   ends = o.ends;
 }
@@ -50,7 +50,7 @@ closed_block code old new end c stands =
     let rest : AreAt code (label old) (block ∷ old.traps.items) = subst (λ (n : ℕ). AreAt code n (block ∷ old.traps.items)) here (back code 0 old.blocks.items (block ∷ old.traps.items) all) in
     record {
       closed = front code 0 old.blocks.items (block ∷ old.traps.items) all;
-      opens = record { block = block; found = rest.0; plain = refl; body = sym (append-nil old.body.items); ends = refl };
+      opens = record { block = block; found = rest.0; noted = refl; body = sym (append-nil old.body.items); ends = refl };
       traps = rest.1;
     }
 

@@ -32,6 +32,7 @@ use Rattle.tpal_syntax.specs.declared.instructions.Term.{Term}
 use Rattle.tpal_syntax.specs.declared.instructions.Term.TheVariants as term
 use Rattle.tpal_syntax.specs.declared.instructions.Value.{Value}
 use Rattle.tpal_syntax.specs.declared.instructions.Value.TheVariants as value
+use Rattle.tpal_syntax.specs.declared.notes.Note.{Note}
 use Rattle.tpal_syntax.specs.declared.notes.Note.TheVariants as note
 use Rattle.tpal_syntax.specs.Listing.{Listing}
 use Rattle.tpal_machine.specs.Reading.{block_at}
@@ -45,13 +46,18 @@ use Rattle.block_lower.specs.Layout.{entry_of, Activation}
 use Rattle.block_lower.specs.Names.{Sees, names_after}
 use Rattle.block_lower.specs.Round.{Round, loop_round, par_round}
 
--- the block at a label is not promotion-ready, and has these instructions and this end
-pub record Opens (code : Listing) (label : ℕ) (instrs : List Instr) (end : Term) : Type 0 where
+-- the block at a label is marked as this, and has these instructions and this end
+pub record OpensAs (code : Listing) (mark : Note) (label : ℕ) (instrs : List Instr) (end : Term)
+    : Type 0 where
   pub block : Block
   pub found : block_at code label ≡ Some block
-  pub plain : block.note ≡ note.Plain
+  pub noted : block.note ≡ mark
   pub body : block.body ≡ instrs
   pub ends : block.term ≡ end
+
+-- the block at a label is a plain one, with these instructions and this end
+abbrev pub Opens : Listing → ℕ → List Instr → Term → Type 0
+Opens code label instrs end = OpensAs code note.Plain label instrs end
 
 abbrev pub to : ℕ → Term
 to label = term.Jump (value.Label label)

@@ -10,6 +10,10 @@ pub mod Names
 pub mod Round
 -- which code is the code of a statement
 pub mod Code
+-- the site of a `par`
+pub mod Sites
+-- the code of a `par` that can be cut, round its iterations
+pub mod Marked
 -- which code is the code of a program
 pub mod Main
 -- how many blocks a statement adds, and how many variables it declares

@@ -24,13 +24,13 @@ use Rattle.handler_gen.proofs.Words.{word_same}
 
 -- ---- numbers that differ
 
-abbrev Differ : List ℕ → Type 0
+abbrev pub Differ : List ℕ → Type 0
 Differ xs = AllPairs (λ a b. a ≢ b) xs
 
-first_apart : (x : ℕ) (xs : List ℕ) → Differ (x ∷ xs) → All (λ c. x ≢ c) xs
+pub first_apart : (x : ℕ) (xs : List ℕ) → Differ (x ∷ xs) → All (λ c. x ≢ c) xs
 first_apart x xs differ = λ i d below. differ 0 (suc i) d (omega arith) (omega (arith, below))
 
-rest_differ : (x : ℕ) (xs : List ℕ) → Differ (x ∷ xs) → Differ xs
+pub rest_differ : (x : ℕ) (xs : List ℕ) → Differ (x ∷ xs) → Differ xs
 rest_differ x xs differ = λ i j d less below. differ (suc i) (suc j) d (omega (arith, less)) (omega (arith, below))
 
 -- ---- accumulators

@@ -23,15 +23,15 @@ pub mod Offsets
 -- the child of a loop
 mod LoopChildren
 -- the handler of a loop
-mod LoopCutting
+pub mod LoopCutting
 -- the handler of a pair of calls
 mod CallCutting
 -- the block of `dispatch`
-mod Dispatched
+pub mod Dispatched
 -- words in the cells of the parts of a cut
 pub mod CutCells
 -- a loop is cut as its frame is
-mod FramesCut
+pub mod FramesCut
 -- the blocks meet the conditions of a code
 pub mod Fits
 -- entering a promotion-ready block

@@ -7,7 +7,7 @@ mod Filled
 -- accumulators combined
 mod Combining
 -- the join of a loop
-mod LoopJoining
+pub mod LoopJoining
 -- the join of a pair of calls
 mod CallJoining
 -- the blocks meet the conditions of a code
