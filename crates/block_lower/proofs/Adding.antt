@@ -5,6 +5,7 @@ use Rattle.std.proofs.lemmas.List.{length-append}
 use Rattle.std.proofs.lemmas.List.Sums.{sum_by-cons}
 use Rattle.std.specs.declared.alloc.Global.{Global}
 use Rattle.loop_rules.specs.Declarations.{declared_in, declared_all}
+use Rattle.loop_syntax.specs.declared.Carry.{Carry}
 use Rattle.loop_syntax.specs.declared.Stmt.{Stmt, Row_of-Stmt, end_of-Stmt, more_of-Stmt, items-the_row-Stmt, items_hidden-the_row-Stmt-0}
 use Rattle.loop_syntax.specs.declared.Stmt.TheBlock.{hidden-the_row-Stmt-0}
 use Rattle.loop_syntax.specs.declared.Stmt.TheVariants.{Let, Set, Put, If', While', Loop', Par', Fold, Call, Both, Print, Emit}
@@ -14,21 +15,34 @@ use Rattle.loop_syntax.specs.declared.TableDecl.{TableDecl}
 use Rattle.loop_syntax.specs.declared.TableDecl.TheVariants.{Input, Made}
 use Rattle.loop_rules.specs.Limits.{height}
 use Rattle.block_lower.specs.Layout.{kept_by_both}
-use Rattle.block_lower.specs.Sizes.{added, added_by_all, added_by_other, added_by_second, declared, is_low_at, kept, kept_by_all, kept_by_list, kept_by_decl, kept_by_decls}
+use Rattle.block_lower.specs.Quiet.{all_is_quiet, list_is_quiet}
+use Rattle.block_lower.specs.Sizes.{added, added_by_all, added_by_list, added_by_other, added_by_second, par_blocks, declared, is_low_at, kept, kept_by_all, kept_by_list, kept_by_decl, kept_by_decls}
+use Rattle.block_lower.proofs.QuietRows.{quiet_of_vec}
 
-added_of_row : {m : _} (row : Row_of-Stmt m) → added_by_all row ≡ sum_by added (items-the_row-Stmt _ row)
-added_of_row end_of-Stmt = refl
-added_of_row (more_of-Stmt b rest) = ap (λ n. added b + n) (added_of_row rest) ∙ sym (sum_by-cons added b (items-the_row-Stmt _ rest))
+added_of_row : {m : _} (calls : Bool) (row : Row_of-Stmt m) → added_by_all calls row ≡ sum_by (added calls) (items-the_row-Stmt _ row)
+added_of_row calls end_of-Stmt = refl
+added_of_row calls (more_of-Stmt b rest) =
+    ap (λ n. added calls b + n) (added_of_row calls rest) ∙ sym (sum_by-cons (added calls) b (items-the_row-Stmt _ rest))
 
-pub added_of_vec : (body : Vec Stmt Global) → added_by_all (hidden-the_row-Stmt-0 body) ≡ sum_by added body.items
-added_of_vec body = added_of_row (hidden-the_row-Stmt-0 body) ∙ ap (λ ss. sum_by added ss) (items_hidden-the_row-Stmt-0 body)
+pub added_of_vec : (calls : Bool) (body : Vec Stmt Global) → added_by_all calls (hidden-the_row-Stmt-0 body) ≡ sum_by (added calls) body.items
+added_of_vec calls body =
+    added_of_row calls (hidden-the_row-Stmt-0 body) ∙ ap (λ ss. sum_by (added calls) ss) (items_hidden-the_row-Stmt-0 body)
 
-second_of_row : {m : _} (row : Row_of-Stmt m) → added_by_other row ≡ added_by_second (items-the_row-Stmt _ row)
-second_of_row end_of-Stmt = refl
-second_of_row (more_of-Stmt b rest) = ap (λ n. added b + n + 1) (added_of_row rest) ∙ ap (λ n. n + 1) (sym (sum_by-cons added b (items-the_row-Stmt _ rest)))
+second_of_row : {m : _} (calls : Bool) (row : Row_of-Stmt m) → added_by_other calls row ≡ added_by_second calls (items-the_row-Stmt _ row)
+second_of_row calls end_of-Stmt = refl
+second_of_row calls (more_of-Stmt b rest) =
+    ap (λ n. added calls b + n + 1) (added_of_row calls rest) ∙ ap (λ n. n + 1) (sym (sum_by-cons (added calls) b (items-the_row-Stmt _ rest)))
 
-pub second_of_vec : (body : Vec Stmt Global) → added_by_other (hidden-the_row-Stmt-0 body) ≡ added_by_second body.items
-second_of_vec body = second_of_row (hidden-the_row-Stmt-0 body) ∙ ap added_by_second (items_hidden-the_row-Stmt-0 body)
+pub second_of_vec : (calls : Bool) (body : Vec Stmt Global) → added_by_other calls (hidden-the_row-Stmt-0 body) ≡ added_by_second calls body.items
+second_of_vec calls body =
+    second_of_row calls (hidden-the_row-Stmt-0 body) ∙ ap (λ ss. added_by_second calls ss) (items_hidden-the_row-Stmt-0 body)
+
+pub par_of_vec : (calls : Bool) (carries : List Carry) (body : Vec Stmt Global)
+    → par_blocks (all_is_quiet calls (hidden-the_row-Stmt-0 body)) carries (added_by_all calls (hidden-the_row-Stmt-0 body) + 1)
+    ≡ par_blocks (list_is_quiet calls body.items) carries (added_by_list calls body.items + 1)
+par_of_vec calls carries body =
+    ap (λ (quiet : Bool). par_blocks quiet carries (added_by_all calls (hidden-the_row-Stmt-0 body) + 1)) (quiet_of_vec calls body)
+    ∙ ap (λ n. par_blocks (list_is_quiet calls body.items) carries (n + 1)) (added_of_vec calls body)
 
 declared_of_row : {m : _} (row : Row_of-Stmt m) → length (declared_all row) ≡ sum_by declared (items-the_row-Stmt _ row)
 declared_of_row end_of-Stmt = refl

@@ -32,12 +32,13 @@ use Rattle.expr_lower.proofs.Registers.{register_set, register_other}
 use Rattle.expr_lower.proofs.Standing.{next, behind, regrouped}
 use Rattle.block_lower.specs.Code.{Arguments, Calls, IsCell, parameter_cell, passed, load, store}
 use Rattle.block_lower.specs.Layout.{value_cell, kept_cell, Entry, entry_of, Activation, kept_by_both, kept_value}
-use Rattle.block_lower.specs.Main.{FunctionAt}
+use Rattle.block_lower.specs.Main.{FunctionAt, bare}
 use Rattle.block_lower.proofs.Activations.{word_pushed}
 use Rattle.block_lower.proofs.Arguments.{AreIn, are_in_same, arguments_law, passed_law}
 use Rattle.block_lower.proofs.Called.{back_with}
 use Rattle.block_lower.proofs.Callees.{shows_pushed, HasPlace, CallsOwe}
 use Rattle.block_lower.proofs.Calls.{Caller, Keeping, calls_law}
+use Rattle.block_lower.proofs.Permitting.{Permits}
 use Rattle.block_lower.proofs.Results.{Result, result, then}
 use Rattle.block_lower.proofs.Scene.{Scene, ShowsIn, Owed}
 use Rattle.block_lower.proofs.Showing.{shows_words, shows_new, shows_assigned}
@@ -45,8 +46,8 @@ use Rattle.block_lower.proofs.Simple.{stores_in}
 use Rattle.block_lower.proofs.Values.{ExprLaw}
 use Rattle.block_lower.proofs.Words.{word_same, word_other}
 
-module _ (code : Listing) (heartbeat z : ℕ) (act : Activation) (fuel : ℕ) (fs : List Func) (room : ℕ) (expr_law : ExprLaw code heartbeat) (calls : CallsOwe code heartbeat fuel act.tables act.functions fs room) (place : HasPlace z act room)
-    (S : Scene code heartbeat z) (levels : S.levels ≡ room) (names : List (List ℕ)) (lowest : S.lowest ≤ length names) (uncounted : S.counts ≡ false) where
+module _ (code : Listing) (heartbeat z : ℕ) (act : Activation) (fuel : ℕ) (fs : List Func) (room : ℕ) (expr_law : ExprLaw code heartbeat) (calls : CallsOwe code heartbeat fuel (bare act) fs room) (place : HasPlace z act room)
+    (S : Scene code heartbeat z) (levels : S.levels ≡ room) (names : List (List ℕ)) (lowest : S.lowest ≤ length names) (uncounted : S.counts ≡ false) (permits : act.calls ≡ false → Permits code heartbeat z act.dispatch S) where
   abbrev Showing : S.World → meaning.State → machine.State → Type 0
   Showing i st task = ShowsIn code heartbeat z act fuel S i names st task
 
@@ -65,7 +66,7 @@ module _ (code : Listing) (heartbeat z : ℕ) (act : Activation) (fuel : ℕ) (f
       (go (effect.with_stack (advanced state) (with_word state.stack (pos (z + cell)) (word.Int n))) refl (shows_assigned code heartbeat z act fuel S i shows fixed x.text.items cell n c may lowest fits) (behind code state.block state.at (store cell (value.Reg r)) more end stands)))
 
   module _ (f : Name) (entry : Entry) (is_entry : entry_of act.functions f.text.items ≡ Some entry) where
-    there : FunctionAt code act.tables act.functions fs f.text.items entry
+    there : FunctionAt code (bare act) fs f.text.items entry
     there = calls.are f.text.items entry is_entry
 
     -- the activation of a function is put on top
@@ -99,7 +100,7 @@ module _ (code : Listing) (heartbeat z : ℕ) (act : Activation) (fuel : ℕ) (f
       (arguments_law code heartbeat z act entry.size fuel S i names lowest st expr_law args parameters_rise (omega (arith, above shows.few)) (λ p lt. omega (arith, parameters_fit f.callee entry is_entry (length f.args.items) p arity (omega (arith, lt)))) last one
       (shows_pushed code heartbeat z act entry.size fuel S i names lowest st shows) (behind code state.block state.at _ arguments last stands) (λ ns. with_call (call_at fs fuel room f.callee.text.items f.callee.place ns [] st) (λ v t. done (set_var x v t))) k
       (λ ns task many shows_task stored left.
-      calls_law code heartbeat z act fuel S names entry ⊤ nothing_kept (λ a v t. done (set_var x v t)) k lowest uncounted fs f.callee is_entry [] (λ w r u holds. holds) test (store cell (value.Reg 0) ∷ more) last end call
+      calls_law code heartbeat z act fuel S names entry ⊤ nothing_kept (λ a v t. done (set_var x v t)) k lowest uncounted permits fs f.callee is_entry [] (λ w r u holds. holds) test (store cell (value.Reg 0) ∷ more) last end call
       (λ w v u back fits shows_back also is here.
       assigns (S.owing w.world (k (set_var x v (back_with w.state.vars u)))) w.world (back_with w.state.vars u) back fixed x cell 0 v more end shows_back c may is fits here
       (λ after registers shows_after here_after. post w.world (set_var x v (back_with w.state.vars u)) after shows_after here_after))
@@ -180,7 +181,7 @@ module _ (code : Listing) (heartbeat z : ℕ) (act : Activation) (fuel : ℕ) (f
         (regrouped code task.block (task.at + 1 + 1) (passed code act (length g.args.items) 0 test_second) (passed code act (length ms) 0 test_second) half (ap (λ n. passed code act n 0 test_second) (sym many)) (behind code task.block (task.at + 1) _ _ half here_one))
         (above shows.few) (are_in_pushed stack second.size (kept_cell act) 0 ms are_one) (λ p lt. omega (arith, lt, many, eight, room_kept)) (λ p lt. parameters_fit g.callee second is_second (length ms) p (many ∙ arity_second) (omega (arith, lt)))
         (λ last_task shows_last stored left.
-        calls_law code heartbeat z act fuel S names second First (first_kept room_kept) (λ a u t. done (set_var y u (set_var x a.value t))) k lowest uncounted fs g.callee is_second [] (λ w r u holds. holds) test_second _ half end second_call sets_both
+        calls_law code heartbeat z act fuel S names second First (first_kept room_kept) (λ a u t. done (set_var y u (set_var x a.value t))) k lowest uncounted permits fs g.callee is_second [] (λ w r u holds. holds) test_second _ half end second_call sets_both
         room levels calls place
         (record { world = i; state = st; value = record { value = v; fits = fits }; named = shows.named; few = shows.few; tall = shows.tall })
         (record {
@@ -232,7 +233,7 @@ module _ (code : Listing) (heartbeat z : ℕ) (act : Activation) (fuel : ℕ) (f
         arguments_law code heartbeat z act first.size fuel S i names lowest st expr_law others_args (λ p q lt. omega (arith, lt)) (omega (arith, shows.few)) (λ p lt. omega (arith, lt, eight, room_kept)) last two shows_two here_two
         (λ ms. two_calls (setting reduces) x f.callee ns y g.callee ms (Chance ∷ []) st) k
         (λ ms three as_many shows_three stored_three here_three.
-        calls_law code heartbeat z act fuel S names first (Second (length g.args.items)) (second_kept (length g.args.items) eight room_kept) (λ a v t. follows v a.numbers t) k lowest uncounted fs f.callee is_first (Chance ∷ []) (S.passes uncounted) test_first _ last half first_call
+        calls_law code heartbeat z act fuel S names first (Second (length g.args.items)) (second_kept (length g.args.items) eight room_kept) (λ a v t. follows v a.numbers t) k lowest uncounted permits fs f.callee is_first (Chance ∷ []) (S.passes uncounted) test_first _ last half first_call
         (λ w v u task fits shows_task also is here. makes_second w.world (back_with w.state.vars u) task v w.value.numbers w.value.as_many fits shows_task also is here)
         room levels calls place
         (record { world = i; state = st; value = record { numbers = ms; as_many = as_many }; named = shows.named; few = shows.few; tall = shows.tall })

@@ -20,11 +20,13 @@ use Rattle.tpal_machine.specs.Reading.{register}
 use Rattle.tpal_machine.specs.State as machine
 use Rattle.tpal_machine.proofs.Kit.{IsCalm}
 use Rattle.block_lower.specs.Layout.{return_cell, value_cell, Entry, entry_of, Activation}
-use Rattle.block_lower.specs.Main.{HasRoom, FunctionAt, AreFunctions}
+use Rattle.block_lower.specs.Main.{HasRoom, FunctionAt, AreFunctions, bare}
+use Rattle.block_lower.specs.Quiet.{functions_are_quiet, list_is_quiet}
 use Rattle.block_lower.proofs.Activations.{word_pushed, word_popped, pushed_length, popped_pushed, clear_above}
 use Rattle.block_lower.proofs.Arguments.{wider}
 use Rattle.block_lower.proofs.Called.{with_value, value_then, body_set}
 use Rattle.block_lower.proofs.Choices.{OwedAt}
+use Rattle.block_lower.proofs.Permitting.{Permits}
 use Rattle.block_lower.proofs.Results.{fin, result, then}
 use Rattle.block_lower.proofs.Scene.{Scene, Shows, ShowsIn, header}
 use Rattle.block_lower.proofs.Variables.{AreHeld}
@@ -92,24 +94,26 @@ pub record HasPlace (z : ℕ) (act : Activation) (levels : ℕ) : Type 0 where
 pub main_has_place : (act : Activation) → HasRoom act → HasPlace 0 act MAX_CALL_DEPTH
 main_has_place act has_room = record { has_room = has_room; deep = omega arith }
 
-module _ (code : Listing) (heartbeat fuel : ℕ) (tables : List (List ℕ)) (entries : List Entry) (fs : List Func) where
+module _ (code : Listing) (heartbeat fuel : ℕ) (base : Activation) (fs : List Func) where
   -- the activation of a function
-  abbrev pub activation_of : (x : List ℕ) (entry : Entry) → FunctionAt code tables entries fs x entry → Activation
-  activation_of x entry f = record { tables = tables; functions = entries; most = f.most; size = entry.size }
+  abbrev pub activation_of : (x : List ℕ) (entry : Entry) → FunctionAt code (bare base) fs x entry → Activation
+  activation_of x entry f = record base { most = f.most; size = entry.size }
 
   -- a function owes what its body and its result give, in every scene with so many levels of calls left, where it returns
-  abbrev pub FunctionOwes : (x : List ℕ) (entry : Entry) → FunctionAt code tables entries fs x entry → ℕ → Type 1
+  abbrev pub FunctionOwes : (x : List ℕ) (entry : Entry) → FunctionAt code (bare base) fs x entry → ℕ → Type 1
   FunctionOwes x entry f room =
-      (z : ℕ) → HasPlace z (activation_of x entry f) room → (C : Scene code heartbeat z) → C.levels ≡ room → C.lowest ≡ 0 → ((c : ℕ) → header ≤ c → C.may c) → C.counts ≡ false → Returns code heartbeat fuel z (activation_of x entry f) C
+      (z : ℕ) → HasPlace z (activation_of x entry f) room → (C : Scene code heartbeat z) → C.levels ≡ room → C.lowest ≡ 0 → ((c : ℕ) → header ≤ c → C.may c) → C.counts ≡ false
+      → (list_is_quiet base.calls f.func.body.items ≡ false → Permits code heartbeat z base.dispatch C) → Returns code heartbeat fuel z (activation_of x entry f) C
       → OwedAt code heartbeat z (activation_of x entry f) fuel C (texts f.func.params.items) entry.label (λ st. then (result (run_list (body_set fs fuel room) f.func.body.items st)) (value_then f.func.result))
 
   -- each function owes so, where calls have so many levels left
-  abbrev pub FunctionsOwe : AreFunctions code tables entries fs → ℕ → Type 1
+  abbrev pub FunctionsOwe : AreFunctions code base fs → ℕ → Type 1
   FunctionsOwe are zero = Unit {1}
-  FunctionsOwe are (suc room) = (x : List ℕ) (entry : Entry) (is : entry_of entries x ≡ Some entry) → FunctionOwes x entry (are x entry is) room
+  FunctionsOwe are (suc room) = (x : List ℕ) (entry : Entry) (is : entry_of base.functions x ≡ Some entry) → FunctionOwes x entry (are x entry is) room
 
   -- what the code of statements takes from the functions, where so many levels of calls are left
   pub record CallsOwe (room : ℕ) : Type 1 where
     pub few : room ≤ MAX_CALL_DEPTH
-    pub are : AreFunctions code tables entries fs
+    pub quiet : base.calls ≡ functions_are_quiet fs
+    pub are : AreFunctions code base fs
     pub owe : FunctionsOwe are room

@@ -48,7 +48,8 @@ use Rattle.expr_lower.proofs.Registers.{register_set, register_other}
 use Rattle.expr_lower.proofs.Standing.{next, behind, regrouped}
 use Rattle.block_lower.specs.Code.{Opens, Calls, call_test, call_entry, call_exit, parameter_cell, store, to}
 use Rattle.block_lower.specs.Layout.{return_cell, levels_cell, value_cell, Entry, entry_of, Activation}
-use Rattle.block_lower.specs.Main.{HasRoom, FunctionAt}
+use Rattle.block_lower.specs.Main.{HasRoom, FunctionAt, bare}
+use Rattle.block_lower.specs.Quiet.{list_is_quiet}
 use Rattle.block_lower.proofs.Activations.{word_popped, popped_length, clear_above, marks_from}
 use Rattle.block_lower.proofs.Arguments.{AreIn, are_in_same, held_bound, names_bound, wider}
 use Rattle.block_lower.proofs.Called.{with_value, value_then, back_with, going_back, body_set, entered_with, enter_is, deep_call, open_call}
@@ -56,6 +57,7 @@ use Rattle.block_lower.proofs.Callees.{Returns, HasPlace, CallsOwe}
 use Rattle.block_lower.proofs.Choices.{above_zero}
 use Rattle.block_lower.proofs.Moves.{opened, calm, jumps, traps}
 use Rattle.block_lower.proofs.Loops.{Passes}
+use Rattle.block_lower.proofs.Permitting.{Permits, loud_calls}
 use Rattle.block_lower.proofs.Promises.{following}
 use Rattle.block_lower.proofs.Regions.{Covers, all_front}
 use Rattle.block_lower.proofs.Results.{Result, fin, noting_then, notes_behind, notes_then, out, result, then}
@@ -259,7 +261,7 @@ module _ (code : Listing) (heartbeat z : ℕ) (act : Activation) (fuel : ℕ) (S
 
   -- the activation of the function, with room for so many variables
   abbrev pub inner : Entry → ℕ → Activation
-  inner entry most = record { tables = act.tables; functions = act.functions; most = most; size = entry.size }
+  inner entry most = record act { most = most; size = entry.size }
 
   -- ---- into the function
 
@@ -471,7 +473,7 @@ module _ (code : Listing) (heartbeat z : ℕ) (act : Activation) (fuel : ℕ) (S
             (register_other state.registers 31 0 (word.Int (pos z)) (λ (q : 0 ≡ 31). absurd (omega (arith, q))) ∙ is)
             (behind code back 1 _ more last second)))
 
-  module _ (lowest : S.lowest ≤ length names) (uncounted : S.counts ≡ false) (fs : List Func) (f : Name) (is_entry : entry_of act.functions f.text.items ≡ Some entry) (begin : List Note) (begin_passes : Passes code heartbeat z S begin) (instrs more : List Instr) (end last : Term) (call : Calls code act f.place entry instrs end more last) (goes : GoesOn more last) where
+  module _ (lowest : S.lowest ≤ length names) (uncounted : S.counts ≡ false) (permits : act.calls ≡ false → Permits code heartbeat z act.dispatch S) (fs : List Func) (f : Name) (is_entry : entry_of act.functions f.text.items ≡ Some entry) (begin : List Note) (begin_passes : Passes code heartbeat z S begin) (instrs more : List Instr) (end last : Term) (call : Calls code act f.place entry instrs end more last) (goes : GoesOn more last) where
     -- what a task owes at the tick, where calls have so many levels left
     abbrev Owing : ℕ → (w : Waiting) → Making w → Type 0
     Owing room w c = (S.owing w.world (then (result (with_call (call_at fs fuel room f.text.items f.place c.numbers begin w.state) (next_in w.value))) k)).Holds c.task
@@ -479,7 +481,7 @@ module _ (code : Listing) (heartbeat z : ℕ) (act : Activation) (fuel : ℕ) (S
     tested : (w : Waiting) (c : Making w) → Remains code c.task.block c.task.at instrs end → Remains code c.task.block c.task.at (call_test call.go f.place) term.Halt
     tested w c stands = regrouped code c.task.block c.task.at instrs (call_test call.go f.place) term.Halt call.test (subst (λ (t : Term). Remains code c.task.block c.task.at instrs t) call.stops stands)
 
-    goes_in : (room : ℕ) → S.levels ≡ suc room → CallsOwe code heartbeat fuel act.tables act.functions fs (suc room) → HasPlace z act (suc room) → (w : Waiting) (c : Making w) → Remains code c.task.block c.task.at instrs end → Owing (suc room) w c
+    goes_in : (room : ℕ) → S.levels ≡ suc room → CallsOwe code heartbeat fuel (bare act) fs (suc room) → HasPlace z act (suc room) → (w : Waiting) (c : Making w) → Remains code c.task.block c.task.at instrs end → Owing (suc room) w c
     goes_in room levels calls place w c stands =
         subst (λ (r : Result). (S.owing w.world r).Holds c.task) (sym (open_call fs fuel f.text.items f.place c.numbers begin w.state (next_in w.value) k room there.func there.named))
         (at_test w c (λ u. with_call (enter (body_set fs fuel room) (Some there.func) c.numbers begin u) (next_in w.value)) call.go f.place (tested w c stands)
@@ -494,22 +496,36 @@ module _ (code : Listing) (heartbeat z : ℕ) (act : Activation) (fuel : ℕ) (S
         (on_if code heartbeat K one 0 call.go (pos (suc room)) (next code one _ _ term.Halt here) is_left (above_zero room) (calm code call.go _ _ call.enters)
         (entering code heartbeat z act fuel room call.return K two entry.label there.is.instrs there.is.end there.is.begins (opened code call.go _ _ call.enters) shows.size shows.base is_left (omega (arith, calls.few)) low shows.low (omega (arith, shows.top, there.is.has_room.room))
         (λ words_in beat_in many base.
-        calls.owe f.text.items entry is_entry (z + act.size) place_in (callee code heartbeat z act fuel S names lowest place.has_room A kept next_in k room call.return) refl refl (λ c from. from) uncounted (returns lowest place.has_room low room call.return there.most more last call.behind goes) w (entered_with there.func c.numbers (later w.state))
+        calls.owe f.text.items entry is_entry (z + act.size) place_in (callee code heartbeat z act fuel S names lowest place.has_room A kept next_in k room call.return) refl refl (λ c from. from) uncounted permits_in (returns lowest place.has_room low room call.return there.most more last call.behind goes) w (entered_with there.func c.numbers (later w.state))
         (record two { registers = words_in; stack = entered_stack z act.size room call.return c.task.stack; beat = beat_in; block = entry.label; at = 0 })
         (shows_callee code heartbeat z act fuel S names lowest place.has_room A kept next_in k room call.return entry w c there.most there.func words_in spent (later w.state) there.arity (omega (arith, there.is.params, length-map there.func.params.items (λ (x : Name). x.text.items))) there.is.has_room
         (shows_words code heartbeat z (wider act entry.size) fuel S w.world shows c.task.registers (c.shows.size ∙ sym shows.size) (c.shows.base ∙ sym shows.base)) many base) refl refl))))))
       where
-        there : FunctionAt code act.tables act.functions fs f.text.items entry
+        there : FunctionAt code (bare act) fs f.text.items entry
         there = calls.are f.text.items entry is_entry
 
         low : z + act.size ≤ 2 ^ 62
         low = omega (arith, place.deep, place.has_room.fits)
 
+        -- where a point of promotion can be reached in the function, one can in the call
+        permits_in : list_is_quiet act.calls there.func.body.items ≡ false
+            → Permits code heartbeat (z + act.size) act.dispatch
+            (callee code heartbeat z act fuel S names lowest place.has_room A kept next_in k room call.return)
+        permits_in loud =
+            let outside : Permits code heartbeat z act.dispatch S =
+            permits (loud_calls fs f.text.items there.func there.named act.calls calls.quiet loud) in
+            record {
+              opened = outside.opened;
+              diverts = outside.diverts;
+              wholly = λ v t. outside.wholly v.world t;
+              met = λ v ts. outside.met v.world ts;
+            }
+
         place_in : HasPlace (z + act.size) (inner code heartbeat z act fuel S names lowest place.has_room A kept next_in k room call.return entry there.most) room
         place_in = record { has_room = there.is.has_room; deep = omega (arith, place.deep, place.has_room.fits) }
 
     -- a call, with what follows it
-    pub calls_law : (room : ℕ) → S.levels ≡ room → CallsOwe code heartbeat fuel act.tables act.functions fs room → HasPlace z act room → (w : Waiting) (c : Making w) → Remains code c.task.block c.task.at instrs end → Owing room w c
+    pub calls_law : (room : ℕ) → S.levels ≡ room → CallsOwe code heartbeat fuel (bare act) fs room → HasPlace z act room → (w : Waiting) (c : Making w) → Remains code c.task.block c.task.at instrs end → Owing room w c
     calls_law zero levels calls place w c stands =
         subst (λ (r : Result). (S.owing w.world r).Holds c.task) (sym (deep_call fs fuel f.text.items f.place c.numbers begin w.state (next_in w.value) k)) (too_deep w c call.go f.place levels (tested w c stands))
     calls_law (suc room) levels calls place w c stands = goes_in room levels calls place w c stands

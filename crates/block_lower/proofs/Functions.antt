@@ -22,11 +22,16 @@ use Rattle.expr_lower.proofs.Registers.{register_set, register_other}
 use Rattle.expr_lower.proofs.Standing.{next, behind, at_end}
 use Rattle.block_lower.specs.Code.{load}
 use Rattle.block_lower.specs.Layout.{cursor_cell, rec_cell, return_cell, value_cell, Entry, Activation}
-use Rattle.block_lower.specs.Main.{IsFunction, FunctionAt, AreFunctions}
+use Rattle.loop_syntax.specs.declared.Program.{Program}
+use Rattle.expr_lower.specs.Standing.{AreAt}
+use Rattle.handler_gen.specs.Blocks.{dispatch_block}
+use Rattle.block_lower.specs.Main.{IsFunction, FunctionAt, AreFunctions, bare}
+use Rattle.block_lower.specs.Quiet.{functions_are_quiet}
 use Rattle.block_lower.specs.Names.{names_after_list}
 use Rattle.block_lower.proofs.Called.{with_value, value_then, body_set}
 use Rattle.block_lower.proofs.Callees.{Returns, FunctionOwes, FunctionsOwe, CallsOwe}
 use Rattle.block_lower.proofs.Choices.{enters}
+use Rattle.block_lower.proofs.Cutting.{ProgramRules}
 use Rattle.block_lower.proofs.Law.{codes_law}
 use Rattle.block_lower.proofs.Results.{fin, result, then}
 use Rattle.block_lower.proofs.Scene.{Scene, ShowsIn, Owed}
@@ -51,21 +56,21 @@ module _ (code : Listing) (heartbeat z : ℕ) (act : Activation) (fuel : ℕ) (e
       (on_jump code heartbeat K two (value.Reg 1) (returns.label w) (at_end code two (term.Jump (value.Reg 1)) (behind code state.block at _ [] (term.Jump (value.Reg 1)) here)) (register_set words 1 back (omega (arith, shows_one.size))) (returns.calm w)
       (returns.goes_on w (names_after_list (texts f.params.items) f.body.items) st two n (counted (counted beat)) shows_two fits (register_other words 1 0 back (λ (q : 0 ≡ 1). absurd (omega (arith, q))) ∙ is_n))))
 
-module _ (code : Listing) (heartbeat fuel : ℕ) (expr_law : ExprLaw code heartbeat) (tables : List (List ℕ)) (entries : List Entry) (fs : List Func) where
+module _ (code : Listing) (heartbeat fuel : ℕ) (expr_law : ExprLaw code heartbeat) (base : Activation) (p : Program) (rules : ProgramRules p base.tables) (dispatches : AreAt code base.dispatch (dispatch_block base.dispatch ∷ [])) (quiet : base.calls ≡ functions_are_quiet p.funcs.items) where
   -- a function, where those that it calls owe what they give
-  pub function_law : (room : ℕ) → CallsOwe code heartbeat fuel tables entries fs room → (x : List ℕ) (entry : Entry) (f : FunctionAt code tables entries fs x entry) → FunctionOwes code heartbeat fuel tables entries fs x entry f room
-  function_law room calls x entry f z place C levels lowest may uncounted returns =
-      enters code heartbeat z act fuel C (texts f.func.params.items) entry.label f.is.instrs f.is.end (λ st. then (result (run_list (body_set fs fuel room) f.func.body.items st)) (value_then f.func.result)) f.is.begins
-      (codes_law code heartbeat z act fs fuel room expr_law calls place f.is.statements C (record { levels = levels; lowest = omega (arith, lowest); allows = λ y free. may (value_cell y) (omega arith); controls = λ d from below. (may (cursor_cell d) (omega arith), may (rec_cell d) (omega arith)); uncounted = uncounted }) (value_then f.func.result) (gives_value code heartbeat z act fuel expr_law C returns f.func entry.label f.is))
+  pub function_law : (room : ℕ) → CallsOwe code heartbeat fuel (bare base) p.funcs.items room → (x : List ℕ) (entry : Entry) (f : FunctionAt code (bare base) p.funcs.items x entry) → FunctionOwes code heartbeat fuel (bare base) p.funcs.items x entry f room
+  function_law room calls x entry f z place C levels lowest may uncounted permits returns =
+      enters code heartbeat z act fuel C (texts f.func.params.items) entry.label f.is.instrs f.is.end (λ st. then (result (run_list (body_set p.funcs.items fuel room) f.func.body.items st)) (value_then f.func.result)) f.is.begins
+      (codes_law code heartbeat z act p fuel room expr_law rules dispatches calls place f.is.statements C (record { levels = levels; lowest = omega (arith, lowest); allows = λ y free. may (value_cell y) (omega arith); controls = λ d from below. (may (cursor_cell d) (omega arith), may (rec_cell d) (omega arith)); uncounted = uncounted }) permits (rules.of_function x f.func f.named) (value_then f.func.result) (gives_value code heartbeat z act fuel expr_law C returns f.func entry.label f.is))
     where
       act : Activation
-      act = record { tables = tables; functions = entries; most = f.most; size = entry.size }
+      act = record base { most = f.most; size = entry.size }
 
   -- all of them, by the levels of calls that are left
-  pub functions_owe : (are : AreFunctions code tables entries fs) (room : ℕ) → room ≤ MAX_CALL_DEPTH → FunctionsOwe code heartbeat fuel tables entries fs are room
+  pub functions_owe : (are : AreFunctions code (bare base) p.funcs.items) (room : ℕ) → room ≤ MAX_CALL_DEPTH → FunctionsOwe code heartbeat fuel (bare base) p.funcs.items are room
   functions_owe are zero few = tt
-  functions_owe are (suc room) few = λ x entry is. function_law room (record { few = omega (arith, few); are = are; owe = functions_owe are room (omega (arith, few)) }) x entry (are x entry is)
+  functions_owe are (suc room) few = λ x entry is. function_law room (record { few = omega (arith, few); quiet = quiet; are = are; owe = functions_owe are room (omega (arith, few)) }) x entry (are x entry is)
 
   -- what the code of main's statements takes from them
-  pub calls_owe : (are : AreFunctions code tables entries fs) (room : ℕ) → room ≤ MAX_CALL_DEPTH → CallsOwe code heartbeat fuel tables entries fs room
-  calls_owe are room few = record { few = few; are = are; owe = functions_owe are room few }
+  pub calls_owe : (are : AreFunctions code (bare base) p.funcs.items) (room : ℕ) → room ≤ MAX_CALL_DEPTH → CallsOwe code heartbeat fuel (bare base) p.funcs.items room
+  calls_owe are room few = record { few = few; quiet = quiet; are = are; owe = functions_owe are room few }

@@ -1,7 +1,10 @@
 -- The law of the code of statements: inside any scene, where a task that shows a state behind it owes what
 -- follows, a task that shows a state before it owes what the statements give and what follows.
-use Rattle.std.proofs.Common.{ℕ, List, [], ◌∷◌, ◌++◌, length, Some, None, sym, subst}
+use Rattle.std.proofs.Common.{◌≡◌, ℕ, Bool, true, false, List, [], ◌∷◌, ◌++◌, length, Some, None, refl, sym, subst, ◌∙◌}
+use Rattle.std.proofs.lemmas.Bool.{true≢false}
 use Rattle.loop_syntax.specs.declared.Func.{Func}
+use Rattle.loop_syntax.specs.declared.ParLoop.{ParLoop}
+use Rattle.loop_syntax.specs.declared.Program.{Program}
 use Rattle.loop_syntax.specs.declared.Stmt.{Stmt}
 use Rattle.loop_meaning.specs.Calls.{call_at}
 use Rattle.loop_meaning.specs.State as meaning
@@ -9,18 +12,26 @@ use Rattle.loop_meaning.specs.Statements.{Setting, block, run, run_list}
 use Rattle.tpal_syntax.specs.declared.instructions.Instr.{Instr}
 use Rattle.tpal_syntax.specs.declared.instructions.Term.{Term}
 use Rattle.tpal_syntax.specs.Listing.{Listing}
+use Rattle.expr_lower.specs.Standing.{AreAt}
+use Rattle.handler_gen.specs.Blocks.{dispatch_block}
 use Rattle.block_lower.specs.Layout.{Activation}
-use Rattle.block_lower.specs.Code.{IsCell, Opens, Code, let_code, set_code, put_code, put_kept_code, print_code, emit_code, if_code, while_code, loop_code, loop_to_code, par_code, fold_code, fold_nothing_code, call_code, both_code, Codes, none, one_more, Branch, branch, Other, nothing, something}
+use Rattle.block_lower.specs.Main.{bare}
+use Rattle.block_lower.specs.Quiet.{is_quiet, list_is_quiet}
+use Rattle.block_lower.specs.Code.{IsCell, Opens, Code, let_code, set_code, put_code, put_kept_code, print_code, emit_code, if_code, while_code, loop_code, loop_to_code, par_code, quiet_par_code, fold_code, fold_nothing_code, call_code, both_code, Codes, none, one_more, Branch, branch, Other, nothing, something}
 use Rattle.block_lower.specs.Names.{names_after, names_after_list}
 use Rattle.block_lower.specs.Round.{Round}
 use Rattle.block_lower.proofs.Admitting.{Admits, admits_more, admits_later, admits_loop, admits_par}
 use Rattle.block_lower.proofs.Callees.{CallsOwe, HasPlace}
 use Rattle.block_lower.proofs.CallStatements.{call_law, both_law}
 use Rattle.block_lower.proofs.Choices.{OwedAt, blocks, leaves, nothing_done, if_law, first_names, first_names_in, more_names_one}
+use Rattle.block_lower.proofs.Cutting.{MayCut, ProgramRules}
 use Rattle.block_lower.proofs.Emits.{emit_law}
 use Rattle.block_lower.proofs.Folds.{fold_law, fold_nothing_law}
 use Rattle.block_lower.proofs.Loops.{inside, loop_law, loop_to_law}
+use Rattle.block_lower.proofs.Occurring.{Occurs, OccursIn, itself, in_if, in_other, in_while, in_loop, in_par, at_first, at_later}
 use Rattle.block_lower.proofs.Pars.{par_law}
+use Rattle.block_lower.proofs.Permitting.{Permits, permits_later, permits_inside, first_loud, second_loud, loud_if, loud_other, loud_while, loud_loop}
+use Rattle.block_lower.proofs.QuietStatements.{quiet_statement}
 use Rattle.block_lower.proofs.Puts.{put_law, put_kept_law}
 use Rattle.block_lower.proofs.Results.{Result, result, then, left, after_then}
 use Rattle.block_lower.proofs.Scene.{Scene, Owed}
@@ -28,7 +39,10 @@ use Rattle.block_lower.proofs.Simple.{let_law, set_law, print_law}
 use Rattle.block_lower.proofs.Ticks.{later_in, while_law}
 use Rattle.block_lower.proofs.Values.{ExprLaw}
 
-module _ (code : Listing) (heartbeat z : ℕ) (act : Activation) (fs : List Func) (fuel room : ℕ) (expr_law : ExprLaw code heartbeat) (calls : CallsOwe code heartbeat fuel act.tables act.functions fs room) (place : HasPlace z act room) where
+module _ (code : Listing) (heartbeat z : ℕ) (act : Activation) (p : Program) (fuel room : ℕ) (expr_law : ExprLaw code heartbeat) (rules : ProgramRules p act.tables) (dispatches : AreAt code act.dispatch (dispatch_block act.dispatch ∷ [])) (calls : CallsOwe code heartbeat fuel (bare act) p.funcs.items room) (place : HasPlace z act room) where
+  abbrev fs : List Func
+  fs = p.funcs.items
+
   -- how the statements run that this stands round, where so many levels of calls are left
   abbrev pub setting : Round → Setting
   setting round = record { reduces = round.reduces; fuel = fuel; call = call_at fs fuel room }
@@ -36,6 +50,14 @@ module _ (code : Listing) (heartbeat z : ℕ) (act : Activation) (fs : List Func
   -- what the law asks of a scene
   abbrev Admitted : Scene code heartbeat z → Round → List (List ℕ) → Type 0
   Admitted S round names = Admits code heartbeat z room S round names
+
+  -- a scene permits what may not be quiet
+  abbrev Permitted : Scene code heartbeat z → Bool → Type 0
+  Permitted S quiet = quiet ≡ false → Permits code heartbeat z act.dispatch S
+
+  -- the loops that occur may be cut
+  abbrev Cuttable : List (List ℕ) → List Stmt → Type 0
+  Cuttable names ss = (outside : List (List ℕ)) (l : ParLoop) → OccursIn l outside names ss → MayCut p outside l
 
   -- the cell of a variable that isn't fixed may change
   changes : {S : Scene code heartbeat z} {round : Round} {names : List (List ℕ)} {x : List ℕ}
@@ -57,57 +79,63 @@ module _ (code : Listing) (heartbeat z : ℕ) (act : Activation) (fs : List Func
   first_of_other (something b) opens = first_of b
 
   mutual
-    pub law : {round : Round} {names : List (List ℕ)} {s : Stmt} {instrs more : List Instr} {end last : Term} → Code code act round names s instrs end more last → (S : Scene code heartbeat z) → Admitted S round names → (k : meaning.State → Result)
+    pub law : {round : Round} {names : List (List ℕ)} {s : Stmt} {instrs more : List Instr} {end last : Term} → Code code act round names s instrs end more last → (S : Scene code heartbeat z) → Admitted S round names → Permitted S (is_quiet act.calls s) → ((outside : List (List ℕ)) (l : ParLoop) → Occurs l outside names s → MayCut p outside l) → (k : meaning.State → Result)
         → Owed code heartbeat z act fuel S (names_after names s) more last k → Owed code heartbeat z act fuel S names instrs end (λ st. then (result (run (setting round) s st)) k)
-    law (let_code {round} {names} {x = x} {e = e} {v = v} room_left c) S admits k post = let_law code heartbeat z act (setting round) expr_law S names admits.lowest k x e v _ _ _ room_left c post
-    law (set_code {round} {names} {x = x} {e = e} {v = v} {cell = cell} is c) S admits k post = set_law code heartbeat z act (setting round) expr_law S names admits.lowest k round.fixed x e v cell _ _ _ is (changes admits is) c post
-    law (print_code {round} {names} {place = place} {e = e} c) S admits k post = print_law code heartbeat z act (setting round) expr_law S names admits.lowest k place e _ _ _ c post
-    law (if_code {round} {names} {e = e} body other {first} {second} {exit} c yes_branch no_branch ends) S admits k post =
+    law (let_code {round} {names} {x = x} {e = e} {v = v} room_left c) S admits permits cuts k post = let_law code heartbeat z act (setting round) expr_law S names admits.lowest k x e v _ _ _ room_left c post
+    law (set_code {round} {names} {x = x} {e = e} {v = v} {cell = cell} is c) S admits permits cuts k post = set_law code heartbeat z act (setting round) expr_law S names admits.lowest k round.fixed x e v cell _ _ _ is (changes admits is) c post
+    law (print_code {round} {names} {place = place} {e = e} c) S admits permits cuts k post = print_law code heartbeat z act (setting round) expr_law S names admits.lowest k place e _ _ _ c post
+    law (if_code {round} {names} {e = e} body other {first} {second} {exit} c yes_branch no_branch ends) S admits permits cuts k post =
         let one : First first = first_of yes_branch in
         let two : First second = first_of_other no_branch ends in
         if_law code heartbeat z act (setting round) expr_law S names k e body other first second _ one.instrs two.instrs one.end two.end c one.opens two.opens
-        (branch_law yes_branch S admits k ends post) (other_law no_branch S admits k ends post)
-    law (while_code {round} {names} {e = e} body {again} {exit} {inner = inner} {test = test} {last = last} c begins inner_code test_code ends) S admits k post =
+        (branch_law yes_branch S admits (λ loud. permits (loud_if act.calls e body other loud)) (λ outside l o. cuts outside l (in_if body other o)) k ends post) (other_law no_branch S admits (λ loud. permits (loud_other act.calls e body other loud)) (λ outside l o. cuts outside l (in_other body other o)) k ends post)
+    law (while_code {round} {names} {e = e} body {again} {exit} {inner = inner} {test = test} {last = last} c begins inner_code test_code ends) S admits permits cuts k post =
         while_law code heartbeat z act (setting round) expr_law S names (names_after_list names body.items) (first_names names body.items) k e body again exit _ inner test _ last _ c begins test_code ends post
-        (λ n f after_it. codes_law inner_code (later_in code heartbeat z S n) (admits_later code heartbeat z room admits n) f after_it)
-    law (loop_code {round} {names} {x = x} {a = a} {b = b} body {again} {exit} {second = second} {inner = inner} {last = last} room_left c d begins inner_code ends) S admits k post =
+        (λ n f after_it. codes_law inner_code (later_in code heartbeat z S n) (admits_later code heartbeat z room admits n) (λ loud. permits_later code heartbeat z act.dispatch n (permits (loud_while act.calls e body loud))) (λ outside l o. cuts outside l (in_while body o)) f after_it)
+    law (loop_code {round} {names} {x = x} {a = a} {b = b} body {again} {exit} {second = second} {inner = inner} {last = last} room_left c d begins inner_code ends) S admits permits cuts k post =
         loop_law code heartbeat z act (setting round) expr_law S names (names_after_list (names ++ x.text.items ∷ []) body.items) admits.lowest room_left (first_names_in names x.text.items body.items) k x a b body again exit _ second inner _ last _ c d begins ends post
-        (λ j m f after_it. codes_law inner_code (inside code heartbeat z S (length names) admits.lowest m (Some j)) (admits_loop code heartbeat z room admits x.text.items m (Some j)) f after_it)
-    law (loop_to_code {round} {names} {x = x} {a = a} {b = b} body {n} {again} {exit} {inner = inner} {last = last} room_left is_literal in_n c begins inner_code ends) S admits k post =
+        (λ j m f after_it. codes_law inner_code (inside code heartbeat z S (length names) admits.lowest m (Some j)) (admits_loop code heartbeat z room admits x.text.items m (Some j)) (λ loud. permits_inside code heartbeat z act.dispatch (length names) admits.lowest m (Some j) (permits (loud_loop act.calls x a b body loud))) (λ outside l o. cuts outside l (in_loop body o)) f after_it)
+    law (loop_to_code {round} {names} {x = x} {a = a} {b = b} body {n} {again} {exit} {inner = inner} {last = last} room_left is_literal in_n c begins inner_code ends) S admits permits cuts k post =
         loop_to_law code heartbeat z act (setting round) expr_law S names (names_after_list (names ++ x.text.items ∷ []) body.items) admits.lowest room_left (first_names_in names x.text.items body.items) k x a b body n again exit _ inner _ last _ is_literal in_n c begins ends post
-        (λ m f after_it. codes_law inner_code (inside code heartbeat z S (length names) admits.lowest m None) (admits_loop code heartbeat z room admits x.text.items m None) f after_it)
-    law (put_code {round} {names} {t = t} {a} {b} {e} {table} {trap} is c d f traps) S admits k post =
+        (λ m f after_it. codes_law inner_code (inside code heartbeat z S (length names) admits.lowest m None) (admits_loop code heartbeat z room admits x.text.items m None) (λ loud. permits_inside code heartbeat z act.dispatch (length names) admits.lowest m None (permits (loud_loop act.calls x a b body loud))) (λ outside l o. cuts outside l (in_loop body o)) f after_it)
+    law (put_code {round} {names} {t = t} {a} {b} {e} {table} {trap} is c d f traps) S admits permits cuts k post =
         put_law code heartbeat z act (setting round) expr_law S names admits.lowest k t a b e table trap _ _ _ _ _ is c d f traps post
-    law (put_kept_code {round} {names} {t = t} {a} {b} {e} {table} {trap} keeps is c d f traps) S admits k post =
+    law (put_kept_code {round} {names} {t = t} {a} {b} {e} {table} {trap} keeps is c d f traps) S admits permits cuts k post =
         put_kept_law code heartbeat z act (setting round) expr_law S names admits.lowest k t a b e table trap _ _ _ _ _ keeps is c d f traps post
-    law (par_code {round} {names} l {check} {wide} {again} {exit} shallow room_left c d tests traps begins inner_code ends) S admits k post =
+    law (par_code {round} {names} l {check} {wide} {again} {exit} shallow room_left deep c d tests traps begins inner_code ends) S admits permits cuts k post =
         par_law code heartbeat z act (setting round) expr_law S names (names_after_list (names ++ l.var.text.items ∷ []) l.body.items) admits.lowest room_left (first_names_in names l.var.text.items l.body.items) k admits.uncounted l check wide again exit _ _ _ _ _ _ c d tests traps begins ends post
-        (λ j m f after_it. codes_law inner_code (inside code heartbeat z S (length names) admits.lowest m (Some j)) (admits_par code heartbeat z room admits l.var.text.items m (Some j) l.reduces.items) f after_it)
-    law (fold_code {round} {names} {x = x} {e} {o} {v} {cell} is_op is c) S admits k post =
+        (λ j m f after_it. codes_law inner_code (inside code heartbeat z S (length names) admits.lowest m (Some j)) (admits_par code heartbeat z room admits l.var.text.items m (Some j) l.reduces.items) (λ loud. permits_inside code heartbeat z act.dispatch (length names) admits.lowest m (Some j) (permits refl)) (λ outside o occurs. cuts outside o (in_par l occurs)) f after_it)
+    law (quiet_par_code {round} {names} l site {check} {first = start} {head} {exit} shallow room_left quiet free c d is_site begins inner_code ready again_code ends) S admits permits cuts k post =
+        quiet_statement code heartbeat z act p fuel room expr_law rules dispatches calls.few S (permits refl) round names admits k l site check start head exit (cuts names l itself) shallow room_left free _ _ _ _ _ _ _ _ c d is_site begins ready ends
+        (names_after_list (names ++ l.var.text.items ∷ []) l.body.items) (first_names_in names l.var.text.items l.body.items) post
+        (λ T inner_admits f after_it. codes_law inner_code T inner_admits (λ loud. absurd (true≢false (sym quiet ∙ loud))) (λ outside o occurs. cuts outside o (in_par l occurs)) f after_it)
+        (λ T inner_admits f after_it. codes_law again_code T inner_admits (λ loud. absurd (true≢false (sym quiet ∙ loud))) (λ outside o occurs. cuts outside o (in_par l occurs)) f after_it)
+    law (fold_code {round} {names} {x = x} {e} {o} {v} {cell} is_op is c) S admits permits cuts k post =
         fold_law code heartbeat z act (setting round) expr_law S names admits.lowest k round.fixed x e o v cell _ _ _ is_op is (changes admits is) c post
-    law (fold_nothing_code {round} {names} {x = x} {e} is_none c) S admits k post =
+    law (fold_nothing_code {round} {names} {x = x} {e} is_none c) S admits permits cuts k post =
         fold_nothing_law code heartbeat z act (setting round) expr_law S names admits.lowest k x e _ _ _ is_none c post
-    law (emit_code {round} {names} {place = place} {t = t} {table} is) S admits k post =
+    law (emit_code {round} {names} {place = place} {t = t} {table} is) S admits permits cuts k post =
         emit_law code heartbeat z act (setting round) S names k place t table _ _ is post
-    law (call_code {round} {names} {x = x} {f} {entry} {cell} is_entry arity is args call) S admits k post =
-        call_law code heartbeat z act fuel fs room expr_law calls place S admits.levels names admits.lowest admits.uncounted round.reduces k round.fixed x f entry cell _ _ _ _ _ is_entry arity is (changes admits is) args call post
-    law (both_code {round} {names} {x = x} {y} {f} {g} {first} {second} {x_cell} {y_cell} kept is_first arity_first is_second arity_second is_x is_y eight args others first_call second_call) S admits k post =
-        both_law code heartbeat z act fuel fs room expr_law calls place S admits.levels names admits.lowest admits.uncounted round.reduces k round.fixed x y f g first second x_cell y_cell _ _ _ _ _ _ _ _ kept is_first arity_first is_second arity_second is_x (changes admits is_x) is_y (changes admits is_y) eight second_call post args others first_call
+    law (call_code {round} {names} {x = x} {f} {entry} {cell} is_entry arity is args call) S admits permits cuts k post =
+        call_law code heartbeat z act fuel fs room expr_law calls place S admits.levels names admits.lowest admits.uncounted permits round.reduces k round.fixed x f entry cell _ _ _ _ _ is_entry arity is (changes admits is) args call post
+    law (both_code {round} {names} {x = x} {y} {f} {g} {first} {second} {x_cell} {y_cell} kept is_first arity_first is_second arity_second is_x is_y eight args others first_call second_call) S admits permits cuts k post =
+        both_law code heartbeat z act fuel fs room expr_law calls place S admits.levels names admits.lowest admits.uncounted (λ loud. permits refl) round.reduces k round.fixed x y f g first second x_cell y_cell _ _ _ _ _ _ _ _ kept is_first arity_first is_second arity_second is_x (changes admits is_x) is_y (changes admits is_y) eight second_call post args others first_call
 
-    pub codes_law : {round : Round} {names : List (List ℕ)} {ss : List Stmt} {instrs more : List Instr} {end last : Term} → Codes code act round names ss instrs end more last → (S : Scene code heartbeat z) → Admitted S round names → (k : meaning.State → Result)
+    pub codes_law : {round : Round} {names : List (List ℕ)} {ss : List Stmt} {instrs more : List Instr} {end last : Term} → Codes code act round names ss instrs end more last → (S : Scene code heartbeat z) → Admitted S round names → Permitted S (list_is_quiet act.calls ss) → Cuttable names ss → (k : meaning.State → Result)
         → Owed code heartbeat z act fuel S (names_after_list names ss) more last k → Owed code heartbeat z act fuel S names instrs end (λ st. then (result (run_list (setting round) ss st)) k)
-    codes_law none S admits k post = post
-    codes_law (one_more {round} {names} {s = s} {ss = ss} c cs) S admits k post = λ i st state shows stands.
+    codes_law none S admits permits cuts k post = post
+    codes_law (one_more {round} {names} {s = s} {ss = ss} c cs) S admits permits cuts k post = λ i st state shows stands.
         subst (λ (r : Result). (S.owing i r).Holds state) (sym (after_then (run (setting round) s st) (run_list (setting round) ss) k))
-        (law c S admits (λ t. then (result (run_list (setting round) ss t)) k) (codes_law cs S (admits_more code heartbeat z room admits (more_names_one names s)) k post) i st state shows stands)
+        (law c S admits (λ loud. permits (first_loud (is_quiet act.calls s) (list_is_quiet act.calls ss) loud)) (λ outside l o. cuts outside l (at_first o)) (λ t. then (result (run_list (setting round) ss t)) k)
+        (codes_law cs S (admits_more code heartbeat z room admits (more_names_one names s)) (λ loud. permits (second_loud (is_quiet act.calls s) (list_is_quiet act.calls ss) loud)) (λ outside l o. cuts outside l (at_later o)) k post) i st state shows stands)
 
-    branch_law : {round : Round} {names : List (List ℕ)} {body : List Stmt} {label exit : ℕ} {more : List Instr} {end : Term} → Branch code act round names body label exit → (S : Scene code heartbeat z) → Admitted S round names → (k : meaning.State → Result) → Opens code exit more end
+    branch_law : {round : Round} {names : List (List ℕ)} {body : List Stmt} {label exit : ℕ} {more : List Instr} {end : Term} → Branch code act round names body label exit → (S : Scene code heartbeat z) → Admitted S round names → Permitted S (list_is_quiet act.calls body) → Cuttable names body → (k : meaning.State → Result) → Opens code exit more end
         → Owed code heartbeat z act fuel S names more end k → OwedAt code heartbeat z act fuel S names label (λ st. then (result (block (run_list (setting round) body) st)) k)
-    branch_law {more = more} {end = end} (branch {round} {names} {body = body} {label = label} {exit = exit} opens inner) S admits k ends post =
+    branch_law {more = more} {end = end} (branch {round} {names} {body = body} {label = label} {exit = exit} opens inner) S admits permits cuts k ends post =
         blocks code heartbeat z act fuel (setting round) S names body label _ _ k opens
-        (codes_law inner S admits (λ s. k (left (length names) s)) (leaves code heartbeat z act fuel S names (names_after_list names body) exit more end k (first_names names body) ends post))
+        (codes_law inner S admits permits cuts (λ s. k (left (length names) s)) (leaves code heartbeat z act fuel S names (names_after_list names body) exit more end k (first_names names body) ends post))
 
-    other_law : {round : Round} {names : List (List ℕ)} {body : List Stmt} {label exit : ℕ} {more : List Instr} {end : Term} → Other code act round names body label exit → (S : Scene code heartbeat z) → Admitted S round names → (k : meaning.State → Result) → Opens code exit more end
+    other_law : {round : Round} {names : List (List ℕ)} {body : List Stmt} {label exit : ℕ} {more : List Instr} {end : Term} → Other code act round names body label exit → (S : Scene code heartbeat z) → Admitted S round names → Permitted S (list_is_quiet act.calls body) → Cuttable names body → (k : meaning.State → Result) → Opens code exit more end
         → Owed code heartbeat z act fuel S names more end k → OwedAt code heartbeat z act fuel S names label (λ st. then (result (block (run_list (setting round) body) st)) k)
-    other_law {more = more} {end = end} (nothing {round} {names} {exit = exit}) S admits k ends post = nothing_done code heartbeat z act fuel (setting round) S names exit more end k ends post
-    other_law (something b) S admits k ends post = branch_law b S admits k ends post
+    other_law {more = more} {end = end} (nothing {round} {names} {exit = exit}) S admits permits cuts k ends post = nothing_done code heartbeat z act fuel (setting round) S names exit more end k ends post
+    other_law (something b) S admits permits cuts k ends post = branch_law b S admits permits cuts k ends post

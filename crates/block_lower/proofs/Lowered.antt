@@ -1,10 +1,10 @@
 -- The code of each statement is written where that of its parts is.
-use Rattle.std.proofs.Common.{◌≡◌, ℕ, List, [], ◌∷◌, ◌++◌, length, Some, refl, sym, subst}
+use Rattle.std.proofs.Common.{◌≡◌, ℕ, List, [], ◌∷◌, ◌++◌, length, Some, Vec, refl, sym, subst}
 use Rattle.std.specs.Prelude.{ℤ}
+use Rattle.std.specs.declared.alloc.Global.{Global}
 use Rattle.tp_value.specs.declared.Place.{Place}
 use Rattle.loop_syntax.specs.declared.Name.{Name}
 use Rattle.loop_syntax.specs.declared.Expr.{Expr}
-use Rattle.loop_syntax.specs.declared.Reduce.{Reduce}
 use Rattle.loop_syntax.specs.declared.Stmt.{Stmt}
 use Rattle.loop_syntax.specs.declared.Stmt.TheVariants.{Let, Set, If, While, Print}
 use Rattle.loop_meaning.specs.InRange.{InRange}
@@ -20,16 +20,17 @@ use Rattle.expr_lower.specs.Bodies.{literal}
 use Rattle.expr_lower.specs.Scopes.{offset_of}
 use Rattle.block_lower.specs.declared.body.Body.{Body}
 use Rattle.block_lower.specs.declared.output.Output.{Output}
+use Rattle.block_lower.specs.declared.round.Round as told
 use Rattle.block_lower.specs.Bodies.{entries, activation}
 use Rattle.block_lower.specs.Code.{Opens, Computes, Operand, number, computed, IsCell, Code, let_code, set_code, print_code, if_code, while_code, Codes, Branch, branch, Other, nothing, something, to, store}
 use Rattle.block_lower.specs.Fitting.{AllFit, IsFree, level_of}
 use Rattle.block_lower.specs.Layout.{value_cell}
-use Rattle.block_lower.specs.Lowering.{WritesValue, WritesOperand, WritesTest, WritesBelow, Lowers, WithBody, LowersAll, LowersBranch, LowersOther, LowersBody}
+use Rattle.block_lower.specs.Lowering.{IsRound, WritesValue, WritesOperand, WritesTest, WritesBelow, Lowers, WithBody, LowersAll, LowersBranch, LowersOther, LowersBody}
 use Rattle.block_lower.specs.Names.{Sees, SeesAfter, names_after_list}
-use Rattle.block_lower.specs.Writing.{label, IsFresh, Pushes, Closes, Stands, Continues, Leads}
+use Rattle.block_lower.specs.Writing.{label, IsEmpty, IsFresh, Pushes, Closes, Stands, Continues, Leads}
 use Rattle.block_lower.proofs.Fitting.{fit_of_vec, fit_before, fit_last, codes_more}
 use Rattle.block_lower.proofs.Seeing.{as_long, cell_of_level, seen_variable}
-use Rattle.block_lower.proofs.Writing.{pushed, closed_block, fresh_opens}
+use Rattle.block_lower.proofs.Writing.{pushed, closed_block, empty_opens, fresh_opens}
 
 -- ---- operands and tests
 
@@ -53,10 +54,10 @@ below_written counter bound again exit old calc jumps new first second close cod
 
 -- ---- statements
 
-module _ (on : Body) (reduces : List Reduce) where
+module _ (on : Body) (as_told : told.Round) where
   -- ---- simple statements
 
-  pub let_written : (scope : Scope) (x : Name) (e : Expr) (v : Value) (old valued new : Output) → WritesOperand scope e 0 v old valued → Pushes (store (value_cell (length scope.cells.items)) v ∷ []) valued new → Lowers on reduces scope (Let x e) old new
+  pub let_written : (scope : Scope) (x : Name) (e : Expr) (v : Value) (old valued new : Output) → WritesOperand scope e 0 v old valued → Pushes (store (value_cell (length scope.cells.items)) v ∷ []) valued new → Lowers on as_told scope (Let x e) old new
   let_written scope x e v old valued new writes push code tables names round more last same sees fits c =
       let cell : ℕ → Instr = λ n. store (value_cell n) v in
       let w : Leads code old (λ instrs end. (end ≡ last) × Operand code (activation on tables) names e 0 v instrs (cell (length scope.cells.items) ∷ more)) =
@@ -82,7 +83,7 @@ module _ (on : Body) (reduces : List Reduce) where
     free = free.free;
   }
 
-  pub set_written : (scope : Scope) (x : Name) (e : Expr) (v : Value) (old valued new : Output) → WritesOperand scope e 0 v old valued → Pushes (store (offset_of scope x.text.items) v ∷ []) valued new → Lowers on reduces scope (Set x e) old new
+  pub set_written : (scope : Scope) (x : Name) (e : Expr) (v : Value) (old valued new : Output) → WritesOperand scope e 0 v old valued → Pushes (store (offset_of scope x.text.items) v ∷ []) valued new → Lowers on as_told scope (Set x e) old new
   set_written scope x e v old valued new writes push code tables names round more last same sees fits c =
       let cell : Instr = store (offset_of scope x.text.items) v in
       let w : Leads code old (λ instrs end. (end ≡ last) × Operand code (activation on tables) names e 0 v instrs (cell ∷ more)) =
@@ -95,7 +96,7 @@ module _ (on : Body) (reduces : List Reduce) where
             (set_code (cell_is scope tables names round.fixed x.text.items code sees fits.0) w.told.1);
       }
 
-  pub print_written : (scope : Scope) (place : Place) (e : Expr) (old valued new : Output) → WritesValue scope e 0 old valued → Pushes (instr.Print 0 ∷ []) valued new → Lowers on reduces scope (Print place e) old new
+  pub print_written : (scope : Scope) (place : Place) (e : Expr) (old valued new : Output) → WritesValue scope e 0 old valued → Pushes (instr.Print 0 ∷ []) valued new → Lowers on as_told scope (Print place e) old new
   print_written scope place e old valued new writes push code tables names round more last same sees fits c =
       let w : Leads code old (λ instrs end. (end ≡ last) × Computes code (activation on tables) names e 0 instrs (instr.Print 0 ∷ more)) =
       writes code (activation on tables) names (instr.Print 0 ∷ more) last sees fits (pushed code valued new (instr.Print 0 ∷ []) more last push c) in
@@ -108,10 +109,10 @@ module _ (on : Body) (reduces : List Reduce) where
 
   -- ---- statements in order
 
-  pub none_written : (scope : Scope) (old : Output) → LowersAll on reduces scope [] old old
+  pub none_written : (scope : Scope) (old : Output) → LowersAll on as_told scope [] old old
   none_written scope old code tables names round more last same sees fits c = record { instrs = more; end = last; continues = c; told = Codes.none }
 
-  pub more_written : (scope between : Scope) (ss : List Stmt) (s : Stmt) (old middle new : Output) → LowersAll on reduces scope ss old middle → SeesAfter (λ names. names_after_list names ss) scope between → Lowers on reduces between s middle new → LowersAll on reduces scope (ss ++ s ∷ []) old new
+  pub more_written : (scope between : Scope) (ss : List Stmt) (s : Stmt) (old middle new : Output) → LowersAll on as_told scope ss old middle → SeesAfter (λ names. names_after_list names ss) scope between → Lowers on as_told between s middle new → LowersAll on as_told scope (ss ++ s ∷ []) old new
   more_written scope between ss s old middle new all keeps one code tables names round more last same sees fits c =
       let w : Leads code middle (λ instrs end. Code code (activation on tables) round (names_after_list names ss) s instrs end more last) =
       one code tables (names_after_list names ss) round more last same (keeps names tables sees) (fit_last tables (entries on.callees.items) on.most round names ss s fits) c in
@@ -121,25 +122,25 @@ module _ (on : Body) (reduces : List Reduce) where
 
   -- ---- branches
 
-  pub branch_written : (scope : Scope) (body : List Stmt) (exit : ℕ) (old inner new : Output) → IsFresh old → LowersAll on reduces scope body old inner → Closes (to exit) inner new → LowersBranch on reduces scope body exit old new
+  pub branch_written : (scope : Scope) (body : List Stmt) (exit : ℕ) (old inner new : Output) → IsFresh old → LowersAll on as_told scope body old inner → Closes (to exit) inner new → LowersBranch on as_told scope body exit old new
   branch_written scope body exit old inner new fresh all close code tables names round same sees fits stands =
       let w : Leads code old (λ instrs end. Codes code (activation on tables) round names body instrs end [] (to exit)) =
       all code tables names round [] (to exit) same sees fits (closed_block code inner new (to exit) close stands) in
       (w.continues.closed, branch (fresh_opens code old w.instrs w.end fresh w.continues) w.told)
 
-  pub other_written : (scope : Scope) (body : List Stmt) (exit : ℕ) (old new : Output) → LowersBranch on reduces scope body exit old new → LowersOther on reduces scope body exit old new
+  pub other_written : (scope : Scope) (body : List Stmt) (exit : ℕ) (old new : Output) → LowersBranch on as_told scope body exit old new → LowersOther on as_told scope body exit old new
   other_written scope body exit old new lowers code tables names round same sees fits stands exits =
       let w : Stands code old × Branch code (activation on tables) round names body (label old) exit = lowers code tables names round same sees fits stands in
       (w.0, something w.1)
 
-  pub no_other_written : (scope : Scope) (exit : ℕ) (old : Output) → LowersOther on reduces scope [] exit old old
+  pub no_other_written : (scope : Scope) (exit : ℕ) (old : Output) → LowersOther on as_told scope [] exit old old
   no_other_written scope exit old code tables names round same sees fits stands exits =
       (stands, subst (λ (l : ℕ). Other code (activation on tables) round names [] l exit) exits nothing)
 
   pub if_written : (scope second_scope : Scope) (e : Expr) (body other : List Stmt) (first second exit : ℕ) (old test middle new : Output)
-      → WritesTest scope e first second old test → LowersBranch on reduces scope body exit test middle → LowersOther on reduces second_scope other exit middle new
+      → WritesTest scope e first second old test → LowersBranch on as_told scope body exit test middle → LowersOther on as_told second_scope other exit middle new
       → SeesAfter (λ names. names) scope second_scope → IsFresh new → first ≡ label test → second ≡ label middle → exit ≡ label new
-      → WithBody body (λ v. WithBody other (λ w. Lowers on reduces scope (If e v w) old new))
+      → WithBody body (λ v. WithBody other (λ w. Lowers on as_told scope (If e v w) old new))
   if_written scope second_scope e body other first second exit old test middle new tests one two keeps fresh first_is second_is exit_is p is q is_other code tables names round more last same sees fits c =
       let inside : AllFit tables (entries on.callees.items) on.most round names body =
       subst (λ (ss : List Stmt). AllFit tables (entries on.callees.items) on.most round names ss) is (fit_of_vec tables (entries on.callees.items) on.most round names p fits.1) in
@@ -165,8 +166,8 @@ module _ (on : Body) (reduces : List Reduce) where
   -- ---- loops
 
   pub while_written : (scope last_scope : Scope) (e : Expr) (body : List Stmt) (again exit : ℕ) (old test tick inner new : Output)
-      → WritesTest scope e again exit old test → IsFresh test → again ≡ label test → Pushes (instr.Tick ∷ []) test tick → LowersAll on reduces scope body tick inner
-      → SeesAfter (λ names. names) scope last_scope → WritesTest last_scope e again exit inner new → IsFresh new → exit ≡ label new → WithBody body (λ v. Lowers on reduces scope (While e v) old new)
+      → WritesTest scope e again exit old test → IsFresh test → again ≡ label test → Pushes (instr.Tick ∷ []) test tick → LowersAll on as_told scope body tick inner
+      → SeesAfter (λ names. names) scope last_scope → WritesTest last_scope e again exit inner new → IsFresh new → exit ≡ label new → WithBody body (λ v. Lowers on as_told scope (While e v) old new)
   while_written scope last_scope e body again exit old test tick inner new first fresh_test again_is ticks all keeps second fresh exit_is v is code tables names round more last same sees fits c =
       let inside : AllFit tables (entries on.callees.items) on.most round names body = subst (λ (ss : List Stmt). AllFit tables (entries on.callees.items) on.most round names ss) is (fit_of_vec tables (entries on.callees.items) on.most round names v fits.1) in
       let q : Leads code inner (λ instrs end. (end ≡ to exit) × Computes code (activation on tables) names e 0 instrs (instr.IfJump 0 again ∷ [])) = second code (activation on tables) names (keeps names tables sees) fits.0 c.closed in
@@ -184,9 +185,9 @@ module _ (on : Body) (reduces : List Reduce) where
         told = subst (λ (t : Term). Code code (activation on tables) round names (While e v) p.instrs t more last) (sym p.told.0) (while_code v p.told.1 begins codes q.told.1 ends);
       }
 
-  pub body_written : (scope inner_scope : Scope) (x : List ℕ) (body : List Stmt) (old tick new : Output) → IsFresh old → SeesAfter (λ names. names ++ x ∷ []) scope inner_scope → Pushes (instr.Tick ∷ []) old tick → LowersAll on reduces inner_scope body tick new → LowersBody on reduces scope x body old new
-  body_written scope inner_scope x body old tick new fresh declares ticks all code tables names round more last same sees fits c =
+  pub body_written : (scope inner_scope : Scope) (x : List ℕ) (body : List Stmt) (old tick new : Output) → IsEmpty old → SeesAfter (λ names. names ++ x ∷ []) scope inner_scope → Pushes (instr.Tick ∷ []) old tick → LowersAll on as_told inner_scope body tick new → LowersBody on as_told scope x body old new
+  body_written scope inner_scope x body old tick new empty declares ticks all code tables names round more last same sees fits c =
       let b : Leads code tick (λ instrs end. Codes code (activation on tables) round (names ++ x ∷ []) body instrs end more last) =
       all code tables (names ++ x ∷ []) round more last same (declares names tables sees) fits c in
       let starts : Continues code old (instr.Tick ∷ b.instrs) b.end = pushed code old tick (instr.Tick ∷ []) b.instrs b.end ticks b.continues in
-      record { before = starts.closed; instrs = b.instrs; end = b.end; opens = fresh_opens code old (instr.Tick ∷ b.instrs) b.end fresh starts; codes = b.told }
+      record { before = starts.closed; instrs = b.instrs; end = b.end; opens = empty_opens code old (instr.Tick ∷ b.instrs) b.end empty starts; codes = b.told }

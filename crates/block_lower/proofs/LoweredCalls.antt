@@ -5,7 +5,6 @@ use Rattle.tp_value.specs.declared.limits.TheConstants.{MAX_PARAMETERS}
 use Rattle.loop_syntax.specs.declared.App.{App}
 use Rattle.loop_syntax.specs.declared.Name.{Name}
 use Rattle.loop_syntax.specs.declared.Expr.{Expr}
-use Rattle.loop_syntax.specs.declared.Reduce.{Reduce}
 use Rattle.loop_syntax.specs.declared.Stmt.TheVariants.{Call, Both}
 use Rattle.tp_value.specs.declared.Place.{Place}
 use Rattle.tp_value.specs.declared.TrapKind.TheVariants.{Deep}
@@ -21,6 +20,7 @@ use Rattle.expr_lower.specs.declared.scope.Scope.{Scope}
 use Rattle.expr_lower.specs.Scopes.{offset_of}
 use Rattle.block_lower.specs.declared.body.Body.{Body}
 use Rattle.block_lower.specs.declared.output.Output.{Output}
+use Rattle.block_lower.specs.declared.round.Round as told
 use Rattle.block_lower.specs.Bodies.{entries, activation, HasRoomFor}
 use Rattle.block_lower.specs.Code.{Operand, Arguments, no_argument, one_argument, parameter_cell, passed, Calls, Code, call_code, both_code, to, store, load, call_test, call_entry}
 use Rattle.block_lower.specs.Fitting.{IsVisible, AreVisible}
@@ -138,7 +138,7 @@ entry_written size at back old calc levels returns moves new one two three four 
 
 -- ---- statements
 
-module _ (on : Body) (reduces : List Reduce) (scope : Scope) where
+module _ (on : Body) (as_told : told.Round) (scope : Scope) where
   -- a label and a size are those of the function of a name
   pub record IsTarget (x : List ℕ) (at size : ℕ) : Type 0 where
     pub at_is : (entry : Entry) → entry_of (entries on.callees.items) x ≡ Some entry → at ≡ entry.label
@@ -146,7 +146,7 @@ module _ (on : Body) (reduces : List Reduce) (scope : Scope) where
 
   pub call_statement_written : (x : Name) (f : App) (at size first : ℕ) (old allocs stored called new : Output) → IsTarget f.callee.text.items at size → first ≡ on.size + value_cell 0
       → Pushes (instr.Salloc size ∷ []) old allocs → WritesArguments scope f.args.items (λ i. first + i * 2) allocs stored → WritesCall on f.callee.place at size stored called
-      → Pushes (store (offset_of scope x.text.items) (value.Reg 0) ∷ []) called new → Lowers on reduces scope (Call x f) old new
+      → Pushes (store (offset_of scope x.text.items) (value.Reg 0) ∷ []) called new → Lowers on as_told scope (Call x f) old new
   call_statement_written x f at size first old allocs stored called new target first_is alloc arguments call push code tables names round more last same sees fits c =
       let act : Activation = activation on tables in
       let own : Instr = store (offset_of scope x.text.items) (value.Reg 0) in
@@ -157,7 +157,7 @@ module _ (on : Body) (reduces : List Reduce) (scope : Scope) where
       let stored_at : Arguments code act names (parameter_cell code act) 0 f.args.items v.instrs w.instrs =
       arguments_at code act names (λ i. first + i * 2) (parameter_cell code act) (λ i. omega (arith, first_is)) 0 f.args.items v.instrs w.instrs v.told.1 in
       let is : Code code act round names (Call x f) (instr.Salloc fits.1.entry.size ∷ v.instrs) w.end more last =
-      call_code fits.1.is_entry fits.1.arity (cell_is on reduces scope tables names round.fixed x.text.items code sees fits.0) stored_at w.told in
+      call_code fits.1.is_entry fits.1.arity (cell_is on as_told scope tables names round.fixed x.text.items code sees fits.0) stored_at w.told in
       record {
         instrs = instr.Salloc size ∷ v.instrs;
         end = v.end;
@@ -171,7 +171,7 @@ module _ (on : Body) (reduces : List Reduce) (scope : Scope) where
       → Pushes (instr.Salloc first_size ∷ []) old allocs → WritesBothArguments on scope f.args.items g.args.items allocs stored → WritesCall on f.callee.place first_at first_size stored called
       → Pushes (store (value_cell on.most + kept_value) (value.Reg 0) ∷ []) called kept → Pushes (instr.Salloc second_size ∷ []) kept again → WritesPassed on (length g.args.items) again passes
       → WritesCall on g.callee.place second_at second_size passes calls → Pushes (load 1 (value_cell on.most + kept_value) ∷ []) calls loads → Pushes (store (offset_of scope x.text.items) (value.Reg 1) ∷ []) loads stores
-      → Pushes (store (offset_of scope y.text.items) (value.Reg 0) ∷ []) stores new → Lowers on reduces scope (Both x f y g) old new
+      → Pushes (store (offset_of scope y.text.items) (value.Reg 0) ∷ []) stores new → Lowers on as_told scope (Both x f y g) old new
   both_written x y f g first_at first_size second_at second_size old allocs stored called kept again passes calls loads stores new first second room few
       alloc arguments call_first keep realloc pass call_second push_load store_x store_y code tables names round more last same sees fits c =
       let act : Activation = activation on tables in
@@ -192,8 +192,8 @@ module _ (on : Body) (reduces : List Reduce) (scope : Scope) where
       let v : Leads code allocs (λ instrs end. (end ≡ w.end) × AreBothArguments code act names f.args.items g.args.items instrs w.instrs) =
       arguments code tables names w.instrs w.end sees fits.2.seen fits.3.seen w.continues in
       let is : Code code act round names (Both x f y g) (instr.Salloc fits.2.entry.size ∷ v.instrs) w.end more last =
-      both_code room.room fits.2.is_entry fits.2.arity fits.3.is_entry fits.3.arity (cell_is on reduces scope tables names round.fixed x.text.items code sees fits.0)
-      (cell_is on reduces scope tables names round.fixed y.text.items code sees fits.1) few v.told.1.first v.told.1.second calls_first u.told in
+      both_code room.room fits.2.is_entry fits.2.arity fits.3.is_entry fits.3.arity (cell_is on as_told scope tables names round.fixed x.text.items code sees fits.0)
+      (cell_is on as_told scope tables names round.fixed y.text.items code sees fits.1) few v.told.1.first v.told.1.second calls_first u.told in
       record {
         instrs = instr.Salloc first_size ∷ v.instrs;
         end = v.end;

@@ -1,11 +1,10 @@
 -- The code of a `loop` is written where that of its parts is.
 use Rattle.std.proofs.Common.{◌≡◌, ℕ, ◌+◌, List, [], ◌∷◌, ◌++◌, length, Some, Vec, refl, sym, ap, subst, ◌∙◌, arith}
-use Rattle.std.specs.Prelude.{ℤ, pos}
+use Rattle.std.specs.Prelude.{ℤ, pos, false}
 use Rattle.std.specs.declared.alloc.Global.{Global}
 use Rattle.loop_syntax.specs.declared.Name.{Name}
 use Rattle.loop_syntax.specs.declared.Expr.{Expr}
 use Rattle.loop_syntax.specs.declared.ParLoop.{ParLoop}
-use Rattle.loop_syntax.specs.declared.Reduce.{Reduce}
 use Rattle.loop_syntax.specs.declared.Stmt.{Stmt}
 use Rattle.tp_value.specs.declared.limits.TheConstants.{MAX_PAR_LENGTH}
 use Rattle.tp_value.specs.declared.Place.{Place}
@@ -17,19 +16,23 @@ use Rattle.tpal_syntax.specs.declared.instructions.Instr.{Instr}
 use Rattle.tpal_syntax.specs.declared.instructions.Instr.TheVariants as instr
 use Rattle.tpal_syntax.specs.declared.instructions.Term.{Term}
 use Rattle.tpal_syntax.specs.declared.instructions.Value.TheVariants as value
+use Rattle.tpal_syntax.specs.declared.notes.Note.{Note}
+use Rattle.tpal_syntax.specs.declared.notes.Note.TheVariants as note
 use Rattle.tpal_syntax.specs.Listing.{Listing}
 use Rattle.expr_lower.specs.declared.scope.Scope.{Scope}
 use Rattle.expr_lower.specs.Bodies.{literal, trap_block}
 use Rattle.expr_lower.specs.Standing.{AreAt}
 use Rattle.block_lower.specs.declared.body.Body.{Body}
 use Rattle.block_lower.specs.declared.output.Output.{Output}
+use Rattle.block_lower.specs.declared.round.Round as told
 use Rattle.block_lower.specs.Bodies.{entries, activation}
-use Rattle.block_lower.specs.Code.{Opens, Computes, Code, loop_code, loop_to_code, par_code, Codes, to, store, load, below_test, step_up, wide_test}
+use Rattle.block_lower.specs.Code.{OpensAs, Opens, Computes, Code, loop_code, loop_to_code, par_code, Codes, to, store, load, below_test, step_up, next_turn, wide_test}
+use Rattle.block_lower.specs.Quiet.{list_is_quiet}
 use Rattle.block_lower.specs.Fitting.{AllFit}
 use Rattle.block_lower.specs.Layout.{value_cell, bound_cell}
 use Rattle.block_lower.specs.declared.repeat.Bound.{Bound}
 use Rattle.block_lower.specs.declared.repeat.Bound.TheVariants as bound
-use Rattle.block_lower.specs.Lowering.{WritesValue, WritesBelow, WritesStart, AreBounds, WritesBounds}
+use Rattle.block_lower.specs.Lowering.{IsRound, WritesValue, WritesBelow, WritesStart, AreBounds, WritesBounds}
 use Rattle.block_lower.specs.Lowering.{WritesBoundedStart, BeginsLoop, turn, WritesSome, WritesWide}
 use Rattle.block_lower.specs.Lowering.{Lowers, WithBody, IsBodyAt, LowersBody}
 use Rattle.block_lower.specs.Names.{Sees}
@@ -84,13 +87,63 @@ pub bounded_start_written : (scope : Scope) (a b : Expr) (again exit : ℕ) (old
 bounded_start_written scope a b again exit old bounds new starts test code act names sees visible_a visible_b stands =
     starts code act names (below_test 1 (value.Reg 0) again) (to exit) sees visible_a visible_b (test code stands)
 
+-- ---- behind the body
+
+pub turn_to_written : (level again exit : ℕ) (n : ℤ) (old next new : Output) → Pushes (step_up 0 level []) old next → WritesBelow 0 (value.Int n) again exit next new
+    → (code : Listing) → Stands code new → Continues code old (turn level (bound.Number n) again) (to exit)
+turn_to_written level again exit n old next new push test code stands =
+    pushed code old next (step_up 0 level []) (below_test 0 (value.Int n) again) (to exit) push (test code stands)
+
+pub turn_bounded_written : (level again exit : ℕ) (old next loads new : Output) → Pushes (step_up 1 level []) old next → Pushes (load 0 (bound_cell level) ∷ []) next loads
+    → WritesBelow 1 (value.Reg 0) again exit loads new → (code : Listing) → Stands code new → Continues code old (turn level bound.Cell again) (to exit)
+turn_bounded_written level again exit old next loads new push push_load test code stands =
+    let tested : List Instr = below_test 1 (value.Reg 0) again in
+    pushed code old next (step_up 1 level []) (load 0 (bound_cell level) ∷ tested) (to exit) push
+    (pushed code next loads (load 0 (bound_cell level) ∷ []) tested (to exit) push_load (test code stands))
+
+-- ---- what stands round a body
+
+pub loop_is_round : (round : Round) (as_told : told.Round) (level : ℕ) → IsRound round as_told → IsRound (loop_round round level) as_told
+loop_is_round round as_told level same = record { reduces = same.reduces; depth = same.depth }
+
+pub par_is_round : (round : Round) (as_told inside : told.Round) (names : List (List ℕ)) (l : ParLoop) → inside.reduces.now ≡ l.reduces.items → inside.depth ≡ as_told.depth + 1
+    → IsRound round as_told → IsRound (par_round round names l.reduces.items) inside
+par_is_round round as_told inside names l reduces depth same = record { reduces = sym reduces; depth = omega (arith, depth, same.depth) }
+
 -- ---- the loop
 
--- the body with what stands behind it, and the begin of its block
-module _ (on : Body) (reduces : List Reduce) (scope : Scope) (x : Name) (body : List Stmt) (level again exit : ℕ) (start inner new : Output) (behind : ℕ → List Instr)
-    (long : level ≡ length scope.cells.items) (fresh_start : IsFresh start) (again_is : again ≡ label start) (lowers : LowersBody on reduces scope x.text.items body start inner)
+-- the body with what stands behind it, and the begin of its block, which is marked as told
+module _ (on : Body) (as_told : told.Round) (scope : Scope) (x : Name) (body : List Stmt) (level : ℕ) (half : Term) (mark : Note) (start inner new : Output) (behind : ℕ → List Instr)
+    (long : level ≡ length scope.cells.items) (noted : start.note ≡ mark) (lowers : LowersBody on as_told scope x.text.items body start inner)
+    (turn : (code : Listing) → Stands code new → Continues code inner (behind level) half) where
+  -- what a code needs of a body
+  pub record Bodied (code : Listing) (tables names : List (List ℕ)) (round : Round) (v : Vec Stmt Global) : Type 0 where
+    pub before : Stands code start
+    pub instrs : List Instr
+    pub first : Term
+    pub begins : OpensAs code mark (label start) (instr.Tick ∷ instrs) first
+    pub codes : Codes code (activation on tables) round (names ++ x.text.items ∷ []) v.items instrs first (behind (length names)) half
+
+  pub bodied : (code : Listing) (tables names : List (List ℕ)) (round : Round) (v : Vec Stmt Global) → IsRound round as_told → v.items ≡ body → Sees scope names tables
+      → AllFit tables (entries on.callees.items) on.most round (names ++ x.text.items ∷ []) v.items → Stands code new → Bodied code tables names round v
+  bodied code tables names round v same is sees fits stands =
+      let deeper : List (List ℕ) = names ++ x.text.items ∷ [] in
+      let b : IsBodyAt code (activation on tables) round deeper body start (behind level) half =
+      lowers code tables names round (behind level) half same sees (subst (λ (ss : List Stmt). AllFit tables (entries on.callees.items) on.most round deeper ss) is fits) (turn code stands) in
+      let with_vec : Codes code (activation on tables) round deeper v.items b.instrs b.end (behind level) half =
+      subst (λ (ss : List Stmt). Codes code (activation on tables) round deeper ss b.instrs b.end (behind level) half) (sym is) b.codes in
+      record {
+        before = b.before;
+        instrs = b.instrs;
+        first = b.end;
+        begins = subst (λ (n : Note). OpensAs code n (label start) (instr.Tick ∷ b.instrs) b.end) noted b.opens;
+        codes = subst (λ (l : ℕ). Codes code (activation on tables) round deeper v.items b.instrs b.end (behind l) half) (long ∙ as_long scope names tables sees) with_vec;
+      }
+
+-- the same of a loop, with what stands behind it
+module _ (on : Body) (as_told : told.Round) (scope : Scope) (x : Name) (body : List Stmt) (level again exit : ℕ) (start inner new : Output) (behind : ℕ → List Instr)
+    (long : level ≡ length scope.cells.items) (fresh_start : IsFresh start) (again_is : again ≡ label start) (lowers : LowersBody on as_told scope x.text.items body start inner)
     (turn : (code : Listing) → Stands code new → Continues code inner (behind level) (to exit)) (fresh : IsFresh new) (exit_is : exit ≡ label new) where
-  -- what a code needs of the blocks of a loop behind its begin
   record Looped (code : Listing) (tables names : List (List ℕ)) (round : Round) (v : Vec Stmt Global) (more : List Instr) (last : Term) : Type 0 where
     before : Stands code start
     instrs : List Instr
@@ -99,30 +152,27 @@ module _ (on : Body) (reduces : List Reduce) (scope : Scope) (x : Name) (body : 
     codes : Codes code (activation on tables) round (names ++ x.text.items ∷ []) v.items instrs half (behind (length names)) (to exit)
     ends : Opens code exit more last
 
-  looped : (code : Listing) (tables names : List (List ℕ)) (round : Round) (v : Vec Stmt Global) (more : List Instr) (last : Term) → round.reduces ≡ reduces → v.items ≡ body → Sees scope names tables
+  looped : (code : Listing) (tables names : List (List ℕ)) (round : Round) (v : Vec Stmt Global) (more : List Instr) (last : Term) → IsRound round as_told → v.items ≡ body → Sees scope names tables
       → AllFit tables (entries on.callees.items) on.most round (names ++ x.text.items ∷ []) v.items → Continues code new more last → Looped code tables names round v more last
   looped code tables names round v more last same is sees fits c =
-      let deeper : List (List ℕ) = names ++ x.text.items ∷ [] in
-      let b : IsBodyAt code (activation on tables) round deeper body start (behind level) (to exit) =
-      lowers code tables names round (behind level) (to exit) same sees (subst (λ (ss : List Stmt). AllFit tables (entries on.callees.items) on.most round deeper ss) is fits) (turn code c.closed) in
-      let with_vec : Codes code (activation on tables) round deeper v.items b.instrs b.end (behind level) (to exit) =
-      subst (λ (ss : List Stmt). Codes code (activation on tables) round deeper ss b.instrs b.end (behind level) (to exit)) (sym is) b.codes in
+      let b : Bodied on as_told scope x body level (to exit) note.Plain start inner new behind long fresh_start.plain lowers turn code tables names round v =
+      bodied on as_told scope x body level (to exit) note.Plain start inner new behind long fresh_start.plain lowers turn code tables names round v same is sees fits c.closed in
       record {
         before = b.before;
         instrs = b.instrs;
-        half = b.end;
-        begins = subst (λ (l : ℕ). Opens code l (instr.Tick ∷ b.instrs) b.end) (sym again_is) b.opens;
-        codes = subst (λ (l : ℕ). Codes code (activation on tables) round deeper v.items b.instrs b.end (behind l) (to exit)) (long ∙ as_long scope names tables sees) with_vec;
+        half = b.first;
+        begins = subst (λ (l : ℕ). Opens code l (instr.Tick ∷ b.instrs) b.first) (sym again_is) b.begins;
+        codes = b.codes;
         ends = subst (λ (l : ℕ). Opens code l more last) (sym exit_is) (fresh_opens code new more last fresh c);
       }
 
-loop_to_written : (on : Body) (reduces : List Reduce) (scope : Scope) (x : Name) (a b : Expr) (n : ℤ) (body : List Stmt) (level again exit : ℕ) (old start inner new : Output) → literal b ≡ Some n → InRange n
-    → level ≡ length scope.cells.items → WritesStart scope a n again exit old start → IsFresh start → again ≡ label start → LowersBody on reduces scope x.text.items body start inner
-    → ((code : Listing) → Stands code new → Continues code inner (step_up 0 level (below_test 0 (value.Int n) again)) (to exit)) → IsFresh new → exit ≡ label new → WithBody body (λ v. Lowers on reduces scope (Loop x a b v) old new)
-loop_to_written on reduces scope x a b n body level again exit old start inner new is_literal in_n long starts fresh_start again_is lowers turn fresh exit_is v is code tables names round more last same sees fits c =
+loop_to_written : (on : Body) (as_told : told.Round) (scope : Scope) (x : Name) (a b : Expr) (n : ℤ) (body : List Stmt) (level again exit : ℕ) (old start inner new : Output) → literal b ≡ Some n → InRange n
+    → level ≡ length scope.cells.items → WritesStart scope a n again exit old start → IsFresh start → again ≡ label start → LowersBody on as_told scope x.text.items body start inner
+    → ((code : Listing) → Stands code new → Continues code inner (step_up 0 level (below_test 0 (value.Int n) again)) (to exit)) → IsFresh new → exit ≡ label new → WithBody body (λ v. Lowers on as_told scope (Loop x a b v) old new)
+loop_to_written on as_told scope x a b n body level again exit old start inner new is_literal in_n long starts fresh_start again_is lowers turn fresh exit_is v is code tables names round more last same sees fits c =
     let behind : ℕ → List Instr = λ l. step_up 0 l (below_test 0 (value.Int n) again) in
-    let q : Looped on reduces scope x body level again exit start inner new behind long fresh_start again_is lowers turn fresh exit_is code tables names (loop_round round (length names)) v more last =
-    looped on reduces scope x body level again exit start inner new behind long fresh_start again_is lowers turn fresh exit_is code tables names (loop_round round (length names)) v more last same is sees (fit_of_vec tables (entries on.callees.items) on.most (loop_round round (length names)) (names ++ x.text.items ∷ []) v fits.3) c in
+    let q : Looped on as_told scope x body level again exit start inner new behind long fresh_start again_is lowers turn fresh exit_is code tables names (loop_round round (length names)) v more last =
+    looped on as_told scope x body level again exit start inner new behind long fresh_start again_is lowers turn fresh exit_is code tables names (loop_round round (length names)) v more last (loop_is_round round as_told (length names) same) is sees (fit_of_vec tables (entries on.callees.items) on.most (loop_round round (length names)) (names ++ x.text.items ∷ []) v fits.3) c in
     let w : Leads code old (λ instrs end. (end ≡ to exit) × Computes code (activation on tables) names a 0 instrs (store (value_cell (length names)) (value.Reg 0) ∷ below_test 0 (value.Int n) again)) =
     starts code (activation on tables) names sees fits.1 q.before in
     record {
@@ -132,13 +182,13 @@ loop_to_written on reduces scope x a b n body level again exit old start inner n
       told = subst (λ (t : Term). Code code (activation on tables) round names (Loop x a b v) w.instrs t more last) (sym w.told.0) (loop_to_code v fits.0 is_literal in_n w.told.1 q.begins q.codes q.ends);
     }
 
-loop_bounded_written : (on : Body) (reduces : List Reduce) (scope : Scope) (x : Name) (a b : Expr) (body : List Stmt) (level again exit : ℕ) (old start inner new : Output)
-    → level ≡ length scope.cells.items → WritesBoundedStart scope a b again exit old start → IsFresh start → again ≡ label start → LowersBody on reduces scope x.text.items body start inner
-    → ((code : Listing) → Stands code new → Continues code inner (step_up 1 level (load 0 (bound_cell level) ∷ below_test 1 (value.Reg 0) again)) (to exit)) → IsFresh new → exit ≡ label new → WithBody body (λ v. Lowers on reduces scope (Loop x a b v) old new)
-loop_bounded_written on reduces scope x a b body level again exit old start inner new long starts fresh_start again_is lowers turn fresh exit_is v is code tables names round more last same sees fits c =
+loop_bounded_written : (on : Body) (as_told : told.Round) (scope : Scope) (x : Name) (a b : Expr) (body : List Stmt) (level again exit : ℕ) (old start inner new : Output)
+    → level ≡ length scope.cells.items → WritesBoundedStart scope a b again exit old start → IsFresh start → again ≡ label start → LowersBody on as_told scope x.text.items body start inner
+    → ((code : Listing) → Stands code new → Continues code inner (step_up 1 level (load 0 (bound_cell level) ∷ below_test 1 (value.Reg 0) again)) (to exit)) → IsFresh new → exit ≡ label new → WithBody body (λ v. Lowers on as_told scope (Loop x a b v) old new)
+loop_bounded_written on as_told scope x a b body level again exit old start inner new long starts fresh_start again_is lowers turn fresh exit_is v is code tables names round more last same sees fits c =
     let behind : ℕ → List Instr = λ l. step_up 1 l (load 0 (bound_cell l) ∷ below_test 1 (value.Reg 0) again) in
-    let q : Looped on reduces scope x body level again exit start inner new behind long fresh_start again_is lowers turn fresh exit_is code tables names (loop_round round (length names)) v more last =
-    looped on reduces scope x body level again exit start inner new behind long fresh_start again_is lowers turn fresh exit_is code tables names (loop_round round (length names)) v more last same is sees (fit_of_vec tables (entries on.callees.items) on.most (loop_round round (length names)) (names ++ x.text.items ∷ []) v fits.3) c in
+    let q : Looped on as_told scope x body level again exit start inner new behind long fresh_start again_is lowers turn fresh exit_is code tables names (loop_round round (length names)) v more last =
+    looped on as_told scope x body level again exit start inner new behind long fresh_start again_is lowers turn fresh exit_is code tables names (loop_round round (length names)) v more last (loop_is_round round as_told (length names) same) is sees (fit_of_vec tables (entries on.callees.items) on.most (loop_round round (length names)) (names ++ x.text.items ∷ []) v fits.3) c in
     let w : Leads code old (λ instrs end. (end ≡ to exit) × AreBounds code (activation on tables) names a b instrs (below_test 1 (value.Reg 0) again)) =
     starts code (activation on tables) names sees fits.1 fits.2 q.before in
     record {
@@ -148,13 +198,13 @@ loop_bounded_written on reduces scope x a b body level again exit old start inne
       told = subst (λ (t : Term). Code code (activation on tables) round names (Loop x a b v) w.instrs t more last) (sym w.told.0) (loop_code v fits.0 w.told.1.from w.told.1.to q.begins q.codes q.ends);
     }
 
-pub loop_written : (on : Body) (reduces : List Reduce) (scope : Scope) (x : Name) (a b : Expr) (body : List Stmt) (level : ℕ) (own : Bound) (again exit : ℕ) (old start inner new : Output)
-    → level ≡ length scope.cells.items → BeginsLoop scope a b own again exit old start → IsFresh start → again ≡ label start → LowersBody on reduces scope x.text.items body start inner
-    → ((code : Listing) → Stands code new → Continues code inner (turn level own again) (to exit)) → IsFresh new → exit ≡ label new → WithBody body (λ v. Lowers on reduces scope (Loop x a b v) old new)
-loop_written on reduces scope x a b body level (bound.Number n) again exit old start inner new long begins fresh_start again_is lowers ends fresh exit_is =
-    loop_to_written on reduces scope x a b n body level again exit old start inner new begins.0 begins.1 long begins.2 fresh_start again_is lowers ends fresh exit_is
-loop_written on reduces scope x a b body level bound.Cell again exit old start inner new long begins fresh_start again_is lowers ends fresh exit_is =
-    loop_bounded_written on reduces scope x a b body level again exit old start inner new long begins fresh_start again_is lowers ends fresh exit_is
+pub loop_written : (on : Body) (as_told : told.Round) (scope : Scope) (x : Name) (a b : Expr) (body : List Stmt) (level : ℕ) (own : Bound) (again exit : ℕ) (old start inner new : Output)
+    → level ≡ length scope.cells.items → BeginsLoop scope a b own again exit old start → IsFresh start → again ≡ label start → LowersBody on as_told scope x.text.items body start inner
+    → ((code : Listing) → Stands code new → Continues code inner (turn level own again) (to exit)) → IsFresh new → exit ≡ label new → WithBody body (λ v. Lowers on as_told scope (Loop x a b v) old new)
+loop_written on as_told scope x a b body level (bound.Number n) again exit old start inner new long begins fresh_start again_is lowers ends fresh exit_is =
+    loop_to_written on as_told scope x a b n body level again exit old start inner new begins.0 begins.1 long begins.2 fresh_start again_is lowers ends fresh exit_is
+loop_written on as_told scope x a b body level bound.Cell again exit old start inner new long begins fresh_start again_is lowers ends fresh exit_is =
+    loop_bounded_written on as_told scope x a b body level again exit old start inner new long begins fresh_start again_is lowers ends fresh exit_is
 
 -- ---- `par`
 
@@ -183,15 +233,18 @@ wide_written place again old calc first second traps new fresh push_calc push_fi
       subst (λ (l : ℕ). AreAt code l (trap_block l Wide place ∷ [])) there t.1,
     )
 
-pub par_written : (on : Body) (reduces : List Reduce) (scope : Scope) (l : ParLoop) (level check again exit : ℕ) (old bounds start wide inner new : Output)
+pub par_written : (on : Body) (as_told inside : told.Round) (scope : Scope) (l : ParLoop) (level check again exit : ℕ) (old bounds start wide inner new : Output)
+    → list_is_quiet on.quiet_calls l.body.items ≡ false → inside.reduces.now ≡ l.reduces.items → inside.depth ≡ as_told.depth + 1
     → level ≡ length scope.cells.items → WritesBounds scope l.from l.to old bounds → WritesSome check exit bounds start → check ≡ label start → WritesWide l.place again start wide
-    → IsFresh wide → again ≡ label wide → LowersBody on l.reduces.items scope l.var.text.items l.body.items wide inner
-    → ((code : Listing) → Stands code new → Continues code inner (step_up 1 level (load 0 (bound_cell level) ∷ below_test 1 (value.Reg 0) again)) (to exit)) → IsFresh new → exit ≡ label new → Lowers on reduces scope (Par l) old new
-par_written on reduces scope l level check again exit old bounds start wide inner new long starts test check_is length_test fresh_wide again_is lowers turn fresh exit_is code tables names round more last same sees fits c =
-    let behind : ℕ → List Instr = λ n. step_up 1 n (load 0 (bound_cell n) ∷ below_test 1 (value.Reg 0) again) in
-    let q : Looped on l.reduces.items scope l.var l.body.items level again exit wide inner new behind long fresh_wide again_is lowers turn fresh exit_is code tables names (par_round round names l.reduces.items) l.body more last =
-    looped on l.reduces.items scope l.var l.body.items level again exit wide inner new behind long fresh_wide again_is lowers turn fresh exit_is code tables names (par_round round names l.reduces.items) l.body more last refl refl sees
-    (fit_of_vec tables (entries on.callees.items) on.most (par_round round names l.reduces.items) (names ++ l.var.text.items ∷ []) l.body fits.4) c in
+    → IsFresh wide → again ≡ label wide → LowersBody on inside scope l.var.text.items l.body.items wide inner
+    → ((code : Listing) → Stands code new → Continues code inner (next_turn level again) (to exit)) → IsFresh new → exit ≡ label new → Lowers on as_told scope (Par l) old new
+par_written on as_told inside scope l level check again exit old bounds start wide inner new deep reduces depth long starts test check_is length_test fresh_wide again_is lowers turn fresh exit_is code tables names round more last same sees fits c =
+    let behind : ℕ → List Instr = λ n. next_turn n again in
+    let within : Round = par_round round names l.reduces.items in
+    let q : Looped on inside scope l.var l.body.items level again exit wide inner new behind long fresh_wide again_is lowers turn fresh exit_is code tables names within l.body more last =
+    looped on inside scope l.var l.body.items level again exit wide inner new behind long fresh_wide again_is lowers turn fresh exit_is code tables names within l.body more last
+    (par_is_round round as_told inside names l reduces depth same) refl sees
+    (fit_of_vec tables (entries on.callees.items) on.most within (names ++ l.var.text.items ∷ []) l.body fits.4) c in
     let t : Stands code start × Opens code (label start) (wide_test (label start + 1) again) (to (label start + 1)) × AreAt code (label start + 1) (trap_block (label start + 1) Wide l.place ∷ []) = length_test code q.before in
     let some : List Instr = instr.Calc 2 1 Lt (value.Reg 0) ∷ instr.IfJump 2 check ∷ [] in
     let w : Leads code old (λ instrs end. (end ≡ to exit) × AreBounds code (activation on tables) names l.from l.to instrs some) =
@@ -201,7 +254,7 @@ par_written on reduces scope l level check again exit old bounds start wide inne
       end = w.end;
       continues = w.continues;
       told = subst (λ (e : Term). Code code (activation on tables) round names (Par l) w.instrs e more last) (sym w.told.0)
-          (par_code l fits.0 fits.1 w.told.1.from w.told.1.to
+          (par_code l fits.0 fits.1 deep w.told.1.from w.told.1.to
           (subst (λ (n : ℕ). Opens code n (wide_test (label start + 1) again) (to (label start + 1))) (sym check_is) t.1)
           t.2 q.begins q.codes q.ends);
     }

@@ -3,7 +3,6 @@ use Rattle.std.proofs.Common.{◌≡◌, ℕ, List, [], ◌∷◌, ◌++◌, Som
 use Rattle.std.specs.Prelude.{IsTrue}
 use Rattle.loop_syntax.specs.declared.Name.{Name}
 use Rattle.loop_syntax.specs.declared.Expr.{Expr}
-use Rattle.loop_syntax.specs.declared.Reduce.{Reduce}
 use Rattle.loop_syntax.specs.declared.Stmt.TheVariants.{Put, Fold, Emit}
 use Rattle.loop_rules.specs.Names.{is_in, operator_of}
 use Rattle.tp_value.specs.declared.Op.{Op}
@@ -21,6 +20,7 @@ use Rattle.expr_lower.specs.Scopes.{offset_of, table_number}
 use Rattle.expr_lower.specs.Standing.{AreAt}
 use Rattle.block_lower.specs.declared.body.Body.{Body}
 use Rattle.block_lower.specs.declared.output.Output.{Output}
+use Rattle.block_lower.specs.declared.round.Round as told
 use Rattle.block_lower.specs.Bodies.{activation, HasRoomFor}
 use Rattle.block_lower.specs.Code.{Computes, Operand, IsTable, Code, put_code, put_kept_code, fold_code, fold_nothing_code, emit_code, store, load, alu_of, put_tested}
 use Rattle.block_lower.specs.Layout.{kept_cell, Activation}
@@ -41,9 +41,9 @@ put_pushed table row col number place old traps tests new trap push_tests push c
 table_is : (scope : Scope) (act : Activation) (names : List (List ℕ)) (t : List ℕ) (code : Listing) → Sees scope names act.tables → IsTrue (is_in act.tables t) → IsTable code act names t (table_number scope t)
 table_is scope act names t code sees seen = record { scope = scope; sees = sees; inside = seen_table scope names act.tables sees t seen; is = refl }
 
-module _ (on : Body) (reduces : List Reduce) (scope : Scope) where
+module _ (on : Body) (as_told : told.Round) (scope : Scope) where
   pub put_written : (t : Name) (a b e : Expr) (old first second third new : Output) → WritesValue scope a 0 old first → WritesValue scope b 1 first second → WritesValue scope e 2 second third
-      → WritesPut (table_number scope t.text.items) 0 1 2 t.place third new → Lowers on reduces scope (Put t a b e) old new
+      → WritesPut (table_number scope t.text.items) 0 1 2 t.place third new → Lowers on as_told scope (Put t a b e) old new
   put_written t a b e old first second third new one two three put code tables names round more last same sees fits c =
       let act : Activation = activation on tables in
       let table : ℕ = table_number scope t.text.items in
@@ -64,7 +64,7 @@ module _ (on : Body) (reduces : List Reduce) (scope : Scope) where
       → WritesValue scope a 0 old first → Pushes (store (kept_cell (activation on []) 0) (value.Reg 0) ∷ []) first kept_first
       → WritesValue scope b 0 kept_first second → Pushes (store (kept_cell (activation on []) 1) (value.Reg 0) ∷ []) second kept_second
       → WritesValue scope e 0 kept_second third → Pushes (load 1 (kept_cell (activation on []) 0) ∷ []) third loads → Pushes (load 2 (kept_cell (activation on []) 1) ∷ []) loads both
-      → WritesPut (table_number scope t.text.items) 1 2 0 t.place both new → Lowers on reduces scope (Put t a b e) old new
+      → WritesPut (table_number scope t.text.items) 1 2 0 t.place both new → Lowers on as_told scope (Put t a b e) old new
   put_kept_written t a b e old first kept_first second kept_second third loads both new room one keep_first two keep_second three load_first load_second put code tables names round more last same sees fits c =
       let act : Activation = activation on tables in
       let table : ℕ = table_number scope t.text.items in
@@ -87,7 +87,7 @@ module _ (on : Body) (reduces : List Reduce) (scope : Scope) where
             (put_kept_code room.room (table_is scope act names t.text.items code sees fits.0) w.told.1 v.told.1 u.told.1 p.1);
       }
 
-  pub emit_written : (place : Place) (t : Name) (old new : Output) → Pushes (instr.Emit (table_number scope t.text.items) ∷ []) old new → Lowers on reduces scope (Emit place t) old new
+  pub emit_written : (place : Place) (t : Name) (old new : Output) → Pushes (instr.Emit (table_number scope t.text.items) ∷ []) old new → Lowers on as_told scope (Emit place t) old new
   emit_written place t old new push code tables names round more last same sees fits c =
       let one : Instr = instr.Emit (table_number scope t.text.items) in
       record {
@@ -97,9 +97,9 @@ module _ (on : Body) (reduces : List Reduce) (scope : Scope) where
         told = emit_code (table_is scope (activation on tables) names t.text.items code sees fits);
       }
 
-  pub fold_written : (x : Name) (e : Expr) (o : Op) (v : Value) (old valued loads calc new : Output) → operator_of reduces x.text.items ≡ Some o → WritesOperand scope e 0 v old valued
+  pub fold_written : (x : Name) (e : Expr) (o : Op) (v : Value) (old valued loads calc new : Output) → operator_of as_told.reduces.now x.text.items ≡ Some o → WritesOperand scope e 0 v old valued
       → Pushes (load 1 (offset_of scope x.text.items) ∷ []) valued loads → Pushes (instr.Calc 1 1 (alu_of o) v ∷ []) loads calc → Pushes (store (offset_of scope x.text.items) (value.Reg 1) ∷ []) calc new
-      → Lowers on reduces scope (Fold x e) old new
+      → Lowers on as_told scope (Fold x e) old new
   fold_written x e o v old valued loads calc new is writes push_load push_calc push_store code tables names round more last same sees fits c =
       let act : Activation = activation on tables in
       let cell : ℕ = offset_of scope x.text.items in
@@ -114,10 +114,10 @@ module _ (on : Body) (reduces : List Reduce) (scope : Scope) where
         end = w.end;
         continues = w.continues;
         told = subst (λ (end : Term). Code code act round names (Fold x e) w.instrs w.end more end) w.told.0
-            (fold_code (ap (λ rs. operator_of rs x.text.items) same ∙ is) (cell_is on reduces scope tables names round.fixed x.text.items code sees fits.0) w.told.1);
+            (fold_code (ap (λ rs. operator_of rs x.text.items) same.reduces ∙ is) (cell_is on as_told scope tables names round.fixed x.text.items code sees fits.0) w.told.1);
       }
 
-  pub fold_nothing_written : (x : Name) (e : Expr) (old new : Output) → operator_of reduces x.text.items ≡ None → WritesValue scope e 0 old new → Lowers on reduces scope (Fold x e) old new
+  pub fold_nothing_written : (x : Name) (e : Expr) (old new : Output) → operator_of as_told.reduces.now x.text.items ≡ None → WritesValue scope e 0 old new → Lowers on as_told scope (Fold x e) old new
   fold_nothing_written x e old new is writes code tables names round more last same sees fits c =
       let act : Activation = activation on tables in
       let w : Leads code old (λ instrs end. (end ≡ last) × Computes code act names e 0 instrs more) = writes code act names more last sees fits.1 c in
@@ -125,5 +125,5 @@ module _ (on : Body) (reduces : List Reduce) (scope : Scope) where
         instrs = w.instrs;
         end = w.end;
         continues = w.continues;
-        told = subst (λ (end : Term). Code code act round names (Fold x e) w.instrs w.end more end) w.told.0 (fold_nothing_code (ap (λ rs. operator_of rs x.text.items) same ∙ is) w.told.1);
+        told = subst (λ (end : Term). Code code act round names (Fold x e) w.instrs w.end more end) w.told.0 (fold_nothing_code (ap (λ rs. operator_of rs x.text.items) same.reduces ∙ is) w.told.1);
       }

@@ -32,7 +32,7 @@ use Rattle.tpal_machine.specs.declared.ends.Ending.TheVariants as ending
 use Rattle.tpal_machine.specs.declared.ends.Goal.TheVariants as goal
 use Rattle.tpal_machine.specs.Effect as effect
 use Rattle.tpal_machine.specs.Ended.{ended, ended_at}
-use Rattle.tpal_machine.specs.Owes.{Bound}
+use Rattle.tpal_machine.specs.Owes.{Bound, Owes}
 use Rattle.tpal_machine.specs.Owes as owes
 use Rattle.tpal_machine.specs.Serial.{OwesSerially}
 use Rattle.tpal_machine.specs.State as machine
@@ -48,6 +48,7 @@ use Rattle.block_lower.specs.Main.{IsProgram, table_name}
 use Rattle.block_lower.specs.Owing.{AreDeclared, AreHeld}
 use Rattle.block_lower.specs.Names.{names_after_list}
 use Rattle.block_lower.proofs.Callees.{main_has_place}
+use Rattle.block_lower.proofs.Cutting.{ProgramRules}
 use Rattle.block_lower.proofs.Functions.{calls_owe}
 use Rattle.block_lower.proofs.Law.{codes_law}
 use Rattle.block_lower.proofs.Makes.{Making, AreGiven, count_held, makes_law, seeing}
@@ -127,7 +128,7 @@ more_least true (Chance ∷ []) ms one = omega arith
 more_least true (Chance ∷ n ∷ ns) ms one = absurd one
 more_least false ns ms one = omega arith
 
-module _ (code : Listing) (heartbeat fuel : ℕ) (counts : Bool) where
+module _ (code : Listing) (heartbeat fuel dispatch : ℕ) (counts : Bool) where
   -- main owes its outcome, and as many promotion points as there are chances
   abbrev whole_terms : Terms code heartbeat ⊤
   whole_terms = record {
@@ -156,7 +157,7 @@ module _ (code : Listing) (heartbeat fuel : ℕ) (counts : Bool) where
     World = ⊤;
     levels = MAX_CALL_DEPTH;
     fuel = fuel;
-    dispatch = 0;
+    dispatch = dispatch;
     size = 0;
     promise = promised code heartbeat whole_terms;
     around = record {
@@ -187,7 +188,7 @@ module _ (code : Listing) (heartbeat fuel : ℕ) (counts : Bool) where
       ends_with state (ending.Root (record { stop = Done; output = st.output; ticks = st.ticks }))
       (halts code heartbeat state (at_end code state term.Halt stands) shows.ends shows.free true ∙ ap Ends (ended_is code Done st (advanced state) shows.ends shows.ticks shows.printed))
 
-  module _ (expr_law : ExprLaw code heartbeat) (program : Program) (given : List Table) (holdings : List Holding) (uncounted : counts ≡ false) (is : IsProgram code program) (there : AreGiven program.tables.items given) (holds : AreHeld program.tables.items given holdings) where
+  module _ (expr_law : ExprLaw code heartbeat) (program : Program) (given : List Table) (holdings : List Holding) (uncounted : counts ≡ false) (is : IsProgram code program) (diverts : dispatch ≡ is.act.dispatch) (rules : ProgramRules program is.act.tables) (there : AreGiven program.tables.items given) (holds : AreHeld program.tables.items given holdings) where
     abbrev act : Activation
     act = is.act
 
@@ -279,7 +280,7 @@ module _ (code : Listing) (heartbeat fuel : ℕ) (counts : Bool) where
     unfolding main_gives
     main_owed =
         subst (λ ts. Owed code heartbeat 0 (seeing act ts) fuel root [] is.instrs is.end main_gives) is.tables
-        (codes_law code heartbeat 0 act program.funcs.items fuel MAX_CALL_DEPTH expr_law (calls_owe code heartbeat fuel expr_law act.tables act.functions program.funcs.items is.functions MAX_CALL_DEPTH (omega arith)) (main_has_place act is.has_room) is.statements root (record { levels = refl; lowest = omega arith; allows = λ x free. tt; controls = λ d from below. (tt, tt); uncounted = uncounted }) fin (at_halt act (names_after_list [] program.main.items)))
+        (codes_law code heartbeat 0 act program fuel MAX_CALL_DEPTH expr_law rules is.dispatch (calls_owe code heartbeat fuel expr_law act program rules is.dispatch is.calls is.functions MAX_CALL_DEPTH (omega arith)) (main_has_place act is.has_room) is.statements root (record { levels = refl; lowest = omega arith; allows = λ x free. tt; controls = λ d from below. (tt, tt); uncounted = uncounted }) (λ loud. record { opened = refl; diverts = diverts; wholly = λ w t. refl; met = λ w ts. tt }) rules.of_main fin (at_halt act (names_after_list [] program.main.items)))
 
     all_made : K.Holds zeroth
     unfolding K with_levels first stack zeroth
@@ -309,13 +310,29 @@ module _ (code : Listing) (heartbeat fuel : ℕ) (counts : Bool) where
         subst (λ (ns : List Note). Bound code heartbeat false (least_of counts ns) zeroth (ending.Root (meaning program given fuel))) notes_are
         (subst (λ (o : Outcome). Bound code heartbeat false (least_of counts given_whole.notes) zeroth (ending.Root o)) end_is (all_made tt can))
 
-module _ (code : Listing) (heartbeat : ℕ) (expr_law : ExprLaw code heartbeat) (program : Program) (given : List Table) (holdings : List Holding) (fuel : ℕ) where
-  -- The first task of a code that is the code of a program owes the meaning of the program where nothing is
-  -- diverted, since it is bound to it whatever is diverted.
-  pub owes_meaning : IsProgram code program → AreGiven program.tables.items given → AreHeld program.tables.items given holdings → CanRun code (first_state holdings fuel)
-      → OwesSerially code heartbeat 0 (first_state holdings fuel) (ending.Root (meaning program given fuel))
-  owes_meaning is there holds can = record {
+module _ (code : Listing) (heartbeat : ℕ) (expr_law : ExprLaw code heartbeat) (program : Program)
+    (given : List Table) (holdings : List Holding) (fuel : ℕ) (is : IsProgram code program)
+    (rules : ProgramRules program is.act.tables) (there : AreGiven program.tables.items given)
+    (holds : AreHeld program.tables.items given holdings)
+    (can : CanRun code (first_state holdings fuel)) where
+  bound : Bound code heartbeat false 0 (first_state holdings fuel)
+      (ending.Root (meaning program given fuel))
+  bound =
+      program_bound code heartbeat fuel is.act.dispatch false expr_law program given holdings refl is
+      refl rules there holds can
+
+  -- The first task of a code that is the code of a program owes the meaning of the program,
+  -- whatever is promoted.
+  pub owes_promoted : Owes code heartbeat false 0 (first_state holdings fuel)
+      (ending.Root (meaning program given fuel))
+  owes_promoted = record { belongs = can.runs.belongs; waits_not = refl; bound = bound }
+
+  -- so it owes it where nothing is
+  pub owes_meaning : OwesSerially code heartbeat 0 (first_state holdings fuel)
+      (ending.Root (meaning program given fuel))
+  owes_meaning = record {
     belongs = can.runs.belongs;
     waits_not = refl;
-    bound = owes_serially code heartbeat 0 (first_state holdings fuel) (ending.Root (meaning program given fuel)) (program_bound code heartbeat fuel false expr_law program given holdings refl is there holds can);
+    bound = owes_serially code heartbeat 0 (first_state holdings fuel)
+        (ending.Root (meaning program given fuel)) bound;
   }

@@ -33,7 +33,7 @@ use Rattle.tpal_machine.proofs.Kit.{Back, on_calc, on_load}
 use Rattle.expr_lower.specs.Standing.{Remains}
 use Rattle.expr_lower.proofs.Registers.{register_set, register_other}
 use Rattle.expr_lower.proofs.Standing.{next, behind}
-use Rattle.block_lower.specs.Code.{below_test, load, step_up, store, to}
+use Rattle.block_lower.specs.Code.{below_test, load, next_turn, step_up, store, to}
 use Rattle.block_lower.specs.Layout.{Activation, bound_cell, levels_cell, value_cell}
 use Rattle.block_lower.proofs.Choices.{leaving}
 use Rattle.block_lower.proofs.Fixed.{fixed_same}
@@ -49,11 +49,6 @@ use Rattle.block_lower.proofs.Turning.{KeptOf, ParAt, enough_of, outer_stable, p
 use Rattle.block_lower.proofs.Turning.{turning}
 use Rattle.block_lower.proofs.Variables.{held_same, var_names}
 use Rattle.block_lower.proofs.Words.{word_other, word_same, words_as_many}
-
--- the end of a turn: the next number, and another turn where it is below the bound
-abbrev pub next_turn : ℕ → ℕ → List Instr
-next_turn level again =
-    step_up 1 level (load 0 (bound_cell level) ∷ below_test 1 (value.Reg 0) again)
 
 -- ---- results, one behind another
 

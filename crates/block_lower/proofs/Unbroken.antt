@@ -11,10 +11,11 @@ use Rattle.loop_syntax.specs.declared.Program.{Program}
 use Rattle.loop_syntax.specs.declared.TableDecl.{TableDecl}
 use Rattle.loop_syntax.specs.declared.TableDecl.TheVariants.{Input, Made}
 use Rattle.loop_rules.specs.declared.part.Part.TheVariants.{OfSize, OfFunc}
-use Rattle.loop_rules.specs.Broken.{C1', C2', C3', C10', C11'}
+use Rattle.loop_rules.specs.Broken.{C1', C2', C3', C6', C10', C11'}
 use Rattle.loop_rules.specs.Declarations.{declared_list, table_of_decl}
 use Rattle.loop_rules.specs.Limits.{first_name, past, c11}
 use Rattle.loop_rules.specs.Names.{texts, func_of}
+use Rattle.loop_rules.specs.Carries.{c6}
 use Rattle.loop_rules.specs.Reductions.{c2, c3}
 use Rattle.loop_rules.specs.Scopes.{at, c1, c10}
 use Rattle.loop_rules.specs.Sites.{Spot, Site, in_whole, in_list, in_params, in_decl, in_decls, in_func, in_funcs, in_main, sites, tables_of, top, func_spot, main_spot, spot_of_list}
@@ -25,18 +26,12 @@ use Rattle.block_lower.specs.Fitting.{SizesAreVisible, DeclsFit, FuncFits, MainF
 use Rattle.block_lower.specs.Heights.{DeclIsLow}
 use Rattle.block_lower.specs.Names.{names_after_list}
 use Rattle.block_lower.specs.Round.{outermost}
+use Rattle.block_lower.proofs.UnbrokenCuts.{short_enough}
 use Rattle.block_lower.proofs.UnbrokenExpressions.{Keeps, AreShort, whole_visible, whole_low}
 use Rattle.block_lower.proofs.UnbrokenLow.{low_list}
 use Rattle.block_lower.proofs.UnbrokenNames.{texts_more, declares_table, tables_distinct, funcs_distinct, tables_apart}
 use Rattle.block_lower.proofs.UnbrokenSpots.{with_names, end_is}
 use Rattle.block_lower.proofs.UnbrokenStatements.{fits_list}
-
--- no name stands past a limit
-short_enough : (m : ℕ) (xs : List Name) → first_name (drop m xs) ≡ [] → length xs ≤ m
-short_enough zero [] h = omega arith
-short_enough zero (x ∷ xs) h = absurd (cc)
-short_enough (suc m) [] h = omega arith
-short_enough (suc m) (x ∷ xs) h = let less : length xs ≤ m = short_enough m xs h in omega arith
 
 -- ---- declarations
 
@@ -127,6 +122,7 @@ module _ (p : Program) (none : NoneBroken p) where
     names = none_of (c1 s.act s.spot) (λ q k. none.unbroken C1' q (record { where_at = s; stands = h; breaks = k }));
     sets = none_of (c2 s.act s.spot) (λ q k. none.unbroken C2' q (record { where_at = s; stands = h; breaks = k }));
     reductions = none_of (c3 s.act s.spot) (λ q k. none.unbroken C3' q (record { where_at = s; stands = h; breaks = k }));
+    items = none_of (c6 s.act s.spot) (λ q k. none.unbroken C6' q (record { where_at = s; stands = h; breaks = k }));
     loops = none_of (c10 s.act s.spot) (λ q k. none.unbroken C10' q (record { where_at = s; stands = h; breaks = k }));
     limits = none_of (c11 s.act s.spot) (λ q k. none.unbroken C11' q (record { where_at = s; stands = h; breaks = k }));
   }

@@ -12,6 +12,7 @@ use Rattle.loop_syntax.specs.declared.Expr.TheVariants.{Int, Var, Cell', Rows, C
 use Rattle.loop_syntax.specs.declared.Func.{Func}
 use Rattle.loop_rules.specs.Limits.{height, first_place, c11}
 use Rattle.loop_rules.specs.Names.{is_in, texts, func_of}
+use Rattle.loop_rules.specs.Carries.{c6}
 use Rattle.loop_rules.specs.Reductions.{c2, c3}
 use Rattle.loop_rules.specs.Scopes.{misfits, c1, c10}
 use Rattle.loop_rules.specs.Sites.{NamesTable, Calls, Spot, Site, site, in_expr, in_whole, in_args, in_app}
@@ -27,6 +28,7 @@ pub record Keeps (s : Site) : Type 0 where
   pub names : c1 s.act s.spot ≡ []
   pub sets : c2 s.act s.spot ≡ []
   pub reductions : c3 s.act s.spot ≡ []
+  pub items : c6 s.act s.spot ≡ []
   pub loops : c10 s.act s.spot ≡ []
   pub limits : c11 s.act s.spot ≡ []
 

@@ -4,6 +4,7 @@ use Rattle.std.proofs.Common.{◌≡◌, ◌≢◌, ℕ, zero, suc, ◌+◌, ◌
 use Rattle.std.specs.Prelude.{◌||◌, ◌&&◌, not, nat_le, slice_index_or}
 use Rattle.std.specs.List.{AllByRecursion}
 use Rattle.std.proofs.lemmas.Bool.Decides.{nat_tests}
+use Rattle.std.proofs.lemmas.Bool.{true≢false}
 use Rattle.std.proofs.lemmas.List.{length-append}
 use Rattle.tp_value.specs.declared.limits.TheConstants.{MAX_PAR_NESTING}
 use Rattle.tp_value.specs.declared.Op.{Op}
@@ -15,11 +16,12 @@ use Rattle.loop_syntax.specs.declared.Stmt.{Stmt}
 use Rattle.loop_syntax.specs.declared.Stmt.TheVariants.{Let}
 use Rattle.loop_rules.specs.Names.{is_in, operator_of}
 use Rattle.loop_rules.specs.Reductions.{any_loop, is_op, some_op, reduced, nearest_reduces, other_operator, reduced_otherwise, bad_targets}
-use Rattle.loop_rules.specs.Scopes.{at}
+use Rattle.loop_rules.specs.Scopes.{at, loop_targets}
 use Rattle.loop_rules.specs.Sites.{Loop, Assigns, Folds, Parallel, Spot, site, the_loop, in_loop, in_par}
 use Rattle.loop_check.proofs.Bools.{or_left, not_false, no_both}
 use Rattle.loop_check.proofs.Fine.{at_none, append_none_left, append_none_right}
 use Rattle.loop_check.proofs.Found.{eq_self, eq_is, is_in_end, is_in_more}
+use Rattle.frame_machine.specs.Lawful.{TargetsIn}
 use Rattle.block_lower.specs.Fitting.{level_of}
 use Rattle.block_lower.specs.Names.{names_after}
 use Rattle.block_lower.specs.Round.{Round, loop_round, unreduced, par_round}
@@ -269,3 +271,33 @@ pub folded_free : (w : Spot) (round : Round) (x : Name) → Around w round
     → AllByRecursion (λ j. j ≢ level_of w.scope x.text.items) round.fixed
 folded_free w round x around seen k =
     not_fixed w.scope (IsKept w) x.text.items round.fixed seen (folded_not_kept w x k) around.kept
+
+-- nor is one that a `par` reduces
+pub reduced_free : (w : Spot) (round : Round) (before : List (List ℕ)) (rs : List Reduce)
+    → Around w round → TargetsIn w.scope rs → loop_targets w.loops rs ≡ []
+    → bad_targets before rs w.rounds ≡ []
+    → AllByRecursion
+    (λ r. AllByRecursion (λ j. j ≢ level_of w.scope r.target.text.items) round.fixed) rs
+reduced_free w round before [] around seen loops targets = tt
+reduced_free w round before (r ∷ rs) around seen loops targets = (
+  not_fixed w.scope (IsKept w) x round.fixed seen.0
+      (⊎_elim
+      (λ is. no_both (is_in w.loops x) is
+      (at_none r.target (is_in w.loops x)
+      (append_none_left (at r.target (is_in w.loops x)) (loop_targets w.loops rs) loops)))
+      (λ stays. reduces_it (still_unreduced (r ∷ rs) before w.rounds x targets stays)))
+      around.kept,
+  reduced_free w round (x ∷ before) rs around seen.1
+      (append_none_right (at r.target (is_in w.loops x)) (loop_targets w.loops rs) loops)
+      (append_none_right (at r.target bad) (bad_targets (x ∷ before) rs w.rounds) targets),
+)
+  where
+    x : List ℕ
+    x = r.target.text.items
+
+    bad : Bool
+    bad = any_loop (other_operator r) w.rounds || any_loop (reduced_otherwise r) w.rounds
+        || is_in before x
+
+    reduces_it : some_op (cond (bytes_eq x x) (Some r.op) (operator_of rs x)) ≡ false → ⊥
+    reduces_it none = let is : true ≡ false = rw (eq_self x) at none in true≢false is

@@ -18,6 +18,7 @@ use Rattle.block_lower.specs.Fitting.{level_of, IsFree, IsCall, Fits, FitInRow, 
 use Rattle.block_lower.specs.Layout.{Entry}
 use Rattle.block_lower.specs.Names.{names_after}
 use Rattle.block_lower.specs.Round.{Round, loop_round, par_round}
+use Rattle.block_lower.proofs.UnbrokenCuts.{can_be_cut}
 use Rattle.block_lower.proofs.UnbrokenExpressions.{Keeps, IsCallee, named_table, whole_visible, args_visible, callee_of}
 use Rattle.block_lower.proofs.UnbrokenRounds.{Around, around_after, around_loop, around_par, shallow, set_free, folded_free}
 use Rattle.block_lower.proofs.UnbrokenSpots.{with_names, behind_first, behind_head, long_after, at_level}
@@ -101,6 +102,7 @@ module _ (functions : List Entry) (most : ℕ) where
           whole_visible w b (each_left Keeps (in_whole w b) (clauses ++ in_all within body) behind),
           fits_row (in_par w x carries.items reduces.items) (par_round round w.scope reduces.items) body entries (around_par w round x carries.items reduces.items place carry_place k.0 around) (omega (arith, length-append w.scope (x.text.items ∷ [])))
               (each_right Keeps clauses (in_all within body) (each_right Keeps (in_whole w b) (clauses ++ in_all within body) behind)),
+          can_be_cut functions most w round x carries.items reduces.items place carry_place around (omega arith) k.0 (each_left Keeps clauses (in_all within body) (each_right Keeps (in_whole w b) (clauses ++ in_all within body) behind)),
         )
     fits_stmt w round (Fold x e) entries around room k = (folded w round x around (omega arith) k.0, whole_visible w e k.1)
     fits_stmt w round (Call x f) entries around room k = (target w round x around (omega arith) k.0, call w f entries k.1)

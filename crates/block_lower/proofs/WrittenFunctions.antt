@@ -1,5 +1,5 @@
 -- The code of functions is written where that of their statements and results is.
-use Rattle.std.proofs.Common.{◌≡◌, ℕ, zero, suc, ◌+◌, ◌<◌, ◌≤◌, List, [], ◌∷◌, ◌++◌, length, map, drop, get_or, Vec, refl, sym, ap, subst, ◌∙◌, arith, append_assoc, append-nil}
+use Rattle.std.proofs.Common.{◌≡◌, ℕ, zero, suc, ◌+◌, ◌<◌, ◌≤◌, Bool, List, [], ◌∷◌, ◌++◌, length, map, drop, get_or, Vec, refl, sym, ap, subst, ◌∙◌, arith, append_assoc, append-nil}
 use Rattle.std.specs.List.{AllByRecursion}
 use Rattle.std.proofs.lemmas.List.{drop_more}
 use Rattle.std.proofs.lemmas.List.Sums.{sum_by-cons}
@@ -9,6 +9,7 @@ use Rattle.loop_syntax.specs.declared.Name.{Name}
 use Rattle.loop_rules.specs.Names.{texts}
 use Rattle.tpal_syntax.specs.declared.blocks.Block.{Block}
 use Rattle.tpal_syntax.specs.declared.instructions.Instr.{Instr}
+use Rattle.tpal_syntax.specs.declared.instructions.Instr.TheVariants as instr
 use Rattle.tpal_syntax.specs.declared.instructions.Term.{Term}
 use Rattle.tpal_syntax.specs.declared.instructions.Term.TheVariants as term
 use Rattle.tpal_syntax.specs.declared.instructions.Value.TheVariants as value
@@ -17,14 +18,15 @@ use Rattle.expr_lower.specs.declared.scope.Scope.{Scope}
 use Rattle.block_lower.specs.declared.body.Body.{Body}
 use Rattle.block_lower.specs.declared.body.Callee.{Callee}
 use Rattle.block_lower.specs.declared.output.Output.{Output}
+use Rattle.block_lower.specs.declared.round.Round as told
 use Rattle.block_lower.specs.Bodies.{entry, entries, activation, HasRoomFor}
 use Rattle.block_lower.specs.Code.{Computes, Codes, load}
 use Rattle.block_lower.specs.Fitting.{AllFit}
 use Rattle.block_lower.specs.Layout.{return_cell, Entry, Activation}
-use Rattle.block_lower.specs.Lowering.{WritesValue, LowersAll}
+use Rattle.block_lower.specs.Lowering.{IsRound, WritesValue, LowersAll}
 use Rattle.block_lower.specs.Main.{HasRoom, IsFunction}
 use Rattle.block_lower.specs.Names.{Sees, SeesAfter, names_after_list}
-use Rattle.block_lower.specs.Programs.{most_of, size_of, entry_at, entries_from, added_by_funcs, FuncIsSmall, FuncFitsIn, LowersFunc, AreWritten, LowersFuncs}
+use Rattle.block_lower.specs.Programs.{most_of, size_of, entry_at, entries_from, added_by_funcs, FuncIsSmall, FuncFitsIn, LowersFunc, activation_of, AreWritten, LowersFuncs}
 use Rattle.block_lower.specs.Round.{outermost}
 use Rattle.block_lower.specs.Sizes.{added_by_func, kept_by_list}
 use Rattle.block_lower.specs.Writing.{label, next_label, IsFresh, Pushes, Closes, Stands, Continues, Leads}
@@ -55,12 +57,12 @@ entry_same : (c : Callee) (label : ℕ) (f : Func) → c.name.items ≡ f.name.t
 entry_same c label f name there many size = rw (name, there, many, size) refl
 
 -- the next callee has the next entry
-pub entries_next : (cs : List Callee) (c : Callee) (label added : ℕ) (f : Func) (rest : List Func) (all : List Entry) → c.name.items ≡ f.name.text.items → c.label ≡ label → c.parameters ≡ length f.params.items → c.size ≡ size_of f → added ≡ added_by_func f
-    → entries cs ++ entries_from label (f ∷ rest) ≡ all → entries (cs ++ c ∷ []) ++ entries_from (label + added) rest ≡ all
-entries_next cs c label added f rest all name there many size blocks listed =
-    let behind : List Entry = entries_from (label + added) rest in
+pub entries_next : (cs : List Callee) (c : Callee) (calls : Bool) (label added : ℕ) (f : Func) (rest : List Func) (all : List Entry) → c.name.items ≡ f.name.text.items → c.label ≡ label → c.parameters ≡ length f.params.items → c.size ≡ size_of f → added ≡ added_by_func calls f
+    → entries cs ++ entries_from calls label (f ∷ rest) ≡ all → entries (cs ++ c ∷ []) ++ entries_from calls (label + added) rest ≡ all
+entries_next cs c calls label added f rest all name there many size blocks listed =
+    let behind : List Entry = entries_from calls (label + added) rest in
     ap (λ (es : List Entry). es ++ behind) (entries_more cs c) ∙ append_assoc (entries cs) (entry c ∷ []) behind ∙ ap (λ (e : Entry). entries cs ++ e ∷ behind) (entry_same c label f name there many size)
-    ∙ ap (λ (n : ℕ). entries cs ++ entry_at label f ∷ entries_from (label + n) rest) blocks ∙ listed
+    ∙ ap (λ (n : ℕ). entries cs ++ entry_at label f ∷ entries_from calls (label + n) rest) blocks ∙ listed
 
 -- ---- names
 
@@ -94,19 +96,19 @@ room_of on n tables room = record { few = room.few; room = omega (arith, room.ro
 pub func_room : (on : Body) (f : Func) → FuncIsSmall f → on.most ≡ most_of f → on.size ≡ size_of f → HasRoomFor on (kept_by_list f.body.items)
 func_room on f small most size = record { few = rw most small.few; room = rw (most, size) (omega arith); fits = rw size (func_fits f small.few) }
 
-pub func_written : (on : Body) (scope declared after : Scope) (f : Func) (kept : ℕ) (old inner valued new : Output) → HasRoomFor on kept → length f.params.items ≤ on.most → IsFresh old
-    → SeesAfter (λ names. names ++ texts f.params.items) scope declared → LowersAll on [] declared f.body.items old inner → SeesAfter (λ names. names_after_list names f.body.items) declared after
+pub func_written : (on : Body) (as_told : told.Round) (scope declared after : Scope) (f : Func) (kept : ℕ) (old inner valued new : Output) → IsRound outermost as_told → HasRoomFor on kept → length f.params.items ≤ on.most → IsFresh old
+    → SeesAfter (λ names. names ++ texts f.params.items) scope declared → LowersAll on as_told declared f.body.items old inner → SeesAfter (λ names. names_after_list names f.body.items) declared after
     → WritesValue after f.result 0 inner valued
     → ((code : Listing) → Stands code new → Continues code valued (load 1 return_cell ∷ []) (term.Jump (value.Reg 1)))
     → LowersFunc on scope f old new
-func_written on scope declared after f kept old inner valued new room params fresh declares all keeps writes returns code tables sees fits visible stands =
+func_written on as_told scope declared after f kept old inner valued new is_round room params fresh declares all keeps writes returns code tables sees fits visible stands =
     let names : List (List ℕ) = texts f.params.items in
     let act : Activation = activation on tables in
     let inside : Sees declared names tables = declares [] tables sees in
     let tail : List Instr = load 1 return_cell ∷ [] in
     let v : Leads code inner (λ instrs end. (end ≡ term.Jump (value.Reg 1)) × Computes code act (names_after_list names f.body.items) f.result 0 instrs tail) =
     writes code act (names_after_list names f.body.items) tail (term.Jump (value.Reg 1)) (keeps names tables inside) visible (returns code stands) in
-    let b : Leads code old (λ instrs end. Codes code act outermost names f.body.items instrs end v.instrs v.end) = all code tables names outermost v.instrs v.end refl inside fits v.continues in (
+    let b : Leads code old (λ instrs end. Codes code act outermost names f.body.items instrs end v.instrs v.end) = all code tables names outermost v.instrs v.end is_round inside fits v.continues in (
       b.continues.closed,
       record {
         has_room = room_of on kept tables room;
@@ -128,14 +130,13 @@ return_written old loads new one close code stands =
 
 -- ---- functions one behind the other
 
-pub written_more : (code : Listing) (tables : List (List ℕ)) (functions : List Entry) (fs : List Func) (f : Func) (at : ℕ) → AreWritten code tables functions at fs
-    → IsFunction code (record { tables = tables; functions = functions; most = most_of f; size = size_of f }) f (at + added_by_funcs fs) → AreWritten code tables functions at (fs ++ f ∷ [])
-written_more code tables functions [] f at all is = (subst (λ (l : ℕ). IsFunction code (record { tables = tables; functions = functions; most = most_of f; size = size_of f }) f l) (omega arith) is, tt)
-written_more code tables functions (g ∷ gs) f at all is =
-    let there : at + added_by_funcs (g ∷ gs) ≡ at + added_by_func g + added_by_funcs gs = omega (arith, sum_by-cons added_by_func g gs) in (
+pub written_more : (code : Listing) (act : Activation) (fs : List Func) (f : Func) (at : ℕ) → AreWritten code act at fs
+    → IsFunction code (activation_of act f) f (at + added_by_funcs act.calls fs) → AreWritten code act at (fs ++ f ∷ [])
+written_more code act [] f at all is = (subst (λ (l : ℕ). IsFunction code (activation_of act f) f l) (omega arith) is, tt)
+written_more code act (g ∷ gs) f at all is =
+    let there : at + added_by_funcs act.calls (g ∷ gs) ≡ at + added_by_func act.calls g + added_by_funcs act.calls gs = omega (arith, sum_by-cons (added_by_func act.calls) g gs) in (
       all.0,
-      written_more code tables functions gs f (at + added_by_func g) all.1
-          (subst (λ (l : ℕ). IsFunction code (record { tables = tables; functions = functions; most = most_of f; size = size_of f }) f l) there is),
+      written_more code act gs f (at + added_by_func act.calls g) all.1 (subst (λ (l : ℕ). IsFunction code (activation_of act f) f l) there is),
     )
 
 fits_before : (tables : List (List ℕ)) (functions : List Entry) (fs gs : List Func) → AllByRecursion (FuncFitsIn tables functions) (fs ++ gs) → AllByRecursion (FuncFitsIn tables functions) fs
@@ -146,24 +147,29 @@ fits_behind : (tables : List (List ℕ)) (functions : List Entry) (fs gs : List 
 fits_behind tables functions [] gs all = all
 fits_behind tables functions (f ∷ fs) gs all = fits_behind tables functions fs gs all.1
 
-pub no_funcs_written : (functions : List Entry) (scope : Scope) (old : Output) → LowersFuncs functions scope [] old old
-no_funcs_written functions scope old code tables sees fits stands = (stands, tt)
+pub no_funcs_written : (on : Body) (scope : Scope) (old : Output) → LowersFuncs on scope [] old old
+no_funcs_written on scope old code tables sees fits stands = (stands, tt)
 
 -- the label of the open block is that of the next one less one, where nothing is written in it
 pub fresh_label : (out : Output) → IsFresh out → next_label out ≡ label out + 1
 fresh_label out fresh = let none : length out.traps.items ≡ 0 = ap (λ (bs : List Block). length bs) fresh.traps in omega (arith, none)
 
-pub funcs_written : (on : Body) (first scope : Scope) (fs : List Func) (f : Func) (old middle new : Output) → on.most ≡ most_of f → on.size ≡ size_of f → first.cells.items ≡ [] → scope.cells.items ≡ [] → scope.tables ≡ first.tables
-    → IsFresh old → IsFresh middle → next_label middle ≡ next_label old + added_by_funcs fs
-    → LowersFuncs (entries on.callees.items) first fs old middle → LowersFunc on scope f middle new → LowersFuncs (entries on.callees.items) first (fs ++ f ∷ []) old new
-funcs_written on first scope fs f old middle new most size empty none same fresh fresh_middle labels all one code tables sees fits stands =
-    let own : FuncFitsIn tables (entries on.callees.items) f = (fits_behind tables (entries on.callees.items) fs (f ∷ []) fits).0 in
-    let w : Stands code middle × IsFunction code (activation on tables) f (label middle) =
-    one code tables (sees_tables first scope empty none same tables sees)
-    (subst (λ (n : ℕ). AllFit tables (entries on.callees.items) n outermost (texts f.params.items) f.body.items) (sym most) own.fits) own.seen stands in
-    let v : Stands code old × AreWritten code tables (entries on.callees.items) (label old) fs = all code tables sees (fits_before tables (entries on.callees.items) fs (f ∷ []) fits) w.0 in
-    let there : label middle ≡ label old + added_by_funcs fs = omega (arith, labels, fresh_label old fresh, fresh_label middle fresh_middle) in
-    let act : ℕ → ℕ → Activation = λ m s. record { tables = tables; functions = entries on.callees.items; most = m; size = s } in
-    let at_most : IsFunction code (act (most_of f) on.size) f (label middle) = subst (λ (n : ℕ). IsFunction code (act n on.size) f (label middle)) most w.1 in
-    let at_size : IsFunction code (act (most_of f) (size_of f)) f (label middle) = subst (λ (n : ℕ). IsFunction code (act (most_of f) n) f (label middle)) size at_most in
-    (v.0, written_more code tables (entries on.callees.items) fs f (label old) v.1 (subst (λ (l : ℕ). IsFunction code (act (most_of f) (size_of f)) f l) there at_size))
+-- two bodies stand on the same functions
+pub record StandAlike (on also : Body) : Type 0 where
+  pub callees : on.callees ≡ also.callees
+  pub calls : on.quiet_calls ≡ also.quiet_calls
+  pub dispatch : on.dispatch ≡ also.dispatch
+
+pub funcs_written : (base on : Body) (first scope : Scope) (fs : List Func) (f : Func) (old middle new : Output) → StandAlike on base → on.most ≡ most_of f → on.size ≡ size_of f → first.cells.items ≡ [] → scope.cells.items ≡ [] → scope.tables ≡ first.tables
+    → IsFresh old → IsFresh middle → next_label middle ≡ next_label old + added_by_funcs base.quiet_calls fs
+    → LowersFuncs base first fs old middle → LowersFunc on scope f middle new → LowersFuncs base first (fs ++ f ∷ []) old new
+funcs_written base on first scope fs f old middle new alike most size empty none same fresh fresh_middle labels all one code tables sees fits stands =
+    let own : FuncFitsIn tables (entries base.callees.items) f = (fits_behind tables (entries base.callees.items) fs (f ∷ []) fits).0 in
+    let fit_named : AllFit tables (entries on.callees.items) on.most outermost (texts f.params.items) f.body.items =
+    rw (alike.callees, most) own.fits in
+    let w : Stands code middle × IsFunction code (activation on tables) f (label middle) = one code tables (sees_tables first scope empty none same tables sees) fit_named own.seen stands in
+    let v : Stands code old × AreWritten code (activation base tables) (label old) fs = all code tables sees (fits_before tables (entries base.callees.items) fs (f ∷ []) fits) w.0 in
+    let there : label middle ≡ label old + added_by_funcs base.quiet_calls fs = omega (arith, labels, fresh_label old fresh, fresh_label middle fresh_middle) in
+    let is : activation on tables ≡ activation_of (activation base tables) f = rw (alike.callees, alike.calls, alike.dispatch, most, size) refl in
+    let placed : IsFunction code (activation on tables) f (label old + added_by_funcs base.quiet_calls fs) = subst (λ (l : ℕ). IsFunction code (activation on tables) f l) there w.1 in
+    (v.0, written_more code (activation base tables) fs f (label old) v.1 (subst (λ (act : Activation). IsFunction code act f (label old + added_by_funcs base.quiet_calls fs)) is placed))

@@ -57,7 +57,7 @@ module _ (on : Body) (scope : Scope) where
 
   pub made_written : (x : Name) (a b : Expr) (table : ℕ) (old rows cols new : Output) → table ≡ length scope.tables.items → WritesValue scope a 0 old rows → WritesValue scope b 1 rows cols → Pushes (instr.Make table 0 1 x.place ∷ []) cols new → WritesMakes on scope (Made x a b ∷ []) old new
   made_written x a b table old rows cols new number first second push code tables seen more last sees fits c =
-      let act : Activation = record { tables = seen; functions = (activation on tables).functions; most = on.most; size = on.size } in
+      let act : Activation = record (activation on tables) { tables = seen } in
       let make : ℕ → Instr = λ n. instr.Make n 0 1 x.place in
       let count : table ≡ length seen = number ∙ as_many_tables scope [] seen sees in
       let w : Leads code rows (λ instrs end. (end ≡ last) × Computes code act [] b 1 instrs (make table ∷ more)) =
@@ -73,7 +73,7 @@ module _ (on : Body) (scope : Scope) where
   pub made_kept_written : (x : Name) (a b : Expr) (table : ℕ) (old rows keeps cols loads new : Output) → table ≡ length scope.tables.items → HasRoomFor on 1 → WritesValue scope a 0 old rows → Pushes (store (value_cell on.most + 0) (value.Reg 0) ∷ []) rows keeps
       → WritesValue scope b 0 keeps cols → Pushes (load 1 (value_cell on.most + 0) ∷ []) cols loads → Pushes (instr.Make table 1 0 x.place ∷ []) loads new → WritesMakes on scope (Made x a b ∷ []) old new
   made_kept_written x a b table old rows keeps cols loads new number room first keep second loading push code tables seen more last sees fits c =
-      let act : Activation = record { tables = seen; functions = (activation on tables).functions; most = on.most; size = on.size } in
+      let act : Activation = record (activation on tables) { tables = seen } in
       let make : ℕ → Instr = λ n. instr.Make n 1 0 x.place in
       let kept : Instr = store (value_cell on.most + 0) (value.Reg 0) in
       let loaded : Instr = load 1 (value_cell on.most + 0) in
@@ -87,7 +87,7 @@ module _ (on : Body) (scope : Scope) where
         instrs = v.instrs;
         end = v.end;
         continues = v.continues;
-        told = (v.told.0 ∙ w.told.0, made_kept_table room.room v.told.1 (subst (λ (n : ℕ). Computes code act [] b 0 w.instrs (loaded ∷ make n ∷ more)) count w.told.1) no_table);
+        told = (v.told.0 ∙ w.told.0, made_kept_table {instrs = v.instrs} room.room v.told.1 (subst (λ (n : ℕ). Computes code act [] b 0 w.instrs (loaded ∷ make n ∷ more)) count w.told.1) no_table);
       }
 
 -- ---- tables in order

@@ -16,7 +16,14 @@ entries (c ∷ cs) = entry c ∷ entries cs
 -- the activation of a body, where these are the tables
 abbrev pub activation : Body → List (List ℕ) → Activation
 activation on tables =
-    record { tables = tables; functions = entries on.callees.items; most = on.most; size = on.size }
+    record {
+      tables = tables;
+      functions = entries on.callees.items;
+      calls = on.quiet_calls;
+      dispatch = on.dispatch;
+      most = on.most;
+      size = on.size;
+    }
 
 -- behind the cells of its variables, the activation of a body has room for so many values
 pub record HasRoomFor (on : Body) (n : ℕ) : Type 0 where

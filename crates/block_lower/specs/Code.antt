@@ -2,13 +2,14 @@
 -- statement leads from some instructions with an end to others with an end, which are the code of
 -- what follows.
 use Rattle.std.specs.Prelude.{◌≡◌, ◌≢◌, ℕ, zero, suc, ◌+◌, ◌<◌, ◌≤◌, ℤ, pos, List, [], ◌∷◌, ◌++◌}
-use Rattle.std.specs.Prelude.{length, Some, None, Vec}
+use Rattle.std.specs.Prelude.{Bool, true, false, length, Some, None, Vec}
 use Rattle.std.specs.List.{AllByRecursion}
 use Rattle.std.specs.declared.alloc.Global.{Global}
 use Rattle.loop_syntax.specs.declared.Name.{Name}
 use Rattle.loop_syntax.specs.declared.Expr.{Expr}
 use Rattle.loop_syntax.specs.declared.Stmt.{Stmt}
 use Rattle.loop_syntax.specs.declared.ParLoop.{ParLoop}
+use Rattle.loop_syntax.specs.declared.Reduce.{Reduce}
 use Rattle.loop_syntax.specs.declared.App.{App}
 use Rattle.loop_syntax.specs.declared.Stmt.TheVariants.{Let, Set, Put, If, While, Loop, Par, Fold}
 use Rattle.loop_syntax.specs.declared.Stmt.TheVariants.{Call, Both, Print, Emit}
@@ -19,23 +20,17 @@ use Rattle.tp_value.specs.declared.limits.TheConstants.{MAX_EXPRESSION_HEIGHT}
 use Rattle.tp_value.specs.declared.limits.TheConstants.{MAX_PAR_LENGTH, MAX_PAR_NESTING}
 use Rattle.tp_value.specs.declared.limits.TheConstants.{MAX_PARAMETERS}
 use Rattle.tp_value.specs.declared.Op.{Op}
-use Rattle.tp_value.specs.declared.Op.TheVariants as op
 use Rattle.tp_value.specs.declared.Place.{Place}
 use Rattle.tp_value.specs.declared.TrapKind.TheVariants.{Index, Wide, Deep}
-use Rattle.tpal_syntax.specs.declared.blocks.Block.{Block}
-use Rattle.tpal_syntax.specs.declared.instructions.Alu.{Alu}
-use Rattle.tpal_syntax.specs.declared.instructions.Alu.TheVariants.{Lt, Le, Add, Sub, Mul, Min, Max}
-use Rattle.tpal_syntax.specs.declared.instructions.Alu.TheVariants.{Affine}
+use Rattle.tpal_syntax.specs.declared.instructions.Alu.TheVariants.{Lt, Le, Add, Sub}
 use Rattle.tpal_syntax.specs.declared.instructions.Instr.{Instr}
 use Rattle.tpal_syntax.specs.declared.instructions.Instr.TheVariants as instr
 use Rattle.tpal_syntax.specs.declared.instructions.Term.{Term}
 use Rattle.tpal_syntax.specs.declared.instructions.Term.TheVariants as term
 use Rattle.tpal_syntax.specs.declared.instructions.Value.{Value}
 use Rattle.tpal_syntax.specs.declared.instructions.Value.TheVariants as value
-use Rattle.tpal_syntax.specs.declared.notes.Note.{Note}
 use Rattle.tpal_syntax.specs.declared.notes.Note.TheVariants as note
 use Rattle.tpal_syntax.specs.Listing.{Listing}
-use Rattle.tpal_machine.specs.Reading.{block_at}
 use Rattle.expr_lower.specs.declared.scope.Scope.{Scope}
 use Rattle.expr_lower.specs.Bodies.{body_of, traps_of, trap_block, literal, range_tests}
 use Rattle.expr_lower.specs.Scopes.{IsIn, HasVariable, HasTable, offset_of, table_number}
@@ -43,31 +38,14 @@ use Rattle.expr_lower.specs.Standing.{AreAt}
 use Rattle.block_lower.specs.Layout.{base_register, return_cell, levels_cell, value_cell}
 use Rattle.block_lower.specs.Layout.{bound_cell, kept_cell, kept_value, kept_by_both, Entry}
 use Rattle.block_lower.specs.Layout.{entry_of, Activation}
+use Rattle.block_lower.specs.Marked.{IsQuietSite}
 use Rattle.block_lower.specs.Names.{Sees, names_after}
+use Rattle.block_lower.specs.Quiet.{list_is_quiet}
 use Rattle.block_lower.specs.Round.{Round, loop_round, par_round}
-
--- the block at a label is marked as this, and has these instructions and this end
-pub record OpensAs (code : Listing) (mark : Note) (label : ℕ) (instrs : List Instr) (end : Term)
-    : Type 0 where
-  pub block : Block
-  pub found : block_at code label ≡ Some block
-  pub noted : block.note ≡ mark
-  pub body : block.body ≡ instrs
-  pub ends : block.term ≡ end
-
--- the block at a label is a plain one, with these instructions and this end
-abbrev pub Opens : Listing → ℕ → List Instr → Term → Type 0
-Opens code label instrs end = OpensAs code note.Plain label instrs end
-
-abbrev pub to : ℕ → Term
-to label = term.Jump (value.Label label)
-
--- a store to a cell of the activation, and a load
-abbrev pub store : ℕ → Value → Instr
-store cell v = instr.Store base_register cell v
-
-abbrev pub load : ℕ → ℕ → Instr
-load r cell = instr.Load r base_register cell
+use Rattle.handler_gen.specs.Sites.{over_label}
+use Rattle.tpal_syntax.specs.declared.sites.LoopSite.{LoopSite}
+pub use Rattle.block_lower.specs.Opening.{OpensAs, Opens, to, store, load}
+pub use Rattle.join_gen.specs.Blocks.{alu_of}
 
 -- the test of a loop: another turn where the number in a register is below the bound
 abbrev pub below_test : ℕ → Value → ℕ → List Instr
@@ -79,13 +57,10 @@ step_up counter level more =
     load counter (value_cell level) ∷ instr.Calc counter counter Add (value.Int (pos 1))
     ∷ store (value_cell level) (value.Reg counter) ∷ more
 
--- the operator that folds
-abbrev pub alu_of : Op → Alu
-alu_of op.Add = Add
-alu_of op.Mul = Mul
-alu_of op.Min = Min
-alu_of op.Max = Max
-alu_of op.Affine = Affine
+-- the end of a turn up to a bound in a cell, and another one at a label where it is below it
+abbrev pub next_turn : ℕ → ℕ → List Instr
+next_turn level again =
+    step_up 1 level (load 0 (bound_cell level) ∷ below_test 1 (value.Reg 0) again)
 
 -- a cell of a table is set where it is one: the row, the column and the number are in three
 -- registers, and another one is for the tests
@@ -153,6 +128,11 @@ module _ (code : Listing) (act : Activation) where
     pub at_level : cell ≡ value_cell level
     pub below : level < act.most
     pub free : AllByRecursion (λ j. j ≢ level) fixed
+
+  -- a variable that may be set
+  pub record IsFreeCell (names : List (List ℕ)) (fixed : List ℕ) (x : List ℕ) : Type 0 where
+    pub cell : ℕ
+    pub is : IsCell names fixed x cell
 
   -- the number of a table
   pub record IsTable (names : List (List ℕ)) (t : List ℕ) (number : ℕ) : Type 0 where
@@ -278,6 +258,7 @@ module _ (code : Listing) (act : Activation) where
           {check wide again exit : ℕ} {instrs second inner more : List Instr} {last end : Term}
           → round.depth < MAX_PAR_NESTING
           → length names < act.most
+          → list_is_quiet act.calls l.body.items ≡ false
           → Computes names l.from 0 instrs
           (store (value_cell (length names)) (value.Reg 0) ∷ second)
           → Computes names l.to 0 second
@@ -291,6 +272,28 @@ module _ (code : Listing) (act : Activation) where
           (step_up 1 (length names)
           (load 0 (bound_cell (length names)) ∷ below_test 1 (value.Reg 0) again))
           (to exit)
+          → Opens code exit more end
+          → Code round names (Par l) instrs (to exit) more end
+      quiet_par_code : {round : Round} {names : List (List ℕ)} (l : ParLoop) (site : LoopSite)
+          {check first head exit : ℕ} {instrs second inner again more : List Instr}
+          {last half end : Term}
+          → round.depth < MAX_PAR_NESTING
+          → length names < act.most
+          → list_is_quiet act.calls l.body.items ≡ true
+          → AllByRecursion (λ (r : Reduce). IsFreeCell names round.fixed r.target.text.items)
+          l.reduces.items
+          → Computes names l.from 0 instrs
+          (store (value_cell (length names)) (value.Reg 0) ∷ second)
+          → Computes names l.to 0 second
+          (store (bound_cell (length names)) (value.Reg 0) ∷ load 1 (value_cell (length names))
+          ∷ instr.Calc 2 1 Lt (value.Reg 0) ∷ instr.IfJump 2 check ∷ [])
+          → IsQuietSite code act names l round.depth check first exit site
+          → Opens code first (instr.Tick ∷ inner) last
+          → Codes (par_round round names l.reduces.items) (names ++ l.var.text.items ∷ [])
+          l.body.items inner last (next_turn (length names) head) (to (over_label site.label))
+          → OpensAs code (note.Ready act.dispatch) head (instr.Tick ∷ again) half
+          → Codes (par_round round names l.reduces.items) (names ++ l.var.text.items ∷ [])
+          l.body.items again half (next_turn (length names) head) (to (over_label site.label))
           → Opens code exit more end
           → Code round names (Par l) instrs (to exit) more end
       fold_code : {round : Round} {names : List (List ℕ)} {x : Name}

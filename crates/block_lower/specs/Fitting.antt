@@ -2,16 +2,19 @@
 -- is set that is fixed there, and there is room for those that they declare. What the code of a
 -- program asks of it.
 use Rattle.std.specs.Prelude.{◌≡◌, ◌≢◌, ℕ, suc, ◌+◌, ◌<◌, ◌≤◌, cond, IsTrue, ⊤, List, [], ◌∷◌, ◌++◌}
-use Rattle.std.specs.Prelude.{length, bytes_eq, Some}
+use Rattle.std.specs.Prelude.{length, map, bytes_eq, Some}
 use Rattle.std.specs.List.{AllByRecursion, IsDistinct}
 use Rattle.tp_value.specs.declared.limits.TheConstants.{MAX_TABLES, MAX_PARAMETERS}
-use Rattle.tp_value.specs.declared.limits.TheConstants.{MAX_PAR_NESTING}
+use Rattle.tp_value.specs.declared.limits.TheConstants.{MAX_CARRIES, MAX_PAR_NESTING}
+use Rattle.tp_value.specs.declared.limits.TheConstants.{MAX_REDUCTIONS}
 use Rattle.tp_value.specs.declared.limits.TheConstants.{MAX_DECLARED_VARIABLES}
 use Rattle.loop_syntax.specs.declared.App.{App}
+use Rattle.loop_syntax.specs.declared.Carry.{Carry}
 use Rattle.loop_syntax.specs.declared.Expr.{Expr}
 use Rattle.loop_syntax.specs.declared.Expr.TheVariants.{Int, Var, Cell', Rows, Cols, Neg', Bin'}
 use Rattle.loop_syntax.specs.declared.Func.{Func}
 use Rattle.loop_syntax.specs.declared.Program.{Program}
+use Rattle.loop_syntax.specs.declared.Reduce.{Reduce}
 use Rattle.loop_syntax.specs.declared.Stmt.{Stmt, Row_of-Stmt, end_of-Stmt, more_of-Stmt}
 use Rattle.loop_syntax.specs.declared.Stmt.TheVariants.{Let, Set, Put, If', While', Loop', Par'}
 use Rattle.loop_syntax.specs.declared.Stmt.TheVariants.{Fold, Call, Both, Print, Emit}
@@ -24,6 +27,8 @@ use Rattle.block_lower.specs.Heights.{AllAreLow, FuncIsLow, DeclIsLow}
 use Rattle.block_lower.specs.Layout.{Entry, entry_of}
 use Rattle.block_lower.specs.Names.{names_after, names_after_list}
 use Rattle.block_lower.specs.Round.{Round, outermost, loop_round, par_round}
+use Rattle.block_lower.specs.Sites.{carried_table}
+use Rattle.frame_machine.specs.Lawful.{Distinct, DistinctTargets}
 
 -- how many variables stand before the first one of that name
 abbrev pub level_of : List (List ℕ) → List ℕ → ℕ
@@ -60,6 +65,17 @@ module _ (tables : List (List ℕ)) (functions : List Entry) (most : ℕ) where
     pub arity : length f.args.items ≡ entry.parameters
     pub seen : AreVisible tables names f.args.items
 
+  -- a `par` that reduces and carries these can be cut: its variables may be set, its tables are
+  -- there, none stands twice, and there are few
+  pub record CanBeCut (names : List (List ℕ)) (fixed : List ℕ) (reduces : List Reduce)
+      (carries : List Carry) : Type 0 where
+    pub few_reduces : length reduces ≤ MAX_REDUCTIONS
+    pub few_carries : length carries ≤ MAX_CARRIES
+    pub reduced : AllByRecursion (λ r. IsFree names fixed r.target.text.items) reduces
+    pub reduced_differ : DistinctTargets reduces
+    pub carried_seen : AllByRecursion (λ c. IsTrue (is_in tables (carried_table c))) carries
+    pub carried_differ : Distinct (map carried_table carries)
+
   -- a statement fits where this stands round it and these variables are visible
   abbrev mutual
     pub Fits : Round → List (List ℕ) → Stmt → Type 0
@@ -84,6 +100,7 @@ module _ (tables : List (List ℕ)) (functions : List Entry) (most : ℕ) where
         × IsVisible tables names a
         × IsVisible tables names b
         × FitInRow (par_round round names reduces.items) (names ++ x.text.items ∷ []) body
+        × CanBeCut names round.fixed reduces.items carries.items
     Fits round names (Fold x e) = IsFree names round.fixed x.text.items × IsVisible tables names e
     Fits round names (Call x f) = IsFree names round.fixed x.text.items × IsCall names f
     Fits round names (Both x f y g) =

@@ -1,5 +1,6 @@
 -- Where the words of an activation stand: offsets from the position in the base register.
-use Rattle.std.specs.Prelude.{ℕ, ◌+◌, ◌*◌, cond, bytes_eq, List, [], ◌∷◌, Option, None, Some}
+use Rattle.std.specs.Prelude.{ℕ, ◌+◌, ◌*◌, Bool, cond, bytes_eq, List, [], ◌∷◌, Option, None}
+use Rattle.std.specs.Prelude.{Some}
 use Rattle.tp_value.specs.declared.limits.TheConstants.{MAX_PAR_NESTING, MAX_PARAMETERS}
 
 -- the register with the position of the activation that runs
@@ -47,10 +48,13 @@ entry_of [] x = None
 entry_of (e ∷ es) x = cond (bytes_eq e.name x) (Some e) (entry_of es x)
 
 -- What the code of main's statements, or of a function's, stands on: the names of the tables, the
--- functions, and an activation with room for so many variables, of so many cells.
+-- functions, whether no point of promotion can be reached in a call, the block to which each beat
+-- goes, and an activation with room for so many variables, of so many cells.
 pub record Activation : Type 0 where
   pub tables : List (List ℕ)
   pub functions : List Entry
+  pub calls : Bool
+  pub dispatch : ℕ
   pub most : ℕ
   pub size : ℕ
 

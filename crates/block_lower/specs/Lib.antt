@@ -8,12 +8,14 @@ pub mod Layout
 pub mod Names
 -- what stands round a statement
 pub mod Round
--- which code is the code of a statement
-pub mod Code
+-- which block stands at a label, and the instructions that stand in most blocks
+pub mod Opening
 -- the site of a `par`
 pub mod Sites
 -- the code of a `par` that can be cut, round its iterations
 pub mod Marked
+-- which code is the code of a statement
+pub mod Code
 -- which code is the code of a program
 pub mod Main
 -- how many blocks a statement adds, and how many variables it declares

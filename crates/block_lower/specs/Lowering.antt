@@ -1,11 +1,13 @@
 -- What is promised of writing the code of expressions and statements: wherever what is written at
 -- the end stands in a code, what was written before goes on there with the code of the expression
 -- or the statement.
-use Rattle.std.specs.Prelude.{◌≡◌, ℕ, ◌+◌, ℤ, List, [], ◌∷◌, ◌++◌, length, Some, Vec}
+use Rattle.std.specs.Prelude.{◌≡◌, ℕ, ◌+◌, ℤ, true, List, [], ◌∷◌, ◌++◌, length, Some, Vec}
+use Rattle.std.specs.List.{list_any}
 use Rattle.std.specs.declared.alloc.Global.{Global}
 use Rattle.loop_syntax.specs.declared.Expr.{Expr}
-use Rattle.loop_syntax.specs.declared.Reduce.{Reduce}
+use Rattle.loop_syntax.specs.declared.ParLoop.{ParLoop}
 use Rattle.loop_syntax.specs.declared.Stmt.{Stmt}
+use Rattle.loop_syntax.specs.declared.Stmt.TheVariants.{Par}
 use Rattle.tp_value.specs.declared.Place.{Place}
 use Rattle.tp_value.specs.declared.TrapKind.TheVariants.{Index, Wide}
 use Rattle.tpal_syntax.specs.declared.instructions.Alu.TheVariants.{Lt}
@@ -14,25 +16,62 @@ use Rattle.tpal_syntax.specs.declared.instructions.Instr.TheVariants.{Tick, Calc
 use Rattle.tpal_syntax.specs.declared.instructions.Term.{Term}
 use Rattle.tpal_syntax.specs.declared.instructions.Value.{Value}
 use Rattle.tpal_syntax.specs.declared.instructions.Value.TheVariants as value
+use Rattle.tpal_syntax.specs.declared.sites.LoopSite.{LoopSite}
 use Rattle.tpal_syntax.specs.Listing.{Listing}
 use Rattle.expr_lower.specs.declared.scope.Scope.{Scope}
 use Rattle.loop_meaning.specs.InRange.{InRange}
 use Rattle.expr_lower.specs.Bodies.{literal, trap_block}
 use Rattle.expr_lower.specs.Standing.{AreAt}
+use Rattle.handler_gen.specs.Blocks.{loop_handler_blocks}
+use Rattle.handler_gen.specs.Sites.{target_label, first_label, over_label, none_label, side_label}
+use Rattle.handler_gen.specs.Sites.{prep_label}
+use Rattle.join_gen.specs.Blocks.{loop_join_blocks}
 use Rattle.block_lower.specs.declared.body.Body.{Body}
 use Rattle.block_lower.specs.declared.output.Output.{Output}
 use Rattle.block_lower.specs.declared.repeat.Bound.{Bound}
 use Rattle.block_lower.specs.declared.repeat.Bound.TheVariants as bound
 use Rattle.block_lower.specs.declared.repeat.Turns.{Turns}
+use Rattle.block_lower.specs.declared.round.Round as told
 use Rattle.block_lower.specs.Bodies.{entries, activation}
-use Rattle.block_lower.specs.Code.{Opens, Computes, Operand, Arguments, parameter_cell, passed}
+use Rattle.block_lower.specs.Code.{Opens, OpensAs, Computes, Operand, Arguments}
+use Rattle.block_lower.specs.Code.{parameter_cell, passed}
 use Rattle.block_lower.specs.Code.{Calls, Code, Codes, Branch, Other, to, store, load, below_test}
 use Rattle.block_lower.specs.Code.{step_up, wide_test, put_tested}
 use Rattle.block_lower.specs.Fitting.{IsVisible, AreVisible, Fits, AllFit}
 use Rattle.block_lower.specs.Layout.{value_cell, bound_cell, kept_cell, Entry, Activation}
+use Rattle.block_lower.specs.Marked.{length_test, marked_begin, unmark, side_test, IsQuietSite}
 use Rattle.block_lower.specs.Names.{Sees}
 use Rattle.block_lower.specs.Round.{Round}
+use Rattle.block_lower.specs.Sites.{rows_from}
+use Rattle.block_lower.specs.Sizes.{has_row}
 use Rattle.block_lower.specs.Writing.{label, next_label, Stands, Continues, Leads}
+
+-- ---- what is known before
+
+-- what stands round a statement is as told
+pub record IsRound (round : Round) (as_told : told.Round) : Type 0 where
+  pub reduces : round.reduces ≡ as_told.reduces.now
+  pub depth : round.depth ≡ as_told.depth
+
+-- statements fit in a body, where a scope is visible and this stands round them
+pub record FitsIn (on : Body) (scope : Scope) (as_told : told.Round) (ss : List Stmt) : Type 0
+  where
+    pub tables : List (List ℕ)
+    pub names : List (List ℕ)
+    pub round : Round
+    pub is_round : IsRound round as_told
+    pub sees : Sees scope names tables
+    pub fits : AllFit tables (entries on.callees.items) on.most round names ss
+
+-- the same of the body of a loop over a variable that isn't visible yet
+pub record FitsInside (on : Body) (scope : Scope) (as_told : told.Round) (x : List ℕ)
+    (ss : List Stmt) : Type 0 where
+  pub tables : List (List ℕ)
+  pub names : List (List ℕ)
+  pub round : Round
+  pub is_round : IsRound round as_told
+  pub sees : Sees scope names tables
+  pub fits : AllFit tables (entries on.callees.items) on.most round (names ++ x ∷ []) ss
 
 -- ---- expressions
 
@@ -145,6 +184,70 @@ WritesWide place again old new =
     × Opens code (label old) (wide_test (label old + 1) again) (to (label old + 1))
     × AreAt code (label old + 1) (trap_block (label old + 1) Wide place ∷ [])
 
+-- the test of the length of a `par` that can be cut was written, in front of what its block goes on
+-- with
+abbrev pub WritesLength : Output → Output → Type 0
+WritesLength old new =
+    (code : Listing) (more : List Instr) (last : Term)
+    → Continues code new more last
+    → Continues code old (length_test (next_label old) more) last
+
+-- behind it the begin of that `par` was written, and its block closed with the trap block behind it
+abbrev pub WritesBegin : Place → LoopSite → ℕ → Output → Output → Type 0
+WritesBegin place site first old new =
+    (code : Listing) → Stands code new
+    → Continues code old (marked_begin site first) (to (next_label old))
+    × AreAt code (next_label old) (trap_block (next_label old) Wide place ∷ [])
+
+-- the block that loads the rows of carries before the cut at a label was written, where there is a
+-- row
+abbrev pub WritesPrep : Scope → ParLoop → ℕ → Output → Output → Type 0
+WritesPrep scope l at old new =
+    (code : Listing) → Stands code new
+    → Stands code old
+    × (list_any has_row l.carries.items ≡ true
+    → Opens code (label old) (rows_from scope 0 l.carries.items) (to at))
+
+-- the blocks of a quiet `par` round its iterations, the first of which is at a label
+pub record IsRoundQuiet (code : Listing) (scope : Scope) (l : ParLoop) (site : LoopSite)
+    (first exit : ℕ) : Type 0 where
+  pub handler : AreAt code site.label (loop_handler_blocks site)
+  pub join : AreAt code (target_label site.label) (loop_join_blocks site)
+  pub child : Opens code (first_label site.label) [] (to first)
+  pub over : Opens code (over_label site.label) (unmark site ∷ side_test site exit)
+      (to (side_label site.label))
+  pub none : Opens code (none_label site.label) [] (to (over_label site.label))
+  pub rows : list_any has_row l.carries.items ≡ true
+      → Opens code (prep_label site.label) (rows_from scope 0 l.carries.items) (to site.label)
+
+-- they were written
+abbrev pub WritesSite : Scope → ParLoop → LoopSite → ℕ → ℕ → Output → Output → Type 0
+WritesSite scope l site first exit old new =
+    (code : Listing) → Stands code new
+    → Stands code old × IsRoundQuiet code scope l site first exit
+
+-- instructions that begin a quiet `par`, whose further iterations are as told
+pub record IsQuietBegun (code : Listing) (act : Activation) (names : List (List ℕ)) (l : ParLoop)
+    (depth first exit : ℕ) (turns : Turns) (instrs : List Instr) : Type 0 where
+  pub site : LoopSite
+  pub check : ℕ
+  pub bounds : AreBounds code act names l.from l.to instrs
+      (Calc 2 1 Lt (value.Reg 0) ∷ IfJump 2 check ∷ [])
+  pub is_site : IsQuietSite code act names l depth check first exit site
+  pub over : turns.exit ≡ over_label site.label
+
+-- the begin of a quiet `par` was written; the open block is that of its first iteration
+abbrev pub BeginsQuiet : Body → told.Round → Scope → ParLoop → Turns → ℕ → Output → Output → Type 0
+BeginsQuiet on as_told scope l turns exit old new =
+    (code : Listing) (tables names : List (List ℕ)) (round : Round)
+    → IsRound round as_told
+    → Sees scope names tables
+    → Fits tables (entries on.callees.items) on.most round names (Par l)
+    → Stands code new
+    → Leads code old
+    (λ instrs end. (end ≡ to exit)
+    × IsQuietBegun code (activation on tables) names l round.depth (label new) exit turns instrs)
+
 -- ---- tables
 
 -- the write of a cell was written, with the tests of its row and its column
@@ -203,11 +306,11 @@ WritesCall on place at size old new =
 -- ---- statements
 
 -- the code of a statement was written
-abbrev pub Lowers : Body → List Reduce → Scope → Stmt → Output → Output → Type 0
-Lowers on reduces scope s old new =
+abbrev pub Lowers : Body → told.Round → Scope → Stmt → Output → Output → Type 0
+Lowers on as_told scope s old new =
     (code : Listing) (tables names : List (List ℕ)) (round : Round) (more : List Instr)
     (last : Term)
-    → round.reduces ≡ reduces
+    → IsRound round as_told
     → Sees scope names tables
     → Fits tables (entries on.callees.items) on.most round names s
     → Continues code new more last
@@ -219,11 +322,11 @@ abbrev pub WithBody : List Stmt → (Vec Stmt Global → Type 0) → Type 0
 WithBody body holds = (v : Vec Stmt Global) → v.items ≡ body → holds v
 
 -- the code of statements in order was written
-abbrev pub LowersAll : Body → List Reduce → Scope → List Stmt → Output → Output → Type 0
-LowersAll on reduces scope ss old new =
+abbrev pub LowersAll : Body → told.Round → Scope → List Stmt → Output → Output → Type 0
+LowersAll on as_told scope ss old new =
     (code : Listing) (tables names : List (List ℕ)) (round : Round) (more : List Instr)
     (last : Term)
-    → round.reduces ≡ reduces
+    → IsRound round as_told
     → Sees scope names tables
     → AllFit tables (entries on.callees.items) on.most round names ss
     → Continues code new more last
@@ -232,20 +335,20 @@ LowersAll on reduces scope ss old new =
     last)
 
 -- a branch, which goes on at a label, was written and closed; the open block was to be its first
-abbrev pub LowersBranch : Body → List Reduce → Scope → List Stmt → ℕ → Output → Output → Type 0
-LowersBranch on reduces scope body exit old new =
+abbrev pub LowersBranch : Body → told.Round → Scope → List Stmt → ℕ → Output → Output → Type 0
+LowersBranch on as_told scope body exit old new =
     (code : Listing) (tables names : List (List ℕ)) (round : Round)
-    → round.reduces ≡ reduces
+    → IsRound round as_told
     → Sees scope names tables
     → AllFit tables (entries on.callees.items) on.most round names body
     → Stands code new
     → Stands code old × Branch code (activation on tables) round names body (label old) exit
 
 -- the same of a second branch, which may have no block; the exit is behind it
-abbrev pub LowersOther : Body → List Reduce → Scope → List Stmt → ℕ → Output → Output → Type 0
-LowersOther on reduces scope body exit old new =
+abbrev pub LowersOther : Body → told.Round → Scope → List Stmt → ℕ → Output → Output → Type 0
+LowersOther on as_told scope body exit old new =
     (code : Listing) (tables names : List (List ℕ)) (round : Round)
-    → round.reduces ≡ reduces
+    → IsRound round as_told
     → Sees scope names tables
     → AllFit tables (entries on.callees.items) on.most round names body
     → Stands code new
@@ -259,15 +362,15 @@ pub record IsBodyAt (code : Listing) (act : Activation) (round : Round)
   pub before : Stands code out
   pub instrs : List Instr
   pub end : Term
-  pub opens : Opens code (label out) (Tick ∷ instrs) end
+  pub opens : OpensAs code out.note (label out) (Tick ∷ instrs) end
   pub codes : Codes code act round names body instrs end more last
 
 -- the body of a loop over a variable was written, for what stands round that body
-abbrev pub LowersBody : Body → List Reduce → Scope → List ℕ → List Stmt → Output → Output → Type 0
-LowersBody on reduces scope x body old new =
+abbrev pub LowersBody : Body → told.Round → Scope → List ℕ → List Stmt → Output → Output → Type 0
+LowersBody on as_told scope x body old new =
     (code : Listing) (tables names : List (List ℕ)) (round : Round) (more : List Instr)
     (last : Term)
-    → round.reduces ≡ reduces
+    → IsRound round as_told
     → Sees scope names tables
     → AllFit tables (entries on.callees.items) on.most round (names ++ x ∷ []) body
     → Continues code new more last

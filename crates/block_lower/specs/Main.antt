@@ -6,6 +6,7 @@ use Rattle.loop_syntax.specs.declared.Expr.{Expr}
 use Rattle.loop_syntax.specs.declared.Program.{Program}
 use Rattle.loop_syntax.specs.declared.TableDecl.{TableDecl}
 use Rattle.loop_syntax.specs.declared.TableDecl.TheVariants.{Input, Made}
+use Rattle.loop_meaning.specs.InRange.{ProgramInRange}
 use Rattle.loop_rules.specs.Names.{texts, func_of}
 use Rattle.tp_value.specs.declared.limits.TheConstants.{MAX_CALL_DEPTH, MAX_DECLARED_VARIABLES}
 use Rattle.tp_value.specs.declared.limits.TheConstants.{MAX_ACTIVATION_CELLS}
@@ -20,6 +21,9 @@ use Rattle.block_lower.specs.Layout.{return_cell, levels_cell, value_cell, kept_
 use Rattle.block_lower.specs.Layout.{entry_of, Activation}
 use Rattle.block_lower.specs.Names.{names_after_list}
 use Rattle.block_lower.specs.Owing.{AreDeclared}
+use Rattle.block_lower.specs.Quiet.{functions_are_quiet}
+use Rattle.expr_lower.specs.Standing.{AreAt}
+use Rattle.handler_gen.specs.Blocks.{dispatch_block}
 use Rattle.block_lower.specs.Round.{outermost}
 
 -- the variables of an activation, and all that a statement keeps, have room in it
@@ -57,8 +61,8 @@ pub data Makes (code : Listing) (act : Activation) : List (List ℕ) → List Ta
 
 -- ---- functions
 
--- The code of a function at its first block: its statements, then its result in register 0; then the
--- label to return to is entered. Its activation stays, and goes behind the call.
+-- The code of a function at its first block: its statements, then its result in register 0; then
+-- the label to return to is entered. Its activation stays, and goes behind the call.
 pub record IsFunction (code : Listing) (act : Activation) (f : Func) (label : ℕ) : Type 0 where
   pub has_room : HasRoom act
   pub params : length f.params.items ≤ act.most
@@ -71,23 +75,25 @@ pub record IsFunction (code : Listing) (act : Activation) (f : Func) (label : �
   pub value : Computes code act (names_after_list (texts f.params.items) f.body.items) f.result 0
       last (load 1 return_cell ∷ [])
 
+-- what the activations of a program have in common
+abbrev pub bare : Activation → Activation
+bare act = record act { most = 0; size = 0 }
+
 -- the function of a name in a program, with its code at its entry
-pub record FunctionAt (code : Listing) (tables : List (List ℕ)) (entries : List Entry)
-    (fs : List Func) (x : List ℕ) (entry : Entry) : Type 0 where
+pub record FunctionAt (code : Listing) (act : Activation) (fs : List Func) (x : List ℕ)
+    (entry : Entry) : Type 0 where
   pub func : Func
   pub named : func_of fs x ≡ Some func
   pub arity : length func.params.items ≡ entry.parameters
   pub most : ℕ
-  pub is : IsFunction code
-      (record { tables = tables; functions = entries; most = most; size = entry.size }) func
-      entry.label
+  pub is : IsFunction code (record act { most = most; size = entry.size }) func entry.label
 
 -- each entry is that of a function of the program
-abbrev pub AreFunctions : Listing → List (List ℕ) → List Entry → List Func → Type 0
-AreFunctions code tables entries fs =
+abbrev pub AreFunctions : Listing → Activation → List Func → Type 0
+AreFunctions code act fs =
     (x : List ℕ) (entry : Entry)
-    → entry_of entries x ≡ Some entry
-    → FunctionAt code tables entries fs x entry
+    → entry_of act.functions x ≡ Some entry
+    → FunctionAt code (bare act) fs x entry
 
 -- ---- programs
 
@@ -98,13 +104,16 @@ table_name (Made x a b) = x.text.items
 -- ---- the code of a program
 
 -- The first block begins with the activation of main, which has all levels of calls left. The
--- tables are made, the statements of main follow, and behind them the run ends.
+-- tables are made, the statements of main follow, and behind them the run ends. Each beat goes to
+-- the block that enters the handler of the oldest mark. All literals are numbers of 64 bits.
 pub record IsProgram (code : Listing) (p : Program) : Type 0 where
   pub act : Activation
   pub has_room : HasRoom act
   pub declared : AreDeclared p.tables.items code.tables
   pub tables : act.tables ≡ map table_name p.tables.items
-  pub functions : AreFunctions code act.tables act.functions p.funcs.items
+  pub calls : act.calls ≡ functions_are_quiet p.funcs.items
+  pub functions : AreFunctions code act p.funcs.items
+  pub dispatch : AreAt code act.dispatch (dispatch_block act.dispatch ∷ [])
   pub makes : List Instr
   pub instrs : List Instr
   pub end : Term
@@ -112,3 +121,4 @@ pub record IsProgram (code : Listing) (p : Program) : Type 0 where
       (instr.Salloc act.size ∷ store levels_cell (value.Int (pos MAX_CALL_DEPTH)) ∷ makes) end
   pub made : Makes code act [] p.tables.items makes instrs
   pub statements : Codes code act outermost [] p.main.items instrs end [] term.Halt
+  pub ranged : ProgramInRange p

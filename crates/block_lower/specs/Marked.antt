@@ -17,9 +17,9 @@ use Rattle.expr_lower.specs.declared.scope.Scope.{Scope}
 use Rattle.expr_lower.specs.Bodies.{trap_block}
 use Rattle.expr_lower.specs.Scopes.{HasTable, HasVariable}
 use Rattle.expr_lower.specs.Standing.{AreAt}
-use Rattle.block_lower.specs.Code.{Opens, load, store, to}
 use Rattle.block_lower.specs.Layout.{Activation, base_register, value_cell}
 use Rattle.block_lower.specs.Names.{Sees}
+use Rattle.block_lower.specs.Opening.{Opens, load, store, to}
 use Rattle.block_lower.specs.Sites.{carried_table, loop_site, rows_from}
 use Rattle.handler_gen.specs.Blocks.{loop_handler_blocks}
 use Rattle.handler_gen.specs.Sites.{IsLoopSite, first_label, is_of_cells, none_label, over_label}

@@ -13,6 +13,7 @@ use Rattle.tpal_syntax.specs.declared.blocks.CodeTable.{CodeTable}
 use Rattle.tpal_syntax.specs.declared.blocks.CodeTable.TheVariants as code
 use Rattle.tpal_syntax.specs.Listing.{Listing}
 use Rattle.tpal_machine.specs.declared.ends.Ending.TheVariants.{Root}
+use Rattle.tpal_machine.specs.Owes.{Owes}
 use Rattle.tpal_machine.specs.Serial.{OwesSerially}
 use Rattle.tpal_machine.specs.State.{first_state}
 
@@ -65,8 +66,8 @@ AreHeld (Made x a b ∷ ds) given (h ∷ hs) = (h.rows ≡ 0) × (h.cols ≡ 0) 
 
 -- ---- the promise
 
--- A code has a program's tables, and its first task owes the program's meaning where nothing is
--- diverted, whatever is given, for every heartbeat and every fuel.
+-- A code has a program's tables, and its first task owes the program's meaning, whatever is given,
+-- for every heartbeat and every fuel: where nothing is diverted, and whatever is promoted.
 pub record OwesMeaning (program : Program) (listing : Listing) : Type 0 where
   pub declared : AreDeclared program.tables.items listing.tables
   pub owes : (given : List Table) (holdings : List Holding) (heartbeat fuel : ℕ)
@@ -74,4 +75,10 @@ pub record OwesMeaning (program : Program) (listing : Listing) : Type 0 where
       → AreNamed program.tables.items given
       → AreHeld program.tables.items given holdings
       → OwesSerially listing heartbeat 0 (first_state holdings fuel)
+      (Root (meaning program given fuel))
+  pub promoted : (given : List Table) (holdings : List Holding) (heartbeat fuel : ℕ)
+      → All IsTable given
+      → AreNamed program.tables.items given
+      → AreHeld program.tables.items given holdings
+      → Owes listing heartbeat false 0 (first_state holdings fuel)
       (Root (meaning program given fuel))

@@ -1,5 +1,5 @@
 -- What is promised of writing the code of functions, of tables and of a program.
-use Rattle.std.specs.Prelude.{◌≡◌, ℕ, ◌+◌, ◌≤◌, ⊤, List, [], ◌∷◌, length, map, pos}
+use Rattle.std.specs.Prelude.{◌≡◌, ℕ, ◌+◌, ◌≤◌, Bool, ⊤, List, [], ◌∷◌, length, map, pos}
 use Rattle.std.specs.List.{sum_by, AllByRecursion}
 use Rattle.tp_value.specs.declared.limits.TheConstants.{MAX_PARAMETERS, MAX_DECLARED_VARIABLES}
 use Rattle.tp_value.specs.declared.limits.TheConstants.{MAX_CALL_DEPTH}
@@ -22,6 +22,7 @@ use Rattle.block_lower.specs.Code.{Codes, store}
 use Rattle.block_lower.specs.Layout.{value_cell, levels_cell, Entry, Activation}
 use Rattle.block_lower.specs.Main.{IsFunction, Makes, table_name}
 use Rattle.block_lower.specs.Names.{Sees, names_after_list}
+use Rattle.block_lower.specs.Quiet.{functions_are_quiet}
 use Rattle.block_lower.specs.Round.{outermost}
 use Rattle.block_lower.specs.Sizes.{added_by_list, added_by_func, added_by_decls, declared_by_list}
 use Rattle.block_lower.specs.Sizes.{kept_by_list}
@@ -50,13 +51,14 @@ entry_at label f =
     }
 
 -- functions whose blocks stand one behind the other from a label on
-abbrev pub entries_from : ℕ → List Func → List Entry
-entries_from label [] = []
-entries_from label (f ∷ fs) = entry_at label f ∷ entries_from (label + added_by_func f) fs
+abbrev pub entries_from : Bool → ℕ → List Func → List Entry
+entries_from calls label [] = []
+entries_from calls label (f ∷ fs) =
+    entry_at label f ∷ entries_from calls (label + added_by_func calls f) fs
 
 -- how many blocks they have
-abbrev pub added_by_funcs : List Func → ℕ
-added_by_funcs fs = sum_by added_by_func fs
+abbrev pub added_by_funcs : Bool → List Func → ℕ
+added_by_funcs calls fs = sum_by (added_by_func calls) fs
 
 -- a function has few variables
 pub record FuncIsSmall (f : Func) : Type 0 where
@@ -68,6 +70,12 @@ pub record FuncFitsIn (tables : List (List ℕ)) (functions : List Entry) (f : F
   pub fits : AllFit tables functions (most_of f) outermost (texts f.params.items) f.body.items
   pub seen : IsVisible tables (names_after_list (texts f.params.items) f.body.items) f.result
 
+-- functions fit in a body, where a scope is visible
+pub record FuncsFitNow (on : Body) (scope : Scope) (fs : List Func) : Type 0 where
+  pub tables : List (List ℕ)
+  pub sees : Sees scope [] tables
+  pub fits : AllByRecursion (FuncFitsIn tables (entries on.callees.items)) fs
+
 -- the code of a function was written and closed; the open block was to be its first
 abbrev pub LowersFunc : Body → Scope → Func → Output → Output → Type 0
 LowersFunc on scope f old new =
@@ -78,22 +86,25 @@ LowersFunc on scope f old new =
     → Stands code new
     → Stands code old × IsFunction code (activation on tables) f (label old)
 
+-- the activation of a function of a program that stands on this
+abbrev pub activation_of : Activation → Func → Activation
+activation_of act f = record act { most = most_of f; size = size_of f }
+
 -- functions stand in a code one behind the other
-abbrev pub AreWritten : Listing → List (List ℕ) → List Entry → ℕ → List Func → Type 0
-AreWritten code tables functions at [] = ⊤
-AreWritten code tables functions at (f ∷ fs) =
-    IsFunction code
-    (record { tables = tables; functions = functions; most = most_of f; size = size_of f }) f at
-    × AreWritten code tables functions (at + added_by_func f) fs
+abbrev pub AreWritten : Listing → Activation → ℕ → List Func → Type 0
+AreWritten code act at [] = ⊤
+AreWritten code act at (f ∷ fs) =
+    IsFunction code (activation_of act f) f at
+    × AreWritten code act (at + added_by_func act.calls f) fs
 
 -- the code of functions was written
-abbrev pub LowersFuncs : List Entry → Scope → List Func → Output → Output → Type 0
-LowersFuncs functions scope fs old new =
+abbrev pub LowersFuncs : Body → Scope → List Func → Output → Output → Type 0
+LowersFuncs on scope fs old new =
     (code : Listing) (tables : List (List ℕ))
     → Sees scope [] tables
-    → AllByRecursion (FuncFitsIn tables functions) fs
+    → AllByRecursion (FuncFitsIn tables (entries on.callees.items)) fs
     → Stands code new
-    → Stands code old × AreWritten code tables functions (label old) fs
+    → Stands code old × AreWritten code (activation on tables) (label old) fs
 
 -- ---- tables
 
@@ -125,13 +136,22 @@ pub record IsMainAt (code : Listing) (act : Activation) (p : Program) (out : Out
   pub made : Makes code act [] p.tables.items makes instrs
   pub statements : Codes code act outermost [] p.main.items instrs end [] Halt
 
+-- whether no point of promotion can be reached in a call
+abbrev pub quiet_calls : Program → Bool
+quiet_calls p = functions_are_quiet p.funcs.items
+
 -- how many blocks main has, with those of the sizes of the tables
 abbrev pub added_by_main : Program → ℕ
-added_by_main p = added_by_decls p.tables.items + added_by_list p.main.items + 1
+added_by_main p =
+    added_by_decls p.tables.items + added_by_list (quiet_calls p) p.main.items + 1
+
+-- the label of the block to which each beat goes, behind those of main and of the functions
+abbrev pub dispatch_of : Program → ℕ
+dispatch_of p = added_by_main p + added_by_funcs (quiet_calls p) p.funcs.items
 
 -- how many blocks a program has
 abbrev pub added_by_program : Program → ℕ
-added_by_program p = added_by_main p + added_by_funcs p.funcs.items
+added_by_program p = dispatch_of p + 1
 
 -- the code of main, with that of the tables, was written, and its last block closed
 abbrev pub LowersMain : Body → Program → Output → Output → Type 0

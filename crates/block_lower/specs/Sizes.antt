@@ -1,9 +1,13 @@
 -- How many blocks a statement adds to a code, how many variables it declares, and how many values
 -- it keeps.
-use Rattle.std.specs.Prelude.{ℕ, ◌+◌, Bool, ◌&&◌, if◌then◌else◌, nat_le, max, List, [], ◌∷◌, length}
-use Rattle.std.specs.List.{sum_by}
+use Rattle.std.specs.Prelude.{ℕ, ◌+◌, ◌*◌, Bool, true, false, ◌&&◌, if◌then◌else◌, nat_le, max}
+use Rattle.std.specs.Prelude.{List, [], ◌∷◌, length}
+use Rattle.std.specs.List.{sum_by, list_any}
+use Rattle.loop_syntax.specs.declared.Carry.{Carry}
+use Rattle.loop_syntax.specs.declared.Carry.TheVariants as carry
 use Rattle.loop_syntax.specs.declared.Expr.{Expr}
 use Rattle.loop_syntax.specs.declared.Func.{Func}
+use Rattle.loop_syntax.specs.declared.ParLoop.{ParLoop}
 use Rattle.loop_syntax.specs.declared.Stmt.{Stmt, Row_of-Stmt, end_of-Stmt, more_of-Stmt}
 use Rattle.loop_syntax.specs.declared.Stmt.TheVariants.{Let, Set, Put, If', While', Loop', Par'}
 use Rattle.loop_syntax.specs.declared.Stmt.TheVariants.{Fold, Call, Both, Print, Emit}
@@ -14,6 +18,7 @@ use Rattle.loop_rules.specs.Limits.{height}
 use Rattle.tp_value.specs.declared.limits.TheConstants.{MAX_EXPRESSION_HEIGHT}
 use Rattle.expr_lower.specs.Bodies.{trap_count}
 use Rattle.block_lower.specs.Layout.{kept_by_both}
+use Rattle.block_lower.specs.Quiet.{all_is_quiet, list_is_quiet}
 
 -- ---- blocks
 
@@ -21,42 +26,67 @@ use Rattle.block_lower.specs.Layout.{kept_by_both}
 abbrev pub trap_counts : List Expr → ℕ
 trap_counts es = sum_by trap_count es
 
--- the blocks that become closed between the begin of a statement and its end
-abbrev mutual
-  pub added : Stmt → ℕ
-  added (Let x e) = trap_count e
-  added (Set x e) = trap_count e
-  added (Put t a b e) = trap_count a + trap_count b + trap_count e + 1
-  added (If' e p body q other) = trap_count e + 1 + (added_by_all body + 1) + added_by_other other
-  added (While' e p body) = trap_count e + 1 + (added_by_all body + 1) + trap_count e
-  added (Loop' x a b p body) = trap_count a + trap_count b + 1 + (added_by_all body + 1)
-  added (Par' place x a b carry_place carries reduces p body) =
-      trap_count a + trap_count b + 3 + (added_by_all body + 1)
-  added (Fold x e) = trap_count e
-  added (Call x f) = trap_counts f.args.items + 2
-  added (Both x f y g) = trap_counts f.args.items + trap_counts g.args.items + 4
-  added (Print place e) = trap_count e
-  added (Emit place t) = 0
+-- whether a carry has a row
+abbrev pub has_row : Carry → Bool
+has_row (carry.Rows t i) = false
+has_row (carry.Cells t k j) = true
 
-  pub added_by_all : {m : _} → Row_of-Stmt m → ℕ
-  added_by_all end_of-Stmt = 0
-  added_by_all (more_of-Stmt first rest) = added first + added_by_all rest
+-- how many blocks a marked `par` has round its iterations, its handler and its join among them: one
+-- more where a carry has a row
+abbrev pub site_blocks : List Carry → ℕ
+site_blocks carries = if list_any has_row carries then 10 else 9
+
+-- How many blocks a `par` has behind its tests, where those of its body are so many. A quiet one is
+-- marked, and its body stands there twice.
+abbrev pub par_blocks : Bool → List Carry → ℕ → ℕ
+par_blocks quiet carries body = if quiet then site_blocks carries + 2 * body else body
+
+-- the blocks that become closed between the begin of a statement and its end, where no point of
+-- promotion can be reached in a call or one may
+abbrev mutual
+  pub added : Bool → Stmt → ℕ
+  added calls (Let x e) = trap_count e
+  added calls (Set x e) = trap_count e
+  added calls (Put t a b e) = trap_count a + trap_count b + trap_count e + 1
+  added calls (If' e p body q other) =
+      trap_count e + 1 + (added_by_all calls body + 1) + added_by_other calls other
+  added calls (While' e p body) = trap_count e + 1 + (added_by_all calls body + 1) + trap_count e
+  added calls (Loop' x a b p body) = trap_count a + trap_count b + 1 + (added_by_all calls body + 1)
+  added calls (Par' place x a b carry_place carries reduces p body) =
+      trap_count a + trap_count b + 3
+      + par_blocks (all_is_quiet calls body) carries.items (added_by_all calls body + 1)
+  added calls (Fold x e) = trap_count e
+  added calls (Call x f) = trap_counts f.args.items + 2
+  added calls (Both x f y g) = trap_counts f.args.items + trap_counts g.args.items + 4
+  added calls (Print place e) = trap_count e
+  added calls (Emit place t) = 0
+
+  pub added_by_all : {m : _} → Bool → Row_of-Stmt m → ℕ
+  added_by_all calls end_of-Stmt = 0
+  added_by_all calls (more_of-Stmt first rest) = added calls first + added_by_all calls rest
 
   -- a second branch with no statements has no block
-  pub added_by_other : {m : _} → Row_of-Stmt m → ℕ
-  added_by_other end_of-Stmt = 0
-  added_by_other (more_of-Stmt first rest) = added first + added_by_all rest + 1
+  pub added_by_other : {m : _} → Bool → Row_of-Stmt m → ℕ
+  added_by_other calls end_of-Stmt = 0
+  added_by_other calls (more_of-Stmt first rest) = added calls first + added_by_all calls rest + 1
 
-abbrev pub added_by_list : List Stmt → ℕ
-added_by_list body = sum_by added body
+abbrev pub added_by_list : Bool → List Stmt → ℕ
+added_by_list calls body = sum_by (added calls) body
 
-abbrev pub added_by_second : List Stmt → ℕ
-added_by_second [] = 0
-added_by_second (s ∷ ss) = added_by_list (s ∷ ss) + 1
+abbrev pub added_by_second : Bool → List Stmt → ℕ
+added_by_second calls [] = 0
+added_by_second calls (s ∷ ss) = added_by_list calls (s ∷ ss) + 1
+
+-- the same of a `par`
+abbrev pub added_by_par : Bool → ParLoop → ℕ
+added_by_par calls l =
+    trap_count l.from + trap_count l.to + 3
+    + par_blocks (list_is_quiet calls l.body.items) l.carries.items
+    (added_by_list calls l.body.items + 1)
 
 -- the blocks of a function
-abbrev pub added_by_func : Func → ℕ
-added_by_func f = added_by_list f.body.items + trap_count f.result + 1
+abbrev pub added_by_func : Bool → Func → ℕ
+added_by_func calls f = added_by_list calls f.body.items + trap_count f.result + 1
 
 -- the trap blocks of the sizes of a table
 abbrev pub added_by_decl : TableDecl → ℕ

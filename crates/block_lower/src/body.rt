@@ -30,6 +30,10 @@ pub struct Body {
     pub most: usize,
     /// How many cells the activation has.
     pub size: u16,
+    /// Whether no point of promotion can be reached in a call.
+    pub quiet_calls: bool,
+    /// The block to which each beat goes.
+    pub dispatch: u32,
 }
 
 /// Where a call goes.

@@ -1,11 +1,11 @@
 // The code of calls.
 
-ghost use Rattle.std.specs.Prelude.{◌≡◌, ◌+◌, ◌*◌, ◌<◌, ◌≤◌, ◌∷◌, [], pos, length, List, OnOk};
+ghost use Rattle.std.specs.Prelude.{◌≡◌, ◌+◌, ◌*◌, ◌<◌, ◌≤◌, ◌∷◌, [], pos, length, OnOk};
 ghost use Rattle.tp_value.specs.declared.limits.TheConstants.{MAX_ACTIVATION_CELLS, MAX_BLOCKS};
 ghost use Rattle.tp_value.specs.declared.limits.TheConstants.{MAX_PARAMETERS, MAX_TABLES};
-ghost use Rattle.loop_syntax.specs.declared.Reduce.{Reduce};
 ghost use Rattle.loop_syntax.specs.declared.Stmt;
 ghost use Rattle.tpal_syntax.specs.Listing.{Listing};
+ghost use Rattle.block_lower.specs.declared.round.Round.{Round};
 ghost use Rattle.block_lower.specs.Bodies.{HasRoomFor};
 ghost use Rattle.block_lower.specs.Code as codes;
 ghost use Rattle.block_lower.specs.Heights.{AreLowArguments};
@@ -160,8 +160,8 @@ impl Lowering {
             (writing.next_label self.new.out
             ≡ writing.next_label self.old.out + (sizes.trap_counts f.now.args.items + 2)) }
         ensures code { OnOk result
-            ((reduces : List Reduce)
-            → Lowers self.old.on reduces self.old.scope (Stmt.Call x.now f.now) self.old.out
+            ((round : Round)
+            → Lowers self.old.on round self.old.scope (Stmt.Call x.now f.now) self.old.out
             self.new.out) }
         ensures on { OnOk result (self.new.on ≡ self.old.on) }
         ensures scope { OnOk result (self.new.scope ≡ self.old.scope) }
@@ -214,8 +214,8 @@ impl Lowering {
             ≡ writing.next_label self.old.out
             + (sizes.trap_counts f.now.args.items + sizes.trap_counts g.now.args.items + 4)) }
         ensures code { OnOk result
-            ((reduces : List Reduce)
-            → Lowers self.old.on reduces self.old.scope (Stmt.Both x.now f.now y.now g.now)
+            ((round : Round)
+            → Lowers self.old.on round self.old.scope (Stmt.Both x.now f.now y.now g.now)
             self.old.out self.new.out) }
         ensures on { OnOk result (self.new.on ≡ self.old.on) }
         ensures scope { OnOk result (self.new.scope ≡ self.old.scope) }

@@ -13,6 +13,7 @@ ghost use Rattle.block_lower.specs.Layout.{return_cell};
 ghost use Rattle.block_lower.specs.Names.{SeesAfter};
 ghost use Rattle.block_lower.specs.Programs as programs;
 ghost use Rattle.block_lower.specs.Programs.{LowersFunc, LowersFuncs, FuncIsSmall};
+ghost use Rattle.block_lower.specs.Programs.{FuncsFitNow};
 ghost use Rattle.block_lower.specs.Sizes as sizes;
 ghost use Rattle.block_lower.specs.Writing as writing;
 ghost use Rattle.block_lower.specs.Writing.{IsFresh, Stands, Continues};
@@ -20,7 +21,7 @@ ghost use Rattle.block_lower.specs.Writing.{IsFresh, Stands, Continues};
 use crate::body::Callee;
 use crate::layout::{RETURN, value_cell};
 use crate::lowering::Lowering;
-use crate::round::Round;
+use crate::round::outermost;
 use crate::sizes::{added_by_func, declared_by_list, kept_by_list};
 use loop_syntax::{Func, Name};
 use std::alloc::Global;
@@ -45,10 +46,16 @@ fn size_of(f: &Func) -> u16
 }
 
 /// Functions whose blocks stand one behind the other from a label on.
-pub fn callees_of(alloc: Global, fs: &[Func], first: u32) -> Result<Vec<Callee>, NoMemory>
-    requires labels { first + programs.added_by_funcs fs.now ≤ MAX_BLOCKS }
+pub fn callees_of(
+    alloc: Global,
+    fs: &[Func],
+    first: u32,
+    calls: bool,
+) -> Result<Vec<Callee>, NoMemory>
+    requires labels { first + programs.added_by_funcs calls fs.now ≤ MAX_BLOCKS }
     requires small { AllByRecursion FuncIsSmall fs.now }
-    ensures { IfOk result (λ callees. entries callees.items ≡ programs.entries_from first fs.now) }
+    ensures { IfOk result
+        (λ callees. entries callees.items ≡ programs.entries_from calls first fs.now) }
 {
     let mut callees = Vec::new(alloc);
     let mut label = first;
@@ -60,7 +67,7 @@ pub fn callees_of(alloc: Global, fs: &[Func], first: u32) -> Result<Vec<Callee>,
             parameters: f.params.len(),
             size: size_of(f),
         })?;
-        label += added_by_func(f);
+        label += added_by_func(calls, f);
     }
     Ok(callees)
 }
@@ -110,14 +117,17 @@ impl Lowering {
         requires few_tables { length self.old.scope.tables.items ≤ MAX_TABLES }
         requires low { FuncIsLow f.now }
         requires small { FuncIsSmall f.now }
-        requires labels { writing.next_label self.old.out + sizes.added_by_func f.now ≤ MAX_BLOCKS }
+        requires labels { writing.next_label self.old.out
+            + sizes.added_by_func self.old.on.quiet_calls f.now
+            ≤ MAX_BLOCKS }
         requires room { HasRoomFor self.old.on (sizes.kept_by_list f.now.body.items) }
-        requires params { length f.now.params.items ≤ self.old.on.most }
+        requires most { self.old.on.most ≡ programs.most_of f.now }
         requires cells { self.old.scope.cells.items ≡ [] }
         requires fresh { IsFresh self.old.out }
+        requires fits { FuncsFitNow self.old.on self.old.scope (f.now ∷ []) }
         ensures labels { OnOk result
             (writing.next_label self.new.out
-            ≡ writing.next_label self.old.out + sizes.added_by_func f.now) }
+            ≡ writing.next_label self.old.out + sizes.added_by_func self.old.on.quiet_calls f.now) }
         ensures cells { OnOk result (self.new.scope.cells.items ≡ []) }
         ensures tables { OnOk result (self.new.scope.tables ≡ self.old.scope.tables) }
         ensures fresh { OnOk result (IsFresh self.new.out) }
@@ -126,7 +136,7 @@ impl Lowering {
         ensures on { OnOk result (self.new.on ≡ self.old.on) }
     {
         self.declare_all(&f.params)?;
-        self.lower_list(Round { reduces: &[] }, &f.body)?;
+        self.lower_list(outermost(), &f.body)?;
         self.value(&f.result, 0)?;
         self.push_return()?;
         self.leave(0);
@@ -138,17 +148,19 @@ impl Lowering {
         requires few_tables { length self.old.scope.tables.items ≤ MAX_TABLES }
         requires low { AllByRecursion FuncIsLow fs.now }
         requires small { AllByRecursion FuncIsSmall fs.now }
-        requires labels { writing.next_label self.old.out + programs.added_by_funcs fs.now
+        requires labels { writing.next_label self.old.out
+            + programs.added_by_funcs self.old.on.quiet_calls fs.now
             ≤ MAX_BLOCKS }
         requires cells { self.old.scope.cells.items ≡ [] }
         requires fresh { IsFresh self.old.out }
+        requires fits { FuncsFitNow self.old.on self.old.scope fs.now }
         ensures labels { OnOk result
             (writing.next_label self.new.out
-            ≡ writing.next_label self.old.out + programs.added_by_funcs fs.now) }
+            ≡ writing.next_label self.old.out
+            + programs.added_by_funcs self.old.on.quiet_calls fs.now) }
         ensures fresh { OnOk result (IsFresh self.new.out) }
         ensures code { OnOk result
-            (LowersFuncs (entries self.old.on.callees.items) self.old.scope fs.now
-            self.old.out self.new.out) }
+            (LowersFuncs self.old.on self.old.scope fs.now self.old.out self.new.out) }
     {
         for f in fs {
             self.on.most = most_of(f);

@@ -1,8 +1,10 @@
 //! The compiler: from a checked program to the code of the machine. It stands on the tree and the
-//! rules of `loop_syntax`, `loop_rules` and `loop_check`, and on the code of expressions of
-//! `expr_lower`. Start with `specs/Code.antt`, which says which code is the code of a statement,
-//! and `laws`; what writes such code begins in `program`. `lowering` has the type that writes it,
-//! whose methods stand by what they write; `statement` says which of them writes which form.
+//! rules of `loop_syntax`, `loop_rules` and `loop_check`, on the code of expressions of
+//! `expr_lower`, and on the handlers and joins of `handler_gen` and `join_gen`. Start with
+//! `specs/Code.antt`, which says which code is the code of a statement, and `laws`; what writes
+//! such code begins in `program`. `lowering` has the type that writes it, whose methods stand by
+//! what they write; `statement` says which of them writes which form, and `par` how one that a beat
+//! can cut is marked.
 #![tactic(auto)]
 
 mod body;
@@ -21,6 +23,7 @@ mod quiet;
 mod repeat;
 mod round;
 mod scope;
+mod site;
 mod sizes;
 mod statement;
 mod table;
@@ -28,6 +31,3 @@ mod table;
 pub use count::block_count;
 pub use fault::LowerFault;
 pub use program::lower;
-
-#[cfg(test)]
-mod tests;

@@ -12,7 +12,8 @@ ghost use Rattle.expr_lower.specs.Bodies.{trap_count};
 ghost use Rattle.block_lower.specs.Code as codes;
 ghost use Rattle.block_lower.specs.Lowering.{WritesOperand, WritesValue};
 ghost use Rattle.block_lower.specs.Writing as writing;
-ghost use Rattle.block_lower.specs.Writing.{Pushes, Traps, Closes};
+ghost use Rattle.block_lower.specs.Writing.{IsEmpty, IsFresh, Pushes, Traps, Closes, Appends};
+ghost use Rattle.block_lower.specs.Writing.{Readies};
 ghost use Rattle.expr_lower.specs.Scopes.{offset_of, table_number};
 ghost use Rattle.block_lower.specs.Bodies.{HasRoomFor};
 ghost use Rattle.block_lower.specs.Layout.{value_cell};
@@ -26,7 +27,7 @@ use expr_lower::{Scope, literal, offset_of, table_number};
 use loop_syntax::{Expr, Name};
 use std::alloc::Global;
 use tp_value::{NoMemory, Place, TrapKind};
-use tpal_syntax::{Alu, Instr, Term, Value};
+use tpal_syntax::{Alu, Block, Instr, Note, Term, Value};
 
 /// A code that is being written, with what its statements stand on.
 #[derive(Drop)]
@@ -135,6 +136,35 @@ impl Lowering {
         })
     }
 
+    /// Sets the mark of a cell of the activation, which a block cuts.
+    pub fn push_mark(&mut self, off: u16, split: u32) -> Result<(), NoMemory>
+        ensures pushed { OnOk result
+            (Pushes (Instr.PrmPush 31 off self.old.on.size split ∷ []) self.old.out self.new.out) }
+        ensures labels { OnOk result
+            (writing.next_label self.new.out ≡ writing.next_label self.old.out) }
+        ensures on { OnOk result (self.new.on ≡ self.old.on) }
+        ensures scope { OnOk result (self.new.scope ≡ self.old.scope) }
+    {
+        let cells = self.on.size;
+        self.push(Instr::PrmPush {
+            base: BASE,
+            off,
+            cells,
+            split,
+        })
+    }
+
+    /// Takes the mark of a cell of the activation away, if any.
+    pub fn pop_mark(&mut self, off: u16) -> Result<(), NoMemory>
+        ensures pushed { OnOk result (Pushes (Instr.PrmPop 31 off ∷ []) self.old.out self.new.out) }
+        ensures labels { OnOk result
+            (writing.next_label self.new.out ≡ writing.next_label self.old.out) }
+        ensures on { OnOk result (self.new.on ≡ self.old.on) }
+        ensures scope { OnOk result (self.new.scope ≡ self.old.scope) }
+    {
+        self.push(Instr::PrmPop { base: BASE, off })
+    }
+
     /// Appends the instructions that leave an expression's value in a register.
     pub fn value(&mut self, expr: &Expr, to: u8) -> Result<(), NoMemory>
         requires few_tables { length self.old.scope.tables.items ≤ MAX_TABLES }
@@ -196,6 +226,28 @@ impl Lowering {
         ensures scope { OnOk result (self.new.scope ≡ self.old.scope) }
     {
         close(self.alloc, &mut self.out, term)
+    }
+
+    /// Makes the open block, in which nothing is written, a promotion-ready one.
+    pub fn make_ready(&mut self)
+        requires empty { IsEmpty self.old.out }
+        ensures ready { Readies self.old.on.dispatch self.old.out self.new.out }
+        ensures labels { writing.next_label self.new.out ≡ writing.next_label self.old.out }
+        ensures on { self.new.on ≡ self.old.on }
+        ensures scope { self.new.scope ≡ self.old.scope }
+    {
+        self.out.note = Note::Ready(self.on.dispatch);
+    }
+
+    /// Appends closed blocks in the place of the open one, in which nothing is written.
+    pub fn append(&mut self, mut blocks: Vec<Block>) -> Result<(), NoMemory>
+        requires fresh { IsFresh self.old.out }
+        ensures appended { OnOk result (Appends blocks.items self.old.out self.new.out) }
+        ensures on { OnOk result (self.new.on ≡ self.old.on) }
+        ensures scope { OnOk result (self.new.scope ≡ self.old.scope) }
+    {
+        self.out.blocks.append(&mut blocks)?;
+        Ok(())
     }
 
     /// Makes a variable visible.

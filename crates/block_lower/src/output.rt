@@ -26,6 +26,8 @@ pub struct Output {
     pub body: Vec<Instr>,
     /// The trap blocks behind the open block so far.
     pub traps: Vec<Block>,
+    /// What the open block is marked as.
+    pub note: Note,
 }
 
 /// No closed block, and an open one with no instruction.
@@ -37,6 +39,7 @@ pub fn no_output(alloc: Global) -> Output
         blocks: Vec::new(alloc),
         body: Vec::new(alloc),
         traps: Vec::new(alloc),
+        note: Note::Plain,
     }
 }
 
@@ -117,9 +120,10 @@ pub fn close(alloc: Global, out: &mut Output, term: Term) -> Result<(), NoMemory
 {
     let name = name_of(alloc, label(out))?;
     let body = mem::replace(&mut out.body, Vec::new(alloc));
+    let note = mem::replace(&mut out.note, Note::Plain);
     out.blocks.push(Block {
         name: Items::new(name),
-        note: Note::Plain,
+        note,
         body: Items::new(body),
         term,
     })?;

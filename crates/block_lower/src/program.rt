@@ -5,7 +5,7 @@ ghost use Rattle.std.specs.Prelude.{OnOk};
 ghost use Rattle.tp_value.specs.declared.limits.TheConstants.{MAX_BLOCKS, MAX_TABLES};
 ghost use Rattle.tpal_syntax.specs.Listing.{Listing};
 ghost use Rattle.expr_lower.specs.Standing.{AreAt};
-ghost use Rattle.block_lower.specs.Bodies.{HasRoomFor};
+ghost use Rattle.block_lower.specs.Bodies.{entries, HasRoomFor};
 ghost use Rattle.block_lower.specs.Code as codes;
 ghost use Rattle.block_lower.specs.Count.{blocks_of_program};
 ghost use Rattle.block_lower.specs.Fitting.{ProgramFits};
@@ -20,16 +20,20 @@ ghost use Rattle.block_lower.specs.Sizes as sizes;
 ghost use Rattle.block_lower.specs.Writing as writing;
 ghost use Rattle.block_lower.specs.Writing.{IsFresh, Pushes};
 
-use crate::body::{Body, Callee};
+use crate::body::Body;
 use crate::count::block_count;
 use crate::fault::LowerFault;
 use crate::function::callees_of;
 use crate::layout::{LEVELS, value_cell};
 use crate::lowering::Lowering;
 use crate::output::{Output, no_output};
-use crate::round::Round;
-use crate::sizes::{added_by_decls, added_by_list, declared_by_list, kept_by_decls, kept_by_list};
+use crate::quiet::functions_are_quiet;
+use crate::round::outermost;
+use crate::sizes::{
+    added_by_decls, added_by_func, added_by_list, declared_by_list, kept_by_decls, kept_by_list,
+};
 use expr_lower::Scope;
+use handler_gen::dispatch;
 use loop_check::Checked;
 use loop_syntax::{Program, TableDecl};
 use std::alloc::Global;
@@ -53,23 +57,60 @@ fn code_tables(alloc: Global, tables: &[TableDecl]) -> Result<Vec<CodeTable>, No
     Ok(all)
 }
 
+/// How many blocks main has, with those of the sizes of the tables.
+fn added_by_main(program: &Program, calls: bool) -> u32
+    requires calls { calls ≡ programs.quiet_calls program.now }
+    requires labels { programs.added_by_main program.now ≤ MAX_BLOCKS }
+    ensures { result ≡ programs.added_by_main program.now }
+{
+    added_by_decls(&program.tables) + added_by_list(calls, &program.main) + 1
+}
+
+/// The label of the block behind those of main and of the functions, to which each beat goes.
+fn dispatch_label(program: &Program, calls: bool) -> u32
+    requires calls { calls ≡ programs.quiet_calls program.now }
+    requires labels { programs.added_by_program program.now ≤ MAX_BLOCKS }
+    ensures { result ≡ programs.dispatch_of program.now }
+{
+    let mut label = added_by_main(program, calls);
+    for f in &program.funcs {
+        label += added_by_func(calls, f);
+    }
+    label
+}
+
 /// What the code of main's statements stands on.
-fn main_body(program: &Program, callees: Vec<Callee>) -> Body
+fn main_body(alloc: Global, program: &Program) -> Result<Body, NoMemory>
     requires fits { ProgramFits program.now }
-    ensures callees { result.callees ≡ callees }
-    ensures most { result.most ≡ sizes.declared_by_list program.now.main.items }
-    ensures size { result.size
+    requires labels { programs.added_by_program program.now ≤ MAX_BLOCKS }
+    ensures callees { IfOk result
+        (λ on. entries on.callees.items
+        ≡ programs.entries_from (programs.quiet_calls program.now)
+        (programs.added_by_main program.now) program.now.funcs.items) }
+    ensures most { IfOk result
+        (λ on. on.most ≡ sizes.declared_by_list program.now.main.items) }
+    ensures size { IfOk result
+        (λ on. on.size
         ≡ value_cell (sizes.declared_by_list program.now.main.items)
         + max (sizes.kept_by_list program.now.main.items)
-        (sizes.kept_by_decls program.now.tables.items) }
+        (sizes.kept_by_decls program.now.tables.items)) }
+    ensures calls { IfOk result (λ on. on.quiet_calls ≡ programs.quiet_calls program.now) }
+    ensures dispatch { IfOk result (λ on. on.dispatch ≡ programs.dispatch_of program.now) }
 {
+    let quiet_calls = functions_are_quiet(&program.funcs);
+    let first = added_by_main(program, quiet_calls);
     let most = declared_by_list(&program.main);
     let kept = kept_by_list(&program.main).max(kept_by_decls(&program.tables));
-    Body {
+    let size = value_cell(most) + kept;
+    let dispatch = dispatch_label(program, quiet_calls);
+    let callees = callees_of(alloc, &program.funcs, first, quiet_calls)?;
+    Ok(Body {
         callees,
         most,
-        size: value_cell(most) + kept,
-    }
+        size,
+        quiet_calls,
+        dispatch,
+    })
 }
 
 impl Lowering {
@@ -101,6 +142,11 @@ impl Lowering {
             (max (sizes.kept_by_list program.now.main.items)
             (sizes.kept_by_decls program.now.tables.items)) }
         requires nothing { (self.old.scope.cells.items ≡ []) × (self.old.scope.tables.items ≡ []) }
+        requires fresh { IsFresh self.old.out }
+        requires calls { self.old.on.quiet_calls ≡ programs.quiet_calls program.now }
+        requires callees { entries self.old.on.callees.items
+            ≡ programs.entries_from (programs.quiet_calls program.now)
+            (programs.added_by_main program.now) program.now.funcs.items }
         ensures labels { OnOk result
             (writing.next_label self.new.out
             ≡ writing.next_label self.old.out + programs.added_by_main program.now) }
@@ -114,14 +160,34 @@ impl Lowering {
     {
         self.push_first_activation()?;
         self.push_makes(&program.tables)?;
-        self.lower_list(Round { reduces: &[] }, &program.main)?;
+        self.lower_list(outermost(), &program.main)?;
         self.close(Term::Halt)?;
         self.leave(0);
         Ok(())
     }
 }
 
-/// The blocks of a program, by their labels: those of main, then those of its functions.
+/// A code in which nothing is written.
+fn no_code(alloc: Global, on: Body) -> Lowering
+    ensures blocks { result.out.blocks.items ≡ [] }
+    ensures fresh { IsFresh result.out }
+    ensures nothing { (result.scope.cells.items ≡ []) × (result.scope.tables.items ≡ []) }
+    ensures on { result.on ≡ on }
+{
+    Lowering {
+        alloc,
+        out: no_output(alloc),
+        scope: Scope {
+            cells: Vec::new(alloc),
+            tables: Vec::new(alloc),
+            next_label: 0,
+        },
+        on,
+    }
+}
+
+/// The blocks of a program, by their labels: those of main, those of its functions, and the one to
+/// which each beat goes.
 fn program_blocks(alloc: Global, program: &Program) -> Result<Vec<Block>, NoMemory>
     requires fits { ProgramFits program.now }
     requires labels { programs.added_by_program program.now + 1 ≤ MAX_BLOCKS }
@@ -133,35 +199,30 @@ fn program_blocks(alloc: Global, program: &Program) -> Result<Vec<Block>, NoMemo
         → AreAt code 0 blocks.items
         → IsProgram code program.now) }
 {
-    let first = added_by_decls(&program.tables) + added_by_list(&program.main) + 1;
-    let callees = callees_of(alloc, &program.funcs, first)?;
-    let mut lowering = Lowering {
-        alloc,
-        out: no_output(alloc),
-        scope: Scope {
-            cells: Vec::new(alloc),
-            tables: Vec::new(alloc),
-            next_label: 0,
-        },
-        on: main_body(program, callees),
-    };
+    let on = main_body(alloc, program)?;
+    let last = dispatch(alloc, on.dispatch)?;
+    let mut lowering = no_code(alloc, on);
     lowering.lower_main(program)?;
     lowering.lower_funcs(&program.funcs)?;
     let Lowering {
         alloc: _,
-        out: Output {
-            blocks,
-            body: _,
-            traps: _,
-        },
+        out,
         scope: _,
         on: _,
     } = lowering;
+    let Output {
+        mut blocks,
+        body: _,
+        traps: _,
+        note: _,
+    } = out;
+    blocks.push(last)?;
     Ok(blocks)
 }
 
-/// The code of a program. Its first task owes the program's meaning, where nothing is diverted.
-/// `Blocks` comes exactly where the blocks that are counted are more than 65,536.
+/// The code of a program. Its first task owes the program's meaning, where nothing is diverted and
+/// whatever is promoted. `Blocks` comes exactly where the blocks that are counted are more than
+/// 65,536.
 pub fn lower(alloc: Global, program: &Checked) -> Result<Code, LowerFault>
     ensures owes { IfOk result (λ code. OwesMeaning program.now code) }
     ensures fits { IfOk result (λ code. blocks_of_program program.now ≤ MAX_BLOCKS) }

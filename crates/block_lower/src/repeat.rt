@@ -11,11 +11,11 @@ ghost use Rattle.block_lower.specs.Code as codes;
 ghost use Rattle.block_lower.specs.Heights.{AllAreLow};
 ghost use Rattle.block_lower.specs.Lowering.{Lowers, WithBody, LowersBody, WritesBelow};
 ghost use Rattle.block_lower.specs.Lowering.{WritesBounds, WritesStart, WritesBoundedStart};
-ghost use Rattle.block_lower.specs.Lowering.{BeginsLoop, EndsLoop};
+ghost use Rattle.block_lower.specs.Lowering.{BeginsLoop, EndsLoop, FitsIn, FitsInside};
 ghost use Rattle.block_lower.specs.Names.{SeesAfter};
 ghost use Rattle.block_lower.specs.Sizes as sizes;
 ghost use Rattle.block_lower.specs.Writing as writing;
-ghost use Rattle.block_lower.specs.Writing.{IsFresh, Pushes};
+ghost use Rattle.block_lower.specs.Writing.{IsEmpty, IsFresh, Pushes};
 
 use crate::layout::{bound_cell, value_cell};
 use crate::lowering::{Lowering, jump};
@@ -56,16 +56,17 @@ impl Lowering {
         requires low { (height e.now ≤ MAX_EXPRESSION_HEIGHT) × AllAreLow body.now }
         requires labels { writing.next_label self.old.out
             + (trap_count e.now + 1
-            + (sizes.added_by_list body.now + 1) + trap_count e.now)
+            + (sizes.added_by_list self.old.on.quiet_calls body.now + 1) + trap_count e.now)
             ≤ MAX_BLOCKS }
         requires room { HasRoomFor self.old.on (sizes.kept_by_list body.now) }
         requires cells { length self.old.scope.cells.items + sizes.declared_by_list body.now
             ≤ MAX_DECLARED_VARIABLES }
+        requires fits { FitsIn self.old.on self.old.scope round body.now }
         ensures labels { OnOk result
             (writing.next_label self.new.out
             ≡ writing.next_label self.old.out
             + (trap_count e.now + 1
-            + (sizes.added_by_list body.now + 1) + trap_count e.now)) }
+            + (sizes.added_by_list self.old.on.quiet_calls body.now + 1) + trap_count e.now)) }
         ensures cells { OnOk result
             (length self.new.scope.cells.items ≤ length self.old.scope.cells.items) }
         ensures tables { OnOk result (self.new.scope.tables ≡ self.old.scope.tables) }
@@ -73,13 +74,13 @@ impl Lowering {
         ensures fresh { OnOk result (IsFresh self.new.out) }
         ensures code { OnOk result
             (WithBody body.now
-            (λ v. Lowers self.old.on round.entry.reduces.now self.old.scope (Stmt.While e.now
+            (λ v. Lowers self.old.on round.entry self.old.scope (Stmt.While e.now
             v) self.old.out self.new.out)) }
         ensures on { OnOk result (self.new.on ≡ self.old.on) }
     {
         let level = self.level();
         let again = self.next_label() + trap_count(e);
-        let exit = again + added_by_body(body) + trap_count(e);
+        let exit = again + added_by_body(self.on.quiet_calls, body) + trap_count(e);
         self.test(e, again, exit)?;
         self.push(Instr::Tick)?;
         self.lower_list(round, body)?;
@@ -94,21 +95,22 @@ impl Lowering {
         requires few_tables { length self.old.scope.tables.items ≤ MAX_TABLES }
         requires low { AllAreLow body.now }
         requires labels { writing.next_label self.old.out
-            + sizes.added_by_list body.now
+            + sizes.added_by_list self.old.on.quiet_calls body.now
             ≤ MAX_BLOCKS }
         requires room { HasRoomFor self.old.on (sizes.kept_by_list body.now) }
         requires cells { length self.old.scope.cells.items + (sizes.declared_by_list body.now + 1)
             ≤ MAX_DECLARED_VARIABLES }
-        requires fresh { IsFresh self.old.out }
+        requires empty { IsEmpty self.old.out }
+        requires fits { FitsInside self.old.on self.old.scope round x.now.text.items body.now }
         ensures labels { OnOk result
             (writing.next_label self.new.out ≡ writing.next_label self.old.out +
-            sizes.added_by_list body.now) }
+            sizes.added_by_list self.old.on.quiet_calls body.now) }
         ensures cells { OnOk result
             (length self.new.scope.cells.items ≤ length self.old.scope.cells.items) }
         ensures tables { OnOk result (self.new.scope.tables ≡ self.old.scope.tables) }
         ensures sees { OnOk result (SeesAfter (λ names. names) self.old.scope self.new.scope) }
         ensures code { OnOk result
-            (LowersBody self.old.on round.entry.reduces.now self.old.scope x.now.text.items
+            (LowersBody self.old.on round.entry self.old.scope x.now.text.items
             body.now self.old.out self.new.out) }
         ensures on { OnOk result (self.new.on ≡ self.old.on) }
     {
@@ -231,7 +233,8 @@ impl Lowering {
         requires registers { (height a.now ≤ MAX_EXPRESSION_HEIGHT)
             × (height b.now ≤ MAX_EXPRESSION_HEIGHT) }
         requires labels { writing.next_label self.old.out
-            + (trap_count a.now + trap_count b.now + 1 + (sizes.added_by_list body.now + 1))
+            + (trap_count a.now + trap_count b.now + 1
+            + (sizes.added_by_list self.old.on.quiet_calls body.now + 1))
             ≤ MAX_BLOCKS }
         requires cells { length self.old.scope.cells.items < MAX_DECLARED_VARIABLES }
         ensures labels { OnOk result
@@ -244,7 +247,8 @@ impl Lowering {
             (λ turns. turns.again
             ≡ writing.next_label self.old.out + (trap_count a.now + trap_count b.now)) }
         ensures exit { IfOk result
-            (λ turns. turns.exit ≡ turns.again + (sizes.added_by_list body.now + 1)) }
+            (λ turns. turns.exit
+            ≡ turns.again + (sizes.added_by_list self.old.on.quiet_calls body.now + 1)) }
         ensures code { IfOk result
             (λ turns. BeginsLoop self.old.scope a.now b.now turns.bound turns.again turns.exit
             self.old.out self.new.out) }
@@ -253,7 +257,7 @@ impl Lowering {
     {
         let level = self.level();
         let again = self.next_label() + trap_count(a) + trap_count(b);
-        let exit = again + added_by_body(body);
+        let exit = again + added_by_body(self.on.quiet_calls, body);
         match literal(b) {
             Some(number) => {
                 self.start(a, number, again, exit)?;

@@ -2,12 +2,14 @@
 // number of blocks or of variables stands still at the greatest one of its type.
 
 ghost use Rattle.std.specs.Prelude.{◌≡◌, ◌+◌, min};
+ghost use Rattle.std.specs.List.{list_any};
 ghost use Rattle.expr_lower.specs.Bodies.{trap_count};
 ghost use Rattle.block_lower.specs.Sizes as sizes;
 
 use crate::layout::KEPT_BY_BOTH;
+use crate::quiet::list_is_quiet;
 use expr_lower::trap_count;
-use loop_syntax::{Expr, Func, Stmt, TableDecl};
+use loop_syntax::{Carry, Expr, Func, ParLoop, Stmt, TableDecl};
 use tp_value::MAX_EXPRESSION_HEIGHT;
 
 /// How many trap blocks expressions have.
@@ -27,10 +29,11 @@ fn trap_count_of_two(a: &Expr, b: &Expr) -> u32
     trap_count(a).saturating_add(trap_count(b))
 }
 
-/// How many blocks become closed between the begin of a statement and its end.
+/// How many blocks become closed between the begin of a statement and its end. `calls` says that no
+/// point of promotion can be reached in a call.
 #[cycle(sizes)]
-fn added(s: &Stmt) -> u32
-    ensures { result ≡ min (sizes.added s.now) u32.MAX }
+fn added(calls: bool, s: &Stmt) -> u32
+    ensures { result ≡ min (sizes.added calls s.now) u32.MAX }
 {
     match s {
         Stmt::Let(_, e) => trap_count(e),
@@ -40,18 +43,16 @@ fn added(s: &Stmt) -> u32
             .saturating_add(1),
         Stmt::If(e, body, other) => trap_count(e)
             .saturating_add(1)
-            .saturating_add(added_by_body(body))
-            .saturating_add(added_by_second(other)),
+            .saturating_add(added_by_body(calls, body))
+            .saturating_add(added_by_second(calls, other)),
         Stmt::While(e, body) => trap_count(e)
             .saturating_add(1)
-            .saturating_add(added_by_body(body))
+            .saturating_add(added_by_body(calls, body))
             .saturating_add(trap_count(e)),
         Stmt::Loop(_, a, b, body) => trap_count_of_two(a, b)
             .saturating_add(1)
-            .saturating_add(added_by_body(body)),
-        Stmt::Par(l) => trap_count_of_two(&l.from, &l.to)
-            .saturating_add(3)
-            .saturating_add(added_by_body(&l.body)),
+            .saturating_add(added_by_body(calls, body)),
+        Stmt::Par(l) => added_by_par(calls, l),
         Stmt::Fold(_, e) => trap_count(e),
         Stmt::Call(_, f) => trap_counts(&f.args).saturating_add(2),
         Stmt::Both(_, f, _, g) => trap_counts(&f.args)
@@ -62,43 +63,88 @@ fn added(s: &Stmt) -> u32
     }
 }
 
+/// Whether a carry has a row.
+fn has_row(carry: &Carry) -> bool
+    ensures { result ≡ sizes.has_row carry.now }
+{
+    match carry {
+        Carry::Rows(_, _) => false,
+        Carry::Cells(_, _, _) => true,
+    }
+}
+
+/// Whether one of these carries has a row.
+pub fn have_row(carries: &[Carry]) -> bool
+    ensures { result ≡ list_any sizes.has_row carries.now }
+{
+    for carry in carries {
+        if has_row(carry) {
+            return true;
+        }
+    }
+    false
+}
+
+/// How many blocks a marked `par` has round its iterations.
+pub fn site_blocks(carries: &[Carry]) -> u32
+    ensures { result ≡ sizes.site_blocks carries.now }
+{
+    if have_row(carries) { 10 } else { 9 }
+}
+
+/// How many blocks a `par` adds.
+#[cycle(sizes)]
+fn added_by_par(calls: bool, l: &ParLoop) -> u32
+    ensures { result ≡ min (sizes.added_by_par calls l.now) u32.MAX }
+{
+    let tests = trap_count_of_two(&l.from, &l.to).saturating_add(3);
+    let body = added_by_body(calls, &l.body);
+    if list_is_quiet(&l.body, calls) {
+        tests
+            .saturating_add(site_blocks(&l.carries))
+            .saturating_add(body.saturating_mul(2))
+    } else {
+        tests.saturating_add(body)
+    }
+}
+
 /// How many blocks become closed between the begin of statements and their end.
 #[cycle(sizes)]
-pub fn added_by_list(body: &[Stmt]) -> u32
-    ensures { result ≡ min (sizes.added_by_list body.now) u32.MAX }
+pub fn added_by_list(calls: bool, body: &[Stmt]) -> u32
+    ensures { result ≡ min (sizes.added_by_list calls body.now) u32.MAX }
 {
     let mut sum: u32 = 0;
     for s in body {
-        sum = sum.saturating_add(added(s));
+        sum = sum.saturating_add(added(calls, s));
     }
     sum
 }
 
 /// The same for statements in blocks of their own.
 #[cycle(sizes)]
-pub fn added_by_body(body: &[Stmt]) -> u32
-    ensures { result ≡ min (sizes.added_by_list body.now + 1) u32.MAX }
+pub fn added_by_body(calls: bool, body: &[Stmt]) -> u32
+    ensures { result ≡ min (sizes.added_by_list calls body.now + 1) u32.MAX }
 {
-    added_by_list(body).saturating_add(1)
+    added_by_list(calls, body).saturating_add(1)
 }
 
 /// The same for a second branch, which has no block where it is empty.
 #[cycle(sizes)]
-pub fn added_by_second(body: &[Stmt]) -> u32
-    ensures { result ≡ min (sizes.added_by_second body.now) u32.MAX }
+pub fn added_by_second(calls: bool, body: &[Stmt]) -> u32
+    ensures { result ≡ min (sizes.added_by_second calls body.now) u32.MAX }
 {
     if body.is_empty() {
         0
     } else {
-        added_by_body(body)
+        added_by_body(calls, body)
     }
 }
 
 /// How many blocks a function has.
-pub fn added_by_func(f: &Func) -> u32
-    ensures { result ≡ min (sizes.added_by_func f.now) u32.MAX }
+pub fn added_by_func(calls: bool, f: &Func) -> u32
+    ensures { result ≡ min (sizes.added_by_func calls f.now) u32.MAX }
 {
-    added_by_body(&f.body).saturating_add(trap_count(&f.result))
+    added_by_body(calls, &f.body).saturating_add(trap_count(&f.result))
 }
 
 /// How many trap blocks the sizes of a table have.

@@ -1,19 +1,18 @@
 // The code of statements.
 
-ghost use Rattle.std.specs.Prelude.{◌≡◌, ◌+◌, ◌<◌, ◌≤◌, ◌++◌, ◌∷◌, [], length, List, Some, OnOk};
+ghost use Rattle.std.specs.Prelude.{◌≡◌, ◌+◌, ◌<◌, ◌≤◌, ◌++◌, ◌∷◌, [], length, Some, OnOk};
 ghost use Rattle.tp_value.specs.declared.limits.TheConstants.{MAX_BLOCKS, MAX_DECLARED_VARIABLES};
 ghost use Rattle.tp_value.specs.declared.limits.TheConstants.{MAX_EXPRESSION_HEIGHT, MAX_TABLES};
 ghost use Rattle.tp_value.specs.declared.Place.{Place};
 ghost use Rattle.loop_rules.specs.Limits.{height};
 ghost use Rattle.expr_lower.specs.Bodies.{trap_count};
-ghost use Rattle.loop_syntax.specs.declared.Reduce.{Reduce};
 ghost use Rattle.loop_rules.specs.Names.{operator_of};
 ghost use Rattle.block_lower.specs.declared.body.Body.{Body};
+ghost use Rattle.block_lower.specs.declared.round.Round.{Round};
 ghost use Rattle.block_lower.specs.Bodies.{HasRoomFor};
-ghost use Rattle.block_lower.specs.Code as codes;
 ghost use Rattle.block_lower.specs.Heights.{AreLow, AllAreLow};
 ghost use Rattle.block_lower.specs.Lowering.{Lowers, WithBody, LowersAll, LowersBranch};
-ghost use Rattle.block_lower.specs.Lowering.{LowersOther, WritesTest};
+ghost use Rattle.block_lower.specs.Lowering.{LowersOther, FitsIn, WritesTest};
 ghost use Rattle.block_lower.specs.Names.{SeesAfter, names_after, names_after_list};
 ghost use Rattle.block_lower.specs.Sizes as sizes;
 ghost use Rattle.block_lower.specs.Writing as writing;
@@ -24,22 +23,10 @@ use crate::lowering::{Lowering, jump};
 use crate::round::Round;
 use crate::sizes::{added_by_body, added_by_second};
 use expr_lower::trap_count;
+use join_gen::alu_of;
 use loop_syntax::{Expr, Name, Reduce, Stmt};
 use tp_value::{NoMemory, Op};
-use tpal_syntax::{Alu, Instr, Value};
-
-/// The operator that folds.
-fn alu_of(op: Op) -> Alu
-    ensures { result ≡ codes.alu_of op }
-{
-    match op {
-        Op::Add => Alu::Add,
-        Op::Mul => Alu::Mul,
-        Op::Min => Alu::Min,
-        Op::Max => Alu::Max,
-        Op::Affine => Alu::Affine,
-    }
-}
+use tpal_syntax::{Instr, Value};
 
 /// The operator that a reduce list gives to a variable.
 fn operator_of(reduces: &[Reduce], name: &[u8]) -> Option<Op>
@@ -67,8 +54,8 @@ impl Lowering {
         ensures sees { OnOk result
             (SeesAfter (λ names. names ++ x.now.text.items ∷ []) self.old.scope self.new.scope) }
         ensures code { OnOk result
-            ((on : Body) (reduces : List Reduce)
-            → Lowers on reduces self.old.scope (Stmt.Let x.now e.now) self.old.out
+            ((on : Body) (round : Round)
+            → Lowers on round self.old.scope (Stmt.Let x.now e.now) self.old.out
             self.new.out) }
         ensures on { OnOk result (self.new.on ≡ self.old.on) }
     {
@@ -86,8 +73,8 @@ impl Lowering {
         ensures labels { OnOk result
             (writing.next_label self.new.out ≡ writing.next_label self.old.out + trap_count e.now) }
         ensures code { OnOk result
-            ((on : Body) (reduces : List Reduce)
-            → Lowers on reduces self.old.scope (Stmt.Set x.now e.now) self.old.out
+            ((on : Body) (round : Round)
+            → Lowers on round self.old.scope (Stmt.Set x.now e.now) self.old.out
             self.new.out) }
         ensures on { OnOk result (self.new.on ≡ self.old.on) }
         ensures scope { OnOk result (self.new.scope ≡ self.old.scope) }
@@ -106,9 +93,9 @@ impl Lowering {
         ensures labels { OnOk result
             (writing.next_label self.new.out ≡ writing.next_label self.old.out + trap_count e.now) }
         ensures code { OnOk result
-            ((on : Body) (reduces : List Reduce)
-            → operator_of reduces x.now.text.items ≡ Some op
-            → Lowers on reduces self.old.scope (Stmt.Fold x.now e.now) self.old.out
+            ((on : Body) (round : Round)
+            → operator_of round.reduces.now x.now.text.items ≡ Some op
+            → Lowers on round self.old.scope (Stmt.Fold x.now e.now) self.old.out
             self.new.out) }
         ensures on { OnOk result (self.new.on ≡ self.old.on) }
         ensures scope { OnOk result (self.new.scope ≡ self.old.scope) }
@@ -129,7 +116,7 @@ impl Lowering {
         ensures labels { OnOk result
             (writing.next_label self.new.out ≡ writing.next_label self.old.out + trap_count e.now) }
         ensures code { OnOk result
-            ((on : Body) → Lowers on round.entry.reduces.now self.old.scope (Stmt.Fold
+            ((on : Body) → Lowers on round.entry self.old.scope (Stmt.Fold
             x.now e.now) self.old.out self.new.out) }
         ensures on { OnOk result (self.new.on ≡ self.old.on) }
         ensures scope { OnOk result (self.new.scope ≡ self.old.scope) }
@@ -147,8 +134,8 @@ impl Lowering {
         ensures labels { OnOk result
             (writing.next_label self.new.out ≡ writing.next_label self.old.out + trap_count e.now) }
         ensures code { OnOk result
-            ((on : Body) (reduces : List Reduce) (place : Place)
-            → Lowers on reduces self.old.scope (Stmt.Print place e.now) self.old.out
+            ((on : Body) (round : Round) (place : Place)
+            → Lowers on round self.old.scope (Stmt.Print place e.now) self.old.out
             self.new.out) }
         ensures on { OnOk result (self.new.on ≡ self.old.on) }
         ensures scope { OnOk result (self.new.scope ≡ self.old.scope) }
@@ -185,23 +172,24 @@ impl Lowering {
         requires few_tables { length self.old.scope.tables.items ≤ MAX_TABLES }
         requires low { AllAreLow body.now }
         requires labels { writing.next_label self.old.out
-            + (sizes.added_by_list body.now + 1)
+            + (sizes.added_by_list self.old.on.quiet_calls body.now + 1)
             ≤ MAX_BLOCKS }
         requires room { HasRoomFor self.old.on (sizes.kept_by_list body.now) }
         requires cells { length self.old.scope.cells.items + sizes.declared_by_list body.now
             ≤ MAX_DECLARED_VARIABLES }
         requires fresh { IsFresh self.old.out }
+        requires fits { FitsIn self.old.on self.old.scope round body.now }
         ensures labels { OnOk result
             (writing.next_label self.new.out
             ≡ writing.next_label self.old.out
-            + (sizes.added_by_list body.now + 1)) }
+            + (sizes.added_by_list self.old.on.quiet_calls body.now + 1)) }
         ensures cells { OnOk result
             (length self.new.scope.cells.items ≤ length self.old.scope.cells.items) }
         ensures tables { OnOk result (self.new.scope.tables ≡ self.old.scope.tables) }
         ensures sees { OnOk result (SeesAfter (λ names. names) self.old.scope self.new.scope) }
         ensures fresh { OnOk result (IsFresh self.new.out) }
         ensures code { OnOk result
-            (LowersBranch self.old.on round.entry.reduces.now self.old.scope body.now exit
+            (LowersBranch self.old.on round.entry self.old.scope body.now exit
             self.old.out self.new.out) }
         ensures on { OnOk result (self.new.on ≡ self.old.on) }
     {
@@ -217,22 +205,25 @@ impl Lowering {
     fn lower_other(&mut self, round: Round, body: &[Stmt], exit: u32) -> Result<(), NoMemory>
         requires few_tables { length self.old.scope.tables.items ≤ MAX_TABLES }
         requires low { AllAreLow body.now }
-        requires labels { writing.next_label self.old.out + sizes.added_by_second body.now
+        requires labels { writing.next_label self.old.out
+            + sizes.added_by_second self.old.on.quiet_calls body.now
             ≤ MAX_BLOCKS }
         requires room { HasRoomFor self.old.on (sizes.kept_by_list body.now) }
         requires cells { length self.old.scope.cells.items + sizes.declared_by_list body.now
             ≤ MAX_DECLARED_VARIABLES }
         requires fresh { IsFresh self.old.out }
+        requires fits { FitsIn self.old.on self.old.scope round body.now }
         ensures labels { OnOk result
             (writing.next_label self.new.out
-            ≡ writing.next_label self.old.out + sizes.added_by_second body.now) }
+            ≡ writing.next_label self.old.out
+            + sizes.added_by_second self.old.on.quiet_calls body.now) }
         ensures cells { OnOk result
             (length self.new.scope.cells.items ≤ length self.old.scope.cells.items) }
         ensures tables { OnOk result (self.new.scope.tables ≡ self.old.scope.tables) }
         ensures sees { OnOk result (SeesAfter (λ names. names) self.old.scope self.new.scope) }
         ensures fresh { OnOk result (IsFresh self.new.out) }
         ensures code { OnOk result
-            (LowersOther self.old.on round.entry.reduces.now self.old.scope body.now exit self.old.out
+            (LowersOther self.old.on round.entry self.old.scope body.now exit self.old.out
             self.new.out) }
         ensures on { OnOk result (self.new.on ≡ self.old.on) }
     {
@@ -256,19 +247,21 @@ impl Lowering {
         requires low { (height e.now ≤ MAX_EXPRESSION_HEIGHT) × AllAreLow body.now
             × AllAreLow other.now }
         requires labels { writing.next_label self.old.out
-            + (trap_count e.now + 1 + (sizes.added_by_list body.now + 1)
-            + sizes.added_by_second other.now)
+            + (trap_count e.now + 1 + (sizes.added_by_list self.old.on.quiet_calls body.now + 1)
+            + sizes.added_by_second self.old.on.quiet_calls other.now)
             ≤ MAX_BLOCKS }
         requires room { HasRoomFor self.old.on (sizes.kept_by_list body.now)
             × HasRoomFor self.old.on (sizes.kept_by_list other.now) }
         requires cells { length self.old.scope.cells.items
             + (sizes.declared_by_list body.now + sizes.declared_by_list other.now)
             ≤ MAX_DECLARED_VARIABLES }
+        requires fits { FitsIn self.old.on self.old.scope round body.now
+            × FitsIn self.old.on self.old.scope round other.now }
         ensures labels { OnOk result
             (writing.next_label self.new.out
             ≡ writing.next_label self.old.out
-            + (trap_count e.now + 1 + (sizes.added_by_list body.now + 1)
-            + sizes.added_by_second other.now)) }
+            + (trap_count e.now + 1 + (sizes.added_by_list self.old.on.quiet_calls body.now + 1)
+            + sizes.added_by_second self.old.on.quiet_calls other.now)) }
         ensures cells { OnOk result
             (length self.new.scope.cells.items ≤ length self.old.scope.cells.items) }
         ensures tables { OnOk result (self.new.scope.tables ≡ self.old.scope.tables) }
@@ -276,13 +269,13 @@ impl Lowering {
         ensures code { OnOk result
             (WithBody body.now
             (λ v. WithBody other.now
-            (λ w. Lowers self.old.on round.entry.reduces.now self.old.scope (Stmt.If e.now v w)
+            (λ w. Lowers self.old.on round.entry self.old.scope (Stmt.If e.now v w)
             self.old.out self.new.out))) }
         ensures on { OnOk result (self.new.on ≡ self.old.on) }
     {
         let first = self.next_label() + trap_count(e);
-        let second = first + added_by_body(body);
-        let exit = second + added_by_second(other);
+        let second = first + added_by_body(self.on.quiet_calls, body);
+        let exit = second + added_by_second(self.on.quiet_calls, other);
         self.test(e, first, second)?;
         self.lower_branch(round, body, exit)?;
         self.lower_other(round, other, exit)?;
@@ -295,14 +288,15 @@ impl Lowering {
         requires few_tables { length self.old.scope.tables.items ≤ MAX_TABLES }
         requires low { AreLow s.now }
         requires labels { writing.next_label self.old.out
-            + sizes.added s.now
+            + sizes.added self.old.on.quiet_calls s.now
             ≤ MAX_BLOCKS }
         requires room { HasRoomFor self.old.on (sizes.kept s.now) }
         requires cells { length self.old.scope.cells.items + sizes.declared s.now
             ≤ MAX_DECLARED_VARIABLES }
+        requires fits { FitsIn self.old.on self.old.scope round (s.now ∷ []) }
         ensures labels { OnOk result
             (writing.next_label self.new.out
-            ≡ writing.next_label self.old.out + sizes.added s.now) }
+            ≡ writing.next_label self.old.out + sizes.added self.old.on.quiet_calls s.now) }
         ensures cells { OnOk result
             (length self.new.scope.cells.items ≤ length self.old.scope.cells.items +
             sizes.declared s.now) }
@@ -310,7 +304,7 @@ impl Lowering {
         ensures sees { OnOk result
             (SeesAfter (λ names. names_after names s.now) self.old.scope self.new.scope) }
         ensures code { OnOk result
-            (Lowers self.old.on round.entry.reduces.now self.old.scope s.now self.old.out
+            (Lowers self.old.on round.entry self.old.scope s.now self.old.out
             self.new.out) }
         ensures on { OnOk result (self.new.on ≡ self.old.on) }
     {
@@ -327,7 +321,7 @@ impl Lowering {
             }
             Stmt::Print(_, e) => self.lower_print(e),
             Stmt::Put(t, a, b, e) => self.lower_put(t, a, b, e),
-            Stmt::Par(l) => self.lower_par(l),
+            Stmt::Par(l) => self.lower_par(round, l),
             Stmt::Fold(x, e) => self.lower_fold(round, x, e),
             Stmt::Call(x, f) => self.lower_call(x, f),
             Stmt::Both(x, f, y, g) => self.lower_both(x, f, y, g),
@@ -341,14 +335,15 @@ impl Lowering {
         requires few_tables { length self.old.scope.tables.items ≤ MAX_TABLES }
         requires low { AllAreLow body.now }
         requires labels { writing.next_label self.old.out
-            + sizes.added_by_list body.now
+            + sizes.added_by_list self.old.on.quiet_calls body.now
             ≤ MAX_BLOCKS }
         requires room { HasRoomFor self.old.on (sizes.kept_by_list body.now) }
         requires cells { length self.old.scope.cells.items + sizes.declared_by_list body.now
             ≤ MAX_DECLARED_VARIABLES }
+        requires fits { FitsIn self.old.on self.old.scope round body.now }
         ensures labels { OnOk result
             (writing.next_label self.new.out ≡ writing.next_label self.old.out +
-            sizes.added_by_list body.now) }
+            sizes.added_by_list self.old.on.quiet_calls body.now) }
         ensures cells { OnOk result
             (length self.new.scope.cells.items
             ≤ length self.old.scope.cells.items + sizes.declared_by_list body.now) }
@@ -356,7 +351,7 @@ impl Lowering {
         ensures sees { OnOk result
             (SeesAfter (λ names. names_after_list names body.now) self.old.scope self.new.scope) }
         ensures code { OnOk result
-            (LowersAll self.old.on round.entry.reduces.now self.old.scope body.now
+            (LowersAll self.old.on round.entry self.old.scope body.now
             self.old.out self.new.out) }
         ensures on { OnOk result (self.new.on ≡ self.old.on) }
     {

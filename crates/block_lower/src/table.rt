@@ -1,15 +1,15 @@
 // The code of statements on tables.
 
-ghost use Rattle.std.specs.Prelude.{◌≡◌, ◌+◌, ◌≤◌, length, List, OnOk};
+ghost use Rattle.std.specs.Prelude.{◌≡◌, ◌+◌, ◌≤◌, length, OnOk};
 ghost use Rattle.tp_value.specs.declared.limits.TheConstants.{MAX_BLOCKS};
 ghost use Rattle.tp_value.specs.declared.limits.TheConstants.{MAX_EXPRESSION_HEIGHT, MAX_TABLES};
 ghost use Rattle.loop_rules.specs.Limits.{height};
-ghost use Rattle.loop_syntax.specs.declared.Reduce.{Reduce};
 ghost use Rattle.loop_syntax.specs.declared.Stmt;
 ghost use Rattle.block_lower.specs.declared.body.Body.{Body};
 ghost use Rattle.expr_lower.specs.Bodies.{trap_count};
 ghost use Rattle.expr_lower.specs.Scopes.{table_number};
 ghost use Rattle.tp_value.specs.declared.Place.{Place};
+ghost use Rattle.block_lower.specs.declared.round.Round.{Round};
 ghost use Rattle.block_lower.specs.Bodies.{HasRoomFor};
 ghost use Rattle.block_lower.specs.Heights.{IsLow};
 ghost use Rattle.block_lower.specs.Lowering.{Lowers, WritesPut};
@@ -63,8 +63,8 @@ impl Lowering {
             ≡ writing.next_label self.old.out
             + (trap_count a.now + trap_count b.now + trap_count e.now + 1)) }
         ensures code { OnOk result
-            ((on : Body) (reduces : List Reduce)
-            → Lowers on reduces self.old.scope (Stmt.Put t.now a.now b.now e.now)
+            ((on : Body) (round : Round)
+            → Lowers on round self.old.scope (Stmt.Put t.now a.now b.now e.now)
             self.old.out self.new.out) }
         ensures on { OnOk result (self.new.on ≡ self.old.on) }
         ensures scope { OnOk result (self.new.scope ≡ self.old.scope) }
@@ -90,8 +90,8 @@ impl Lowering {
             ≡ writing.next_label self.old.out
             + (trap_count a.now + trap_count b.now + trap_count e.now + 1)) }
         ensures code { OnOk result
-            ((reduces : List Reduce)
-            → Lowers self.old.on reduces self.old.scope (Stmt.Put t.now a.now b.now e.now)
+            ((round : Round)
+            → Lowers self.old.on round self.old.scope (Stmt.Put t.now a.now b.now e.now)
             self.old.out self.new.out) }
         ensures on { OnOk result (self.new.on ≡ self.old.on) }
         ensures scope { OnOk result (self.new.scope ≡ self.old.scope) }
@@ -122,8 +122,8 @@ impl Lowering {
             ≡ writing.next_label self.old.out
             + (trap_count a.now + trap_count b.now + trap_count e.now + 1)) }
         ensures code { OnOk result
-            ((reduces : List Reduce)
-            → Lowers self.old.on reduces self.old.scope (Stmt.Put t.now a.now b.now e.now)
+            ((round : Round)
+            → Lowers self.old.on round self.old.scope (Stmt.Put t.now a.now b.now e.now)
             self.old.out self.new.out) }
         ensures on { OnOk result (self.new.on ≡ self.old.on) }
         ensures scope { OnOk result (self.new.scope ≡ self.old.scope) }
@@ -141,8 +141,8 @@ impl Lowering {
         ensures labels { OnOk result
             (writing.next_label self.new.out ≡ writing.next_label self.old.out) }
         ensures code { OnOk result
-            ((on : Body) (reduces : List Reduce) (place : Place)
-            → Lowers on reduces self.old.scope (Stmt.Emit place t.now) self.old.out
+            ((on : Body) (round : Round) (place : Place)
+            → Lowers on round self.old.scope (Stmt.Emit place t.now) self.old.out
             self.new.out) }
         ensures on { OnOk result (self.new.on ≡ self.old.on) }
         ensures scope { OnOk result (self.new.scope ≡ self.old.scope) }

@@ -10,7 +10,7 @@ use std::alloc::Global;
 use std::test::Fail;
 use tpal_asm::assemble;
 use tpal_print::print_code;
-use tpal_syntax::{Block, Code, CodeTable, Note};
+use tpal_syntax::{Block, Code, CodeTable, Note, Target};
 use tpal_tool::Status;
 
 #[test]
@@ -18,19 +18,19 @@ fn a_compiled_program_is_its_code(rt: HostRuntime) -> Result<(), Fail> {
     let cases: [(&str, &str); 4] = [
         (
             "main { }",
-            "b0: plain\n  salloc 19\n  mem[r31+2] := 10000\n  halt\n",
+            "b0: plain\n  salloc 19\n  mem[r31+2] := 10000\n  halt\nb1: plain\n  prmsplit r28, r29\n  jump r29\n",
         ),
         (
             "main { print 2 + 3; }",
-            "b0: plain\n  salloc 19\n  mem[r31+2] := 10000\n  r0 := 2\n  r0 := r0 add 3\n  print r0\n  halt\n",
+            "b0: plain\n  salloc 19\n  mem[r31+2] := 10000\n  r0 := 2\n  r0 := r0 add 3\n  print r0\n  halt\nb1: plain\n  prmsplit r28, r29\n  jump r29\n",
         ),
         (
             "main { print 1 + 2 * 3; print 4; }",
-            "b0: plain\n  salloc 19\n  mem[r31+2] := 10000\n  r0 := 1\n  r1 := 2\n  r1 := r1 mul 3\n  r0 := r0 add r1\n  print r0\n  r0 := 4\n  print r0\n  halt\n",
+            "b0: plain\n  salloc 19\n  mem[r31+2] := 10000\n  r0 := 1\n  r1 := 2\n  r1 := r1 mul 3\n  r0 := r0 add r1\n  print r0\n  r0 := 4\n  print r0\n  halt\nb1: plain\n  prmsplit r28, r29\n  jump r29\n",
         ),
         (
             "main { print 007; }",
-            "b0: plain\n  salloc 19\n  mem[r31+2] := 10000\n  r0 := 7\n  print r0\n  halt\n",
+            "b0: plain\n  salloc 19\n  mem[r31+2] := 10000\n  r0 := 7\n  print r0\n  halt\nb1: plain\n  prmsplit r28, r29\n  jump r29\n",
         ),
     ];
     for (source, text) in cases {
@@ -115,14 +115,25 @@ fn is_same_table(one: &CodeTable, other: &CodeTable) -> bool {
     }
 }
 
-// Whether two blocks are the same. No block that `lower` makes is a join target.
-fn is_same_block(one: &Block, other: &Block) -> bool {
-    let is_same_note = match (&one.note, &other.note) {
+fn is_same_target(one: &Target, other: &Target) -> bool {
+    one.comm == other.comm
+        && one.renames.items() == other.renames.items()
+        && one.comb == other.comb
+        && one.kind == other.kind
+        && one.carries.items() == other.carries.items()
+}
+
+fn is_same_note(one: &Note, other: &Note) -> bool {
+    match (one, other) {
         (Note::Plain, Note::Plain) => true,
         (Note::Ready(handler), Note::Ready(again)) => handler == again,
+        (Note::Target(target), Note::Target(again)) => is_same_target(target, again),
         _ => false,
-    };
-    is_same_note
+    }
+}
+
+fn is_same_block(one: &Block, other: &Block) -> bool {
+    is_same_note(&one.note, &other.note)
         && one.name.items() == other.name.items()
         && one.body.items() == other.body.items()
         && one.term == other.term

@@ -16,13 +16,13 @@ loop-f-preserved c =
     let small = rw step at c.loop-f.invariant.small in
     let listed = rw step at c.loop-f.invariant.listed in
     let rest = drop (i + 1) fs in
-    let few : added_by_func f ≤ 65536 = omega (arith, labels, sum_by-cons added_by_func f rest) in
-    let blocks : c.added_by_func-label.result ≡ added_by_func f = omega (arith, few, c.added_by_func-label.ensures) in
+    let few : added_by_func c.args.calls f ≤ 65536 = omega (arith, labels, sum_by-cons (added_by_func c.args.calls) f rest) in
+    let blocks : c.added_by_func-label.result ≡ added_by_func c.args.calls f = omega (arith, few, c.added_by_func-label.ensures) in
     let callee : Callee = record { name = c.in_ok-name.name; label = c.loop-f.label; parameters = c.len.result; size = c.size_of.result } in
     record {
-      labels = omega (arith, labels, blocks, sum_by-cons added_by_func f rest);
+      labels = omega (arith, labels, blocks, sum_by-cons (added_by_func c.args.calls) f rest);
       small = small.1;
       listed = rw c.in_ok-push.ensures.items
-          (entries_next c.loop-f.callees.items callee c.loop-f.label c.added_by_func-label.result f rest (entries_from c.args.first fs) (rw c.deref.ensures.value at c.in_ok-name.ensures.items) refl
+          (entries_next c.loop-f.callees.items callee c.args.calls c.loop-f.label c.added_by_func-label.result f rest (entries_from c.args.calls c.args.first fs) (rw c.deref.ensures.value at c.in_ok-name.ensures.items) refl
           (omega (arith, c.len.ensures, f.params.ok)) c.size_of.ensures blocks listed);
     }

@@ -6,7 +6,7 @@ use Rattle.block_lower.proofs.function.callees_of.Given as goal
 
 abbrev pub invariant-loop-f : goal.invariant-loop-f
 invariant-loop-f l = record {
-  labels : l.label + added_by_funcs (drop l.f-index l.fs) ≤ 65536;
+  labels : l.label + added_by_funcs l.calls (drop l.f-index l.fs) ≤ 65536;
   small : AllByRecursion FuncIsSmall (drop l.f-index l.fs);
-  listed : entries l.callees.items ++ entries_from l.label (drop l.f-index l.fs) ≡ entries_from l.first l.fs;
+  listed : entries l.callees.items ++ entries_from l.calls l.label (drop l.f-index l.fs) ≡ entries_from l.calls l.first l.fs;
 }

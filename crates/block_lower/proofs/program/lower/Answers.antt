@@ -22,7 +22,7 @@ returns-in-Some-clause-owes c =
     let listing : Listing = record { tables = c.in_ok-tables.tables.items; blocks = c.in_ok-blocks.blocks.items } in
     let same : c.in-Some.code ≡ listing = rw c.in-Some.is at c.in_ok-code.ensures.exact in
     let right : IsCode listing.tables listing.blocks = rw c.in-Some.is at c.in_ok-code.ensures.right in
-    let owes : OwesMeaning p listing = owes_of p listing right (c.in_ok-blocks.ensures.code listing (rw c.deref.ensures.value at c.in_ok-tables.ensures) (stand_whole listing)) in
+    let owes : OwesMeaning p listing = owes_of p listing (rw c.program-program.ensures.program c.program-program.ensures.unbroken) right (c.in_ok-blocks.ensures.code listing (rw c.deref.ensures.value at c.in_ok-tables.ensures) (stand_whole listing)) in
     subst (λ (q : Program). OwesMeaning q c.in-Some.code) c.program-program.ensures.program (subst (λ (l : Listing). OwesMeaning p l) (sym same) owes)
 
 pub returns-in-Some-clause-count : goal.returns-in-Some-clause-count

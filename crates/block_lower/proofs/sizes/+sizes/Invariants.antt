@@ -4,4 +4,4 @@ use Rattle.block_lower.specs.Sizes.{added}
 use Rattle.block_lower.proofs.sizes.+sizes.Given as goal
 
 abbrev pub invariant-added_by_list-loop-s : goal.invariant-added_by_list-loop-s
-invariant-added_by_list-loop-s l = l.sum ≡ min (sum_by added (take l.s-index l.body)) (2 ^ 32 - 1)
+invariant-added_by_list-loop-s l = l.sum ≡ min (sum_by (added l.calls) (take l.s-index l.body)) (2 ^ 32 - 1)

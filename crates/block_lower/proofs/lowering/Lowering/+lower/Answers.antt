@@ -1,4 +1,4 @@
-use Rattle.std.proofs.Common.{◌≡◌, ◌+◌, ◌≤◌, List, length, take, take_all, refl, ap, sym, subst, ◌∙◌, arith}
+use Rattle.std.proofs.Common.{◌≡◌, ◌+◌, ◌≤◌, true, false, List, length, take, take_all, refl, ap, sym, subst, ◌∙◌, arith}
 use Rattle.std.specs.List.{sum_by}
 use Rattle.std.proofs.lemmas.List.{length-append}
 use Rattle.std.proofs.lemmas.List.Sums.{sum_by_more, sum_by_more_le}
@@ -11,11 +11,15 @@ use Rattle.block_lower.specs.Lowering.{LowersAll, LowersOther}
 use Rattle.block_lower.specs.Names.{SeesAfter, names_after_list}
 use Rattle.block_lower.specs.Sizes.{added, declared, kept, kept_by_list}
 use Rattle.block_lower.proofs.Counting.{blocks_of_vec}
-use Rattle.block_lower.proofs.Adding.{added_of_vec, second_of_vec, declared_of_vec, kept_of_vec}
+use Rattle.block_lower.proofs.Adding.{added_of_vec, par_of_vec, second_of_vec, declared_of_vec, kept_of_vec}
 use Rattle.block_lower.proofs.Fitting.{low_of_vec}
 use Rattle.block_lower.proofs.Keeping.{sees_block, sees_body, sees_more}
 use Rattle.block_lower.proofs.Lowered.{none_written, more_written, branch_written, other_written, no_other_written, if_written, while_written, body_written}
+use Rattle.block_lower.proofs.FittingNow.{fits_declared, fits_first, fits_later, fits_loop, fits_next, fits_par, fits_second, fits_while, inside_later}
 use Rattle.block_lower.proofs.LoweredLoops.{loop_written, par_written}
+use Rattle.block_lower.proofs.LoweredPars.{body_same, quiet_written}
+use Rattle.block_lower.proofs.Writing.{fresh_empty}
+use Rattle.block_lower.specs.Quiet.{list_is_quiet}
 use Rattle.block_lower.proofs.Stepping.{on_ok, low_at, kept_at, room_within, first_more, no_items}
 use Rattle.block_lower.proofs.lowering.Lowering.+lower.Goals as goal
 
@@ -28,17 +32,17 @@ lower_branch-returns-clause-sees t c =
 
 pub lower_branch-returns-clause-code : goal.lower_branch-returns-clause-code
 lower_branch-returns-clause-code t c =
-    branch_written c.args.self.now.on c.args.round.reduces.now c.args.self.now.scope c.args.body.now c.args.exit c.args.self.now.out c.lower_list.new.self.out c.close.new.self.out
+    branch_written c.args.self.now.on c.args.round c.args.self.now.scope c.args.body.now c.args.exit c.args.self.now.out c.lower_list.new.self.out c.close.new.self.out
     c.requires.fresh c.in_ok-lower_list.ensures.code (rw (c.jump.ensures, c.leave.ensures.out) at c.in_ok-close.ensures.closed)
 
 pub lower_other-returns-then-is_empty-clause-code : goal.lower_other-returns-then-is_empty-clause-code
 lower_other-returns-then-is_empty-clause-code t c =
-    subst (λ (ss : List Stmt). LowersOther c.args.self.now.on c.args.round.reduces.now c.args.self.now.scope ss c.args.exit c.args.self.now.out c.args.self.now.out) (sym (no_items c.args.body.now c.if-is_empty.ensures))
-    (no_other_written c.args.self.now.on c.args.round.reduces.now c.args.self.now.scope c.args.exit c.args.self.now.out)
+    subst (λ (ss : List Stmt). LowersOther c.args.self.now.on c.args.round c.args.self.now.scope ss c.args.exit c.args.self.now.out c.args.self.now.out) (sym (no_items c.args.body.now c.if-is_empty.ensures))
+    (no_other_written c.args.self.now.on c.args.round c.args.self.now.scope c.args.exit c.args.self.now.out)
 
 pub lower_other-returns-clause-code : goal.lower_other-returns-clause-code
 lower_other-returns-clause-code t c =
-    other_written c.args.self.now.on c.args.round.reduces.now c.args.self.now.scope c.args.body.now c.args.exit c.args.self.now.out c.lower_branch.new.self.out c.in_ok-lower_branch.ensures.code
+    other_written c.args.self.now.on c.args.round c.args.self.now.scope c.args.body.now c.args.exit c.args.self.now.out c.lower_branch.new.self.out c.in_ok-lower_branch.ensures.code
 
 pub lower_body-returns-clause-sees : goal.lower_body-returns-clause-sees
 lower_body-returns-clause-sees t c =
@@ -48,9 +52,198 @@ lower_body-returns-clause-sees t c =
 pub lower_body-returns-clause-code : goal.lower_body-returns-clause-code
 lower_body-returns-clause-code t c =
     rw c.leave.ensures.out
-    (body_written c.args.self.now.on c.args.round.reduces.now c.args.self.now.scope c.declare.new.self.scope c.args.x.now.text.items c.args.body.now c.args.self.now.out c.push.new.self.out c.lower_list.new.self.out
-    c.requires.fresh c.in_ok-declare.ensures.sees (rw c.in_ok-declare.ensures.out at c.in_ok-push.ensures.pushed)
+    (body_written c.args.self.now.on c.args.round c.args.self.now.scope c.declare.new.self.scope c.args.x.now.text.items c.args.body.now c.args.self.now.out c.push.new.self.out c.lower_list.new.self.out
+    c.requires.empty c.in_ok-declare.ensures.sees (rw c.in_ok-declare.ensures.out at c.in_ok-push.ensures.pushed)
     (rw (c.in_ok-push.ensures.on, c.in_ok-declare.ensures.on, c.in_ok-push.ensures.scope) at c.in_ok-lower_list.ensures.code))
+
+-- ---- what the calls inside need
+
+pub lower_body-lower_list-requires : goal.lower_body-lower_list-requires
+lower_body-lower_list-requires t c =
+    let self = c.args.self.now in
+    let declared = c.in_ok-declare.ensures in
+    let ticked = c.in_ok-push.ensures in
+    let on = ticked.on ∙ declared.on in
+    let labels = rw declared.out at ticked.labels in
+    let measure : sum_by blocks c.args.body.now + 2 ≡ t = c.decreases in (
+      omega (arith, measure),
+      rw (on, ticked.scope) (
+        rw declared.tables c.requires.few_tables,
+        (
+          c.requires.low,
+          (
+            omega (arith, labels, c.requires.labels),
+            (
+              c.requires.room,
+              (
+                omega (arith, declared.cells, c.requires.cells),
+                fits_declared self.on self.scope c.args.round c.args.x.now.text.items c.declare.new.self.scope c.args.body.now declared.sees c.requires.fits,
+              ),
+            ),
+          ),
+        ),
+      ),
+    )
+
+pub lower_while-lower_list-requires : goal.lower_while-lower_list-requires
+lower_while-lower_list-requires t c =
+    let test = c.in_ok-test.ensures in
+    let ticked = c.in_ok-push.ensures in
+    let on = ticked.on ∙ test.on in
+    let scope = ticked.scope ∙ test.scope in
+    let measure : sum_by blocks c.args.body.now + 3 ≡ t = c.decreases in (
+      omega (arith, measure),
+      rw (on, scope) (
+        c.requires.few_tables,
+        (
+          c.requires.low.1,
+          (omega (arith, test.labels, ticked.labels, c.requires.labels), (c.requires.room, (c.requires.cells, c.requires.fits))),
+        ),
+      ),
+    )
+
+pub lower_if-lower_branch-requires : goal.lower_if-lower_branch-requires
+lower_if-lower_branch-requires t c =
+    let test = c.in_ok-test.ensures in
+    let measure : sum_by blocks c.args.body.now + sum_by blocks c.args.other.now + 4 ≡ t = c.decreases in (
+      omega (arith, measure),
+      rw (test.on, test.scope) (
+        c.requires.few_tables,
+        (
+          c.requires.low.1,
+          (omega (arith, test.labels, c.requires.labels), (c.requires.room.0, (omega (arith, c.requires.cells), (test.fresh, c.requires.fits.0)))),
+        ),
+      ),
+    )
+
+pub lower_if-lower_other-requires : goal.lower_if-lower_other-requires
+lower_if-lower_other-requires t c =
+    let self = c.args.self.now in
+    let test = c.in_ok-test.ensures in
+    let one = c.in_ok-lower_branch.ensures in
+    let on = one.on ∙ test.on in
+    let labels = rw test.on at one.labels in
+    let cells = rw test.scope at one.cells in
+    let sees = rw test.scope at one.sees in
+    let measure : sum_by blocks c.args.body.now + sum_by blocks c.args.other.now + 4 ≡ t = c.decreases in (
+      omega (arith, measure),
+      rw on (
+        rw (one.tables, test.scope) c.requires.few_tables,
+        (
+          c.requires.low.2,
+          (
+            omega (arith, test.labels, labels, c.requires.labels),
+            (
+              c.requires.room.1,
+              (
+                omega (arith, cells, c.requires.cells),
+                (one.fresh, fits_later self.on self.scope c.args.round c.lower_branch.new.self.scope c.args.other.now sees c.requires.fits.1),
+              ),
+            ),
+          ),
+        ),
+      ),
+    )
+
+pub lower_serial-lower_body-requires : goal.lower_serial-lower_body-requires
+lower_serial-lower_body-requires t c =
+    let self = c.args.self.now in
+    let l = c.args.l.now in
+    let inside = c.round_inside in
+    let bounds = c.in_ok-bounds.ensures in
+    let some = c.in_ok-push_some.ensures in
+    let wide = c.in_ok-push_wide.ensures in
+    let on = wide.on ∙ some.on ∙ bounds.on in
+    let scope = wide.scope ∙ some.scope ∙ bounds.scope in
+    let measure : sum_by blocks l.body.items + 3 ≡ t = c.decreases in (
+      rw c.deref-2.ensures.value (omega (arith, measure)),
+      rw (on, scope, c.deref-2.ensures.value) (
+        c.requires.few_tables,
+        (
+          c.requires.low.2,
+          (
+            omega (arith, bounds.labels, some.labels, wide.labels, c.requires.labels),
+            (
+              c.requires.room,
+              (
+                c.requires.cells,
+                (
+                  fresh_empty c.push_wide.new.self.out wide.fresh,
+                  fits_par self.on self.scope c.args.round inside.result l inside.ensures.reduces inside.ensures.depth c.requires.fits,
+                ),
+              ),
+            ),
+          ),
+        ),
+      ),
+    )
+
+pub lower_quiet-lower_body-requires : goal.lower_quiet-lower_body-requires
+lower_quiet-lower_body-requires t c =
+    let self = c.args.self.now in
+    let l = c.args.l.now in
+    let inside = c.round_inside-inside in
+    let begun = c.in_ok-turns.ensures in
+    let measure : sum_by blocks l.body.items + 3 ≡ t = c.decreases in (
+      rw c.deref.ensures.value (omega (arith, measure)),
+      rw (begun.on, begun.scope, c.deref.ensures.value) (
+        c.requires.few_tables,
+        (
+          c.requires.low.2,
+          (
+            omega (arith, begun.labels, c.requires.labels),
+            (
+              c.requires.room,
+              (
+                c.requires.cells,
+                (
+                  fresh_empty c.begin_quiet.new.self.out begun.fresh,
+                  fits_par self.on self.scope c.args.round inside.result l inside.ensures.reduces inside.ensures.depth c.requires.fits,
+                ),
+              ),
+            ),
+          ),
+        ),
+      ),
+    )
+
+pub lower_quiet-lower_body-requires-2 : goal.lower_quiet-lower_body-requires-2
+lower_quiet-lower_body-requires-2 t c =
+    let self = c.args.self.now in
+    let l = c.args.l.now in
+    let inside = c.round_inside-inside in
+    let begun = c.in_ok-turns.ensures in
+    let first = c.in_ok-lower_body.ensures in
+    let ended = c.in_ok-end_loop.ensures in
+    let ready = c.make_ready.ensures in
+    let on = ready.on ∙ ended.on ∙ first.on ∙ begun.on in
+    let scope = ready.scope ∙ ended.scope in
+    let labels = rw (c.deref.ensures.value, begun.on) at first.labels in
+    let cells = rw begun.scope at first.cells in
+    let sees = rw begun.scope at first.sees in
+    let measure : sum_by blocks l.body.items + 3 ≡ t = c.decreases in (
+      rw c.deref-2.ensures.value (omega (arith, measure)),
+      rw (on, scope, c.deref-2.ensures.value) (
+        rw (first.tables, begun.scope) c.requires.few_tables,
+        (
+          c.requires.low.2,
+          (
+            omega (arith, begun.labels, labels, ended.labels, ready.labels, c.requires.labels),
+            (
+              c.requires.room,
+              (
+                omega (arith, cells, c.requires.cells),
+                (
+                  record { body = ready.ready.body; traps = ready.ready.traps },
+                  inside_later self.on self.scope inside.result c.lower_body.new.self.scope l.var.text.items l.body.items sees
+                      (fits_par self.on self.scope c.args.round inside.result l inside.ensures.reduces inside.ensures.depth c.requires.fits),
+                ),
+              ),
+            ),
+          ),
+        ),
+      ),
+    )
 
 -- ---- lists
 
@@ -60,44 +253,62 @@ lower_list-loop-s-init t c = record {
   cells = omega arith;
   tables = refl;
   sees = λ names tables sees. sees;
-  code = none_written c.args.self.now.on c.args.round.reduces.now c.args.self.now.scope c.args.self.now.out;
+  code = none_written c.args.self.now.on c.args.round c.args.self.now.scope c.args.self.now.out;
   on = refl;
 }
 
 pub lower_list-lower_stmt-requires : goal.lower_list-lower_stmt-requires
 lower_list-lower_stmt-requires t c =
+    let self = c.args.self.now in
     let body = c.args.body.now in
     let i = c.loop-s.s-index in
     let s = c.s-item.result in
-    let more_blocks = rw (← c.s-item.is) at (sum_by_more_le added body i s c.loop-s-test.true) in
+    let was = c.loop-s.invariant in
+    let more_blocks = rw (← c.s-item.is) at (sum_by_more_le (added self.on.quiet_calls) body i s c.loop-s-test.true) in
     let more_cells = rw (← c.s-item.is) at (sum_by_more_le declared body i s c.loop-s-test.true) in
     let few = c.requires.few_tables in
     let measure : sum_by blocks body + 1 ≡ t = c.decreases in
     let within = rw (← c.s-item.is) at (sum_by_more_le blocks body i s c.loop-s-test.true) in (
       omega (arith, measure, within),
-      (
-        rw c.loop-s.invariant.tables few,
-        (subst AreLow (sym c.s-item.is) (low_at body i s c.loop-s-test.true c.requires.low), (omega (arith, more_blocks, c.requires.labels), (rw c.loop-s.invariant.on (room_within c.args.self.now.on _ _ (subst (λ (d : Stmt). kept d ≤ kept_by_list body) (sym c.s-item.is) (kept_at body i s c.loop-s-test.true)) c.requires.room), omega (arith, more_cells, c.requires.cells)))),
+      rw was.on (
+        rw was.tables few,
+        (
+          subst AreLow (sym c.s-item.is) (low_at body i s c.loop-s-test.true c.requires.low),
+          (
+            omega (arith, more_blocks, c.requires.labels, was.labels),
+            (
+              room_within self.on _ _ (subst (λ (d : Stmt). kept d ≤ kept_by_list body) (sym c.s-item.is) (kept_at body i s c.loop-s-test.true)) c.requires.room,
+              (
+                omega (arith, more_cells, c.requires.cells, was.cells),
+                fits_next self.on self.scope c.args.round c.loop-s.self.scope body i s c.loop-s-test.true c.s-item.is was.sees c.requires.fits,
+              ),
+            ),
+          ),
+        ),
       ),
     )
 
 pub lower_list-loop-s-preserved : goal.lower_list-loop-s-preserved
 lower_list-loop-s-preserved t c =
+    let self = c.args.self.now in
     let body = c.args.body.now in
     let i = c.loop-s.s-index in
     let s = c.s-item.result in
+    let was = c.loop-s.invariant in
+    let new = c.in_ok-lower_stmt.ensures in
     let step : take (i + 1) body ≡ _ = first_more body i s c.loop-s-test.true c.s-item.is in
-    let more_blocks = rw (← c.s-item.is) at (sum_by_more added body i s c.loop-s-test.true) in
+    let more_blocks = rw (← c.s-item.is) at (sum_by_more (added self.on.quiet_calls) body i s c.loop-s-test.true) in
     let more_cells = rw (← c.s-item.is) at (sum_by_more declared body i s c.loop-s-test.true) in
+    let labels = rw was.on at new.labels in
     record {
-      labels = omega (arith, more_blocks, c.in_ok-lower_stmt.ensures.labels);
-      cells = omega (arith, more_cells, c.in_ok-lower_stmt.ensures.cells);
-      tables = c.in_ok-lower_stmt.ensures.tables ∙ c.loop-s.invariant.tables;
-      sees = subst (λ (ss : List Stmt). SeesAfter (λ names. names_after_list names ss) c.args.self.now.scope c.lower_stmt.new.self.scope) (sym step)
-          (sees_more c.args.self.now.scope c.loop-s.self.scope c.lower_stmt.new.self.scope (take i body) s c.loop-s.invariant.sees c.in_ok-lower_stmt.ensures.sees);
-      code = subst (λ (ss : List Stmt). LowersAll c.args.self.now.on c.args.round.reduces.now c.args.self.now.scope ss c.args.self.now.out c.lower_stmt.new.self.out) (sym step)
-          (more_written c.args.self.now.on c.args.round.reduces.now c.args.self.now.scope c.loop-s.self.scope (take i body) s c.args.self.now.out c.loop-s.self.out c.lower_stmt.new.self.out c.loop-s.invariant.code c.loop-s.invariant.sees (rw c.loop-s.invariant.on at c.in_ok-lower_stmt.ensures.code));
-      on = c.in_ok-lower_stmt.ensures.on ∙ c.loop-s.invariant.on;
+      labels = omega (arith, more_blocks, labels, was.labels);
+      cells = omega (arith, more_cells, new.cells, was.cells);
+      tables = new.tables ∙ was.tables;
+      sees = subst (λ (ss : List Stmt). SeesAfter (λ names. names_after_list names ss) self.scope c.lower_stmt.new.self.scope) (sym step)
+          (sees_more self.scope c.loop-s.self.scope c.lower_stmt.new.self.scope (take i body) s was.sees new.sees);
+      code = subst (λ (ss : List Stmt). LowersAll self.on c.args.round self.scope ss self.out c.lower_stmt.new.self.out) (sym step)
+          (more_written self.on c.args.round self.scope c.loop-s.self.scope (take i body) s self.out c.loop-s.self.out c.lower_stmt.new.self.out was.code was.sees (rw was.on at new.code));
+      on = new.on ∙ was.on;
     }
 
 pub lower_list-returns-clause-sees : goal.lower_list-returns-clause-sees
@@ -124,14 +335,16 @@ lower_while-returns-clause-code t c =
     let first = c.in_ok-test.ensures in
     let second = c.in_ok-test-2.ensures in
     let closed = rw c.leave.ensures.out at second.labels in
-    while_written c.args.self.now.on c.args.round.reduces.now c.args.self.now.scope c.leave.new.self.scope c.args.e.now c.args.body.now again exit c.args.self.now.out c.test.new.self.out c.push.new.self.out c.lower_list.new.self.out c.test-2.new.self.out
+    let inner = rw on at listed.labels in
+    while_written c.args.self.now.on c.args.round c.args.self.now.scope c.leave.new.self.scope c.args.e.now c.args.body.now again exit c.args.self.now.out c.test.new.self.out c.push.new.self.out c.lower_list.new.self.out c.test-2.new.self.out
     first.code first.fresh (omega (arith, first.labels, ap length first.fresh.traps))
     c.in_ok-push.ensures.pushed (rw (on, scope) at listed.code) keeps (rw c.leave.ensures.out at second.code) second.fresh
-    (omega (arith, first.labels, c.in_ok-push.ensures.labels, listed.labels, closed, ap length second.fresh.traps))
+    (omega (arith, first.labels, c.in_ok-push.ensures.labels, inner, closed, ap length second.fresh.traps))
 
-pub lower_par-returns-clause-code : goal.lower_par-returns-clause-code
-lower_par-returns-clause-code t c = λ reduces.
+pub lower_serial-returns-clause-code : goal.lower_serial-returns-clause-code
+lower_serial-returns-clause-code t c =
     let l = c.args.l.now in
+    let inside = c.round_inside in
     let check = c.next_label.result + c.trap_count.result + c.trap_count-2.result in
     let again = check + 2 in
     let exit = again + c.added_by_body.result in
@@ -139,17 +352,68 @@ lower_par-returns-clause-code t c = λ reduces.
     let test = c.in_ok-push_some.ensures.labels in
     let scope = c.in_ok-push_wide.ensures.scope ∙ c.in_ok-push_some.ensures.scope ∙ c.in_ok-bounds.ensures.scope in
     let on = c.in_ok-push_wide.ensures.on ∙ c.in_ok-push_some.ensures.on ∙ c.in_ok-bounds.ensures.on in
-    let inner = rw (c.deref-2.ensures.value, c.round_inside.ensures, on, scope) at c.in_ok-lower_body.ensures.code in
-    let behind = rw c.deref-2.ensures.value at c.in_ok-lower_body.ensures.labels in
-    let inside = rw c.deref.ensures.value at c.added_by_body.ensures in
+    let inner = rw (c.deref-2.ensures.value, on, scope) at c.in_ok-lower_body.ensures.code in
+    let behind = rw (c.deref-2.ensures.value, on) at c.in_ok-lower_body.ensures.labels in
+    let size = rw c.deref.ensures.value at c.added_by_body.ensures in
     let end = c.in_ok-end_loop.ensures in
-    par_written c.args.self.now.on reduces c.args.self.now.scope l c.level-level.result check again exit c.args.self.now.out c.bounds.new.self.out c.push_some.new.self.out c.push_wide.new.self.out c.lower_body.new.self.out c.end_loop.new.self.out
+    par_written c.args.self.now.on c.args.round inside.result c.args.self.now.scope l c.level-level.result check again exit c.args.self.now.out c.bounds.new.self.out c.push_some.new.self.out c.push_wide.new.self.out c.lower_body.new.self.out c.end_loop.new.self.out
+    c.requires.deep inside.ensures.reduces inside.ensures.depth
     c.level-level.ensures c.in_ok-bounds.ensures.code c.in_ok-push_some.ensures.code
     (omega (arith, bounds, test, ap length c.in_ok-push_some.ensures.fresh.traps))
     c.in_ok-push_wide.ensures.code c.in_ok-push_wide.ensures.fresh
     (omega (arith, bounds, test, c.in_ok-push_wide.ensures.labels, ap length c.in_ok-push_wide.ensures.fresh.traps))
     inner end.code end.fresh
-    (omega (arith, bounds, test, c.in_ok-push_wide.ensures.labels, behind, inside, end.labels, ap length end.fresh.traps))
+    (omega (arith, bounds, test, c.in_ok-push_wide.ensures.labels, behind, size, end.labels, ap length end.fresh.traps))
+
+pub lower_quiet-returns-clause-code : goal.lower_quiet-returns-clause-code
+lower_quiet-returns-clause-code t c =
+    let self = c.args.self.now in
+    let l = c.args.l.now in
+    let inside = c.round_inside-inside in
+    let turns = c.in_ok-turns.turns in
+    let begun = c.in_ok-turns.ensures in
+    let first = c.in_ok-lower_body.ensures in
+    let ended = c.in_ok-end_loop.ensures in
+    let ready = c.make_ready.ensures in
+    let second = c.in_ok-lower_body-2.ensures in
+    let last = c.in_ok-end_loop-2.ensures in
+    let on1 = ended.on ∙ first.on ∙ begun.on in
+    let on2 = ready.on ∙ on1 in
+    let scope = ready.scope ∙ ended.scope in
+    let one = rw (c.deref.ensures.value, begun.on) at first.labels in
+    let two = rw (c.deref-2.ensures.value, on2) at second.labels in
+    let sees = rw begun.scope at first.sees in
+    let body = rw (c.deref-2.ensures.value, on2, scope) at second.code in
+    quiet_written self.on c.args.round inside.result self.scope l turns _ self.out c.begin_quiet.new.self.out c.lower_body.new.self.out c.end_loop.new.self.out c.make_ready.new.self.out c.lower_body-2.new.self.out c.end_loop-2.new.self.out
+    c.requires.quiet inside.ensures.reduces inside.ensures.depth begun.turns.0 begun.turns.1
+    (omega (arith, begun.turns.2, one, ended.labels, ap length begun.fresh.traps, ap length ended.fresh.traps))
+    (omega (arith, begun.turns.2, one, two, ended.labels, ready.labels, last.labels, ap length begun.fresh.traps, ap length last.fresh.traps))
+    begun.code begun.fresh (rw (c.deref.ensures.value, begun.on, begun.scope) at first.code) ended.code (rw on1 at ready.ready)
+    (body_same self.on inside.result self.scope c.lower_body.new.self.scope l.var.text.items l.body.items c.make_ready.new.self.out c.lower_body-2.new.self.out sees body) last.code last.fresh
+
+pub lower_par-lower_quiet-requires : goal.lower_par-lower_quiet-requires
+lower_par-lower_quiet-requires t c =
+    let quiet : list_is_quiet c.args.self.now.on.quiet_calls c.args.l.now.body.items ≡ true = sym (rw c.deref.ensures.value at c.if-list_is_quiet.ensures) in
+    let labels = rw quiet at c.requires.labels in
+    let measure : sum_by blocks c.args.l.now.body.items + 4 ≡ t = c.decreases in
+    (omega (arith, measure), (c.requires.few_tables, (c.requires.low, (labels, (c.requires.room, (c.requires.cells, (c.requires.fits, quiet)))))))
+
+pub lower_par-lower_serial-requires : goal.lower_par-lower_serial-requires
+lower_par-lower_serial-requires t c =
+    let deep : list_is_quiet c.args.self.now.on.quiet_calls c.args.l.now.body.items ≡ false = sym (rw c.deref.ensures.value at c.if-list_is_quiet.ensures) in
+    let labels = rw deep at c.requires.labels in
+    let measure : sum_by blocks c.args.l.now.body.items + 4 ≡ t = c.decreases in
+    (omega (arith, measure), (c.requires.few_tables, (c.requires.low, (labels, (c.requires.room, (c.requires.cells, (c.requires.fits, deep)))))))
+
+pub lower_par-returns-then-list_is_quiet-clause-labels : goal.lower_par-returns-then-list_is_quiet-clause-labels
+lower_par-returns-then-list_is_quiet-clause-labels t c =
+    let quiet : list_is_quiet c.args.self.now.on.quiet_calls c.args.l.now.body.items ≡ true = sym (rw c.deref.ensures.value at c.if-list_is_quiet.ensures) in
+    on_ok c.lower_quiet.result (λ h. rw quiet h) c.lower_quiet.ensures.labels
+
+pub lower_par-returns-else-list_is_quiet-clause-labels : goal.lower_par-returns-else-list_is_quiet-clause-labels
+lower_par-returns-else-list_is_quiet-clause-labels t c =
+    let deep : list_is_quiet c.args.self.now.on.quiet_calls c.args.l.now.body.items ≡ false = sym (rw c.deref.ensures.value at c.if-list_is_quiet.ensures) in
+    on_ok c.lower_serial.result (λ h. rw deep h) c.lower_serial.ensures.labels
 
 pub lower_if-returns-clause-code : goal.lower_if-returns-clause-code
 lower_if-returns-clause-code t c =
@@ -160,11 +424,13 @@ lower_if-returns-clause-code t c =
     let one = c.in_ok-lower_branch.ensures in
     let two = c.in_ok-lower_other.ensures in
     let on = one.on ∙ test.on in
-    if_written c.args.self.now.on c.args.round.reduces.now c.args.self.now.scope c.lower_branch.new.self.scope c.args.e.now c.args.body.now c.args.other.now first second exit c.args.self.now.out c.test.new.self.out c.lower_branch.new.self.out c.lower_other.new.self.out
+    let first_labels = rw test.on at one.labels in
+    let second_labels = rw on at two.labels in
+    if_written c.args.self.now.on c.args.round c.args.self.now.scope c.lower_branch.new.self.scope c.args.e.now c.args.body.now c.args.other.now first second exit c.args.self.now.out c.test.new.self.out c.lower_branch.new.self.out c.lower_other.new.self.out
     test.code (rw (test.on, test.scope) at one.code) (rw on at two.code) (rw test.scope at one.sees) two.fresh
     (omega (arith, test.labels, ap length test.fresh.traps))
-    (omega (arith, test.labels, one.labels, c.added_by_body.ensures, ap length one.fresh.traps))
-    (omega (arith, test.labels, one.labels, two.labels, c.added_by_body.ensures, c.added_by_second.ensures, ap length two.fresh.traps))
+    (omega (arith, test.labels, first_labels, c.added_by_body.ensures, ap length one.fresh.traps))
+    (omega (arith, test.labels, first_labels, second_labels, c.added_by_body.ensures, c.added_by_second.ensures, ap length two.fresh.traps))
 
 -- ---- statements
 
@@ -185,13 +451,19 @@ lower_stmt-lower_if-requires t c =
         (
           (low.0, rw body (low_of_vec c.in-If.body low.1), rw other (low_of_vec c.in-If.other low.2)),
           (
-            rw (body, other) (omega (arith, added_of_vec c.in-If.body, second_of_vec c.in-If.other, labels)),
+            rw (body, other) (omega (arith, added_of_vec c.args.self.now.on.quiet_calls c.in-If.body, second_of_vec c.args.self.now.on.quiet_calls c.in-If.other, labels)),
             (
               (
                 rw body (room_within c.args.self.now.on _ _ (omega (arith, kept_of_vec c.in-If.body)) room),
                 rw other (room_within c.args.self.now.on _ _ (omega (arith, kept_of_vec c.in-If.other)) room),
               ),
-              rw (body, other) (omega (arith, many, declared_of_vec c.in-If.body, declared_of_vec c.in-If.other, cells)),
+              (
+                rw (body, other) (omega (arith, many, declared_of_vec c.in-If.body, declared_of_vec c.in-If.other, cells)),
+                (
+                  rw body (fits_first c.args.self.now.on c.args.self.now.scope c.args.round c.in-If.e c.in-If.body c.in-If.other (rw c.in-If.is at c.requires.fits)),
+                  rw other (fits_second c.args.self.now.on c.args.self.now.scope c.args.round c.in-If.e c.in-If.body c.in-If.other (rw c.in-If.is at c.requires.fits)),
+                ),
+              ),
             ),
           ),
         ),
@@ -212,7 +484,7 @@ lower_stmt-lower_while-requires t c =
         c.requires.few_tables,
         (
           (low.0, rw body (low_of_vec c.in-While.body low.1)),
-          (rw body (omega (arith, added_of_vec c.in-While.body, labels)), (rw body (room_within c.args.self.now.on _ _ (omega (arith, kept_of_vec c.in-While.body)) room), rw body (omega (arith, declared_of_vec c.in-While.body, cells)))),
+          (rw body (omega (arith, added_of_vec c.args.self.now.on.quiet_calls c.in-While.body, labels)), (rw body (room_within c.args.self.now.on _ _ (omega (arith, kept_of_vec c.in-While.body)) room), (rw body (omega (arith, declared_of_vec c.in-While.body, cells)), rw body (fits_while c.args.self.now.on c.args.self.now.scope c.args.round c.in-While.e c.in-While.body (rw c.in-While.is at c.requires.fits))))),
         ),
       ),
     )
@@ -220,32 +492,40 @@ lower_stmt-lower_while-requires t c =
 pub lower_stmt-begin_loop-requires-clause-labels : goal.lower_stmt-begin_loop-requires-clause-labels
 lower_stmt-begin_loop-requires-clause-labels t c =
     let labels = rw c.in-Loop.is at c.requires.labels in
-    rw c.deref-in-Loop.ensures.value (omega (arith, added_of_vec c.in-Loop.body, labels))
+    rw c.deref-in-Loop.ensures.value (omega (arith, added_of_vec c.args.self.now.on.quiet_calls c.in-Loop.body, labels))
 
 pub lower_stmt-end_loop-requires-clause-labels : goal.lower_stmt-end_loop-requires-clause-labels
 lower_stmt-end_loop-requires-clause-labels t c =
     let labels = rw c.in-Loop.is at c.requires.labels in
-    let inner = rw c.deref-in-Loop-2.ensures.value at c.in_ok-lower_body-in-Loop.ensures.labels in
-    omega (arith, added_of_vec c.in-Loop.body, labels, inner, c.in_ok-turns-in-Loop.ensures.labels)
+    let inner = rw (c.deref-in-Loop-2.ensures.value, c.in_ok-turns-in-Loop.ensures.on) at c.in_ok-lower_body-in-Loop.ensures.labels in
+    omega (arith, added_of_vec c.args.self.now.on.quiet_calls c.in-Loop.body, labels, inner, c.in_ok-turns-in-Loop.ensures.labels)
 
 pub lower_stmt-lower_body-requires : goal.lower_stmt-lower_body-requires
 lower_stmt-lower_body-requires t c =
+    let self = c.args.self.now in
     let begun = c.in_ok-turns-in-Loop.ensures in
     let labels = rw c.in-Loop.is at c.requires.labels in
     let cells = rw c.in-Loop.is at c.requires.cells in
     let low = rw c.in-Loop.is at c.requires.low in
     let room = rw c.in-Loop.is at c.requires.room in
+    let fits = rw c.in-Loop.is at c.requires.fits in
     let body = c.deref-in-Loop-2.ensures.value in
     let measure : blocks c.args.s.now ≡ t = c.decreases in
     let whole = rw c.in-Loop.is at measure in (
       rw body (omega (arith, whole, blocks_of_vec c.in-Loop.body)),
-      (
-        rw begun.scope c.requires.few_tables,
+      rw (begun.on, begun.scope, body) (
+        c.requires.few_tables,
         (
-          rw body (low_of_vec c.in-Loop.body low.2),
+          low_of_vec c.in-Loop.body low.2,
           (
-            rw body (omega (arith, added_of_vec c.in-Loop.body, labels, begun.labels)),
-            (rw (begun.on, body) (room_within c.args.self.now.on _ _ (omega (arith, kept_of_vec c.in-Loop.body)) room), (rw (begun.scope, body) (omega (arith, declared_of_vec c.in-Loop.body, cells)), begun.fresh)),
+            omega (arith, added_of_vec self.on.quiet_calls c.in-Loop.body, labels, begun.labels),
+            (
+              room_within self.on _ _ (omega (arith, kept_of_vec c.in-Loop.body)) room,
+              (
+                omega (arith, declared_of_vec c.in-Loop.body, cells),
+                (fresh_empty c.begin_loop.new.self.out begun.fresh, fits_loop self.on self.scope c.args.round c.in-Loop.x c.in-Loop.a c.in-Loop.b c.in-Loop.body fits),
+              ),
+            ),
           ),
         ),
       ),
@@ -265,7 +545,7 @@ lower_stmt-lower_par-requires t c =
         c.requires.few_tables,
         (
           (low.0, low.1, low_of_vec l.body low.2),
-          (omega (arith, added_of_vec l.body, labels), (room_within c.args.self.now.on _ _ (omega (arith, kept_of_vec l.body)) room, omega (arith, declared_of_vec l.body, cells))),
+          (omega (arith, par_of_vec c.args.self.now.on.quiet_calls l.carries.items l.body, labels), (room_within c.args.self.now.on _ _ (omega (arith, kept_of_vec l.body)) room, (omega (arith, declared_of_vec l.body, cells), rw c.in-Par.is at c.requires.fits))),
         ),
       ),
     )
@@ -273,26 +553,58 @@ lower_stmt-lower_par-requires t c =
 pub lower_stmt-returns-in-Let-clause-sees : goal.lower_stmt-returns-in-Let-clause-sees
 lower_stmt-returns-in-Let-clause-sees t c = on_ok c.lower_let.result (λ h. rw c.in-Let.is h) c.lower_let.ensures.sees
 
+pub lower_stmt-returns-in-Let-clause-code : goal.lower_stmt-returns-in-Let-clause-code
+lower_stmt-returns-in-Let-clause-code t c =
+    on_ok c.lower_let.result (λ h. rw c.in-Let.is (h c.args.self.now.on c.args.round))
+    c.lower_let.ensures.code
+
+pub lower_stmt-returns-in-Set-clause-code : goal.lower_stmt-returns-in-Set-clause-code
+lower_stmt-returns-in-Set-clause-code t c =
+    on_ok c.lower_set.result (λ h. rw c.in-Set.is (h c.args.self.now.on c.args.round))
+    c.lower_set.ensures.code
+
+pub lower_stmt-returns-in-Print-clause-code : goal.lower_stmt-returns-in-Print-clause-code
+lower_stmt-returns-in-Print-clause-code t c =
+    on_ok c.lower_print.result (λ h. rw c.in-Print.is (h c.args.self.now.on c.args.round _))
+    c.lower_print.ensures.code
+
+pub lower_stmt-returns-in-Put-clause-code : goal.lower_stmt-returns-in-Put-clause-code
+lower_stmt-returns-in-Put-clause-code t c =
+    on_ok c.lower_put.result (λ h. rw c.in-Put.is (h c.args.round)) c.lower_put.ensures.code
+
+pub lower_stmt-returns-in-Call-clause-code : goal.lower_stmt-returns-in-Call-clause-code
+lower_stmt-returns-in-Call-clause-code t c =
+    on_ok c.lower_call.result (λ h. rw c.in-Call.is (h c.args.round)) c.lower_call.ensures.code
+
+pub lower_stmt-returns-in-Both-clause-code : goal.lower_stmt-returns-in-Both-clause-code
+lower_stmt-returns-in-Both-clause-code t c =
+    on_ok c.lower_both.result (λ h. rw c.in-Both.is (h c.args.round)) c.lower_both.ensures.code
+
+pub lower_stmt-returns-in-Emit-clause-code : goal.lower_stmt-returns-in-Emit-clause-code
+lower_stmt-returns-in-Emit-clause-code t c =
+    on_ok c.lower_emit.result (λ h. rw c.in-Emit.is (h c.args.self.now.on c.args.round _))
+    c.lower_emit.ensures.code
+
 pub lower_stmt-returns-in-If-clause-labels : goal.lower_stmt-returns-in-If-clause-labels
 lower_stmt-returns-in-If-clause-labels t c =
     on_ok c.lower_if.result
     (λ h.
     let inner = rw (c.deref.ensures.value, c.deref-in-If.ensures.value) at h in
-    rw c.in-If.is (omega (arith, added_of_vec c.in-If.body, second_of_vec c.in-If.other, inner)))
+    rw c.in-If.is (omega (arith, added_of_vec c.args.self.now.on.quiet_calls c.in-If.body, second_of_vec c.args.self.now.on.quiet_calls c.in-If.other, inner)))
     c.lower_if.ensures.labels
 
 pub lower_stmt-returns-in-While-clause-labels : goal.lower_stmt-returns-in-While-clause-labels
 lower_stmt-returns-in-While-clause-labels t c =
-    on_ok c.lower_while.result (λ h. let inner = rw c.deref-in-While.ensures.value at h in rw c.in-While.is (omega (arith, added_of_vec c.in-While.body, inner))) c.lower_while.ensures.labels
+    on_ok c.lower_while.result (λ h. let inner = rw c.deref-in-While.ensures.value at h in rw c.in-While.is (omega (arith, added_of_vec c.args.self.now.on.quiet_calls c.in-While.body, inner))) c.lower_while.ensures.labels
 
 pub lower_stmt-returns-in-Par-clause-labels : goal.lower_stmt-returns-in-Par-clause-labels
 lower_stmt-returns-in-Par-clause-labels t c =
-    on_ok c.lower_par.result (λ h. rw c.in-Par.is (omega (arith, added_of_vec c.in-Par.l.body, h))) c.lower_par.ensures.labels
+    on_ok c.lower_par.result (λ h. rw c.in-Par.is (omega (arith, par_of_vec c.args.self.now.on.quiet_calls c.in-Par.l.carries.items c.in-Par.l.body, h))) c.lower_par.ensures.labels
 
 pub lower_stmt-returns-in_ok-end_loop-in-Loop-clause-labels : goal.lower_stmt-returns-in_ok-end_loop-in-Loop-clause-labels
 lower_stmt-returns-in_ok-end_loop-in-Loop-clause-labels t c =
-    let inner = rw c.deref-in-Loop-2.ensures.value at c.in_ok-lower_body-in-Loop.ensures.labels in
-    rw c.in-Loop.is (omega (arith, added_of_vec c.in-Loop.body, inner, c.in_ok-turns-in-Loop.ensures.labels, c.in_ok-end_loop-in-Loop.ensures.labels))
+    let inner = rw (c.deref-in-Loop-2.ensures.value, c.in_ok-turns-in-Loop.ensures.on) at c.in_ok-lower_body-in-Loop.ensures.labels in
+    rw c.in-Loop.is (omega (arith, added_of_vec c.args.self.now.on.quiet_calls c.in-Loop.body, inner, c.in_ok-turns-in-Loop.ensures.labels, c.in_ok-end_loop-in-Loop.ensures.labels))
 
 pub lower_stmt-returns-in_ok-end_loop-in-Loop-clause-code : goal.lower_stmt-returns-in_ok-end_loop-in-Loop-clause-code
 lower_stmt-returns-in_ok-end_loop-in-Loop-clause-code t c =
@@ -302,9 +614,9 @@ lower_stmt-returns-in_ok-end_loop-in-Loop-clause-code t c =
     let end = c.in_ok-end_loop-in-Loop.ensures in
     let body = c.deref-in-Loop-2.ensures.value in
     let size = rw c.deref-in-Loop.ensures.value at begun.exit in
-    let behind = rw body at inside.labels in
+    let behind = rw (body, begun.on) at inside.labels in
     rw c.in-Loop.is
-    (loop_written c.args.self.now.on c.args.round.reduces.now c.args.self.now.scope c.in-Loop.x c.in-Loop.a c.in-Loop.b c.in-Loop.body.items turns.level turns.bound turns.again turns.exit
+    (loop_written c.args.self.now.on c.args.round c.args.self.now.scope c.in-Loop.x c.in-Loop.a c.in-Loop.b c.in-Loop.body.items turns.level turns.bound turns.again turns.exit
     c.args.self.now.out c.begin_loop.new.self.out c.lower_body.new.self.out c.end_loop.new.self.out begun.level begun.code begun.fresh
     (omega (arith, begun.again, begun.labels, ap length begun.fresh.traps))
     (rw (body, begun.on, begun.scope) at inside.code) end.code end.fresh

@@ -10,13 +10,13 @@ use Rattle.block_lower.proofs.lowering.Lowering.+lower.Given as goal
 abbrev pub invariant-lower_list-loop-s : goal.invariant-lower_list-loop-s
 invariant-lower_list-loop-s l = record {
   labels : next_label l.self.out
-      ≡ next_label l.initial.self.out + sum_by added (take l.s-index l.body);
+      ≡ next_label l.initial.self.out + sum_by (added l.initial.self.on.quiet_calls) (take l.s-index l.body);
   cells : length l.self.scope.cells.items
       ≤ length l.initial.self.scope.cells.items + sum_by declared (take l.s-index l.body);
   tables : l.self.scope.tables ≡ l.initial.self.scope.tables;
   sees : SeesAfter (λ names. names_after_list names (take l.s-index l.body))
       l.initial.self.scope l.self.scope;
-  code : LowersAll l.initial.self.on l.round.reduces.now l.initial.self.scope
+  code : LowersAll l.initial.self.on l.round l.initial.self.scope
       (take l.s-index l.body) l.initial.self.out l.self.out;
   on : l.self.on ≡ l.initial.self.on;
 }
@@ -42,5 +42,11 @@ decreases-lower_while l = sum_by blocks l.body.now + 3
 abbrev pub decreases-lower_if : goal.decreases-lower_if
 decreases-lower_if l = sum_by blocks l.body.now + sum_by blocks l.other.now + 4
 
+abbrev pub decreases-lower_quiet : goal.decreases-lower_quiet
+decreases-lower_quiet l = sum_by blocks l.l.now.body.items + 3
+
+abbrev pub decreases-lower_serial : goal.decreases-lower_serial
+decreases-lower_serial l = sum_by blocks l.l.now.body.items + 3
+
 abbrev pub decreases-lower_par : goal.decreases-lower_par
-decreases-lower_par l = sum_by blocks l.l.now.body.items + 3
+decreases-lower_par l = sum_by blocks l.l.now.body.items + 4

@@ -8,6 +8,6 @@ returns-in-None-clause-code c =
     let none = rw c.deref.ensures.value at c.in-None.ensures in
     on_ok c.value.result
     (λ h on.
-    fold_nothing_written on c.args.round.reduces.now c.args.self.now.scope c.args.x.now
+    fold_nothing_written on c.args.round c.args.self.now.scope c.args.x.now
     c.args.e.now c.args.self.now.out c.value.new.self.out (sym none) h)
     c.value.ensures.code

@@ -10,12 +10,18 @@ pub returns-clause-code : goal.returns-clause-code
 returns-clause-code c =
     let trapped = c.trap_block.new.self.out in
     let tested : Output =
-    record { blocks = trapped.blocks; body = c.push_range_tests.new.body; traps = trapped.traps } in
+    record {
+      blocks = trapped.blocks;
+      body = c.push_range_tests.new.body;
+      traps = trapped.traps;
+      note = trapped.note;
+    } in
     let tests : Pushes (range_tests (table_number c.args.self.now.scope c.args.t.now.text.items) c.args.row c.args.col 3 (next_label c.args.self.now.out)) trapped tested =
     record {
       blocks = refl;
       body = rw (c.table-table.ensures, c.next_label-trap.ensures) at c.in_ok-push_range_tests.ensures;
       traps = refl;
+      noted = refl;
     } in
     put_pushed _ c.args.row c.args.col c.args.value c.args.t.now.place c.args.self.now.out trapped
     tested c.push.new.self.out c.in_ok-trap_block.ensures.traps tests

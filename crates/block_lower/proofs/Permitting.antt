@@ -1,0 +1,101 @@
+-- What the law of statements asks of a scene where a `par` may be cut.
+use Rattle.std.proofs.Common.{◌≡◌, ◌≤◌, ℕ, Bool, true, false, List, [], ◌∷◌, Some, Vec, bytes_eq}
+use Rattle.std.proofs.Common.{refl, ap, ◌∙◌}
+use Rattle.std.specs.declared.alloc.Global.{Global}
+use Rattle.std.specs.Prelude.{ℤ, Option, ◌&&◌}
+use Rattle.tp_value.specs.declared.Table.{Table}
+use Rattle.loop_syntax.specs.declared.Expr.{Expr}
+use Rattle.loop_syntax.specs.declared.Func.{Func}
+use Rattle.loop_syntax.specs.declared.Name.{Name}
+use Rattle.loop_syntax.specs.declared.Stmt.{Stmt}
+use Rattle.loop_syntax.specs.declared.Stmt.TheBlock.{hidden-the_row-Stmt-0}
+use Rattle.loop_syntax.specs.declared.Stmt.TheVariants.{If, Loop, While}
+use Rattle.loop_rules.specs.Names.{func_of}
+use Rattle.tpal_syntax.specs.Listing.{Listing}
+use Rattle.block_lower.specs.Quiet.{all_is_quiet, functions_are_quiet, is_quiet, list_is_quiet}
+use Rattle.block_lower.proofs.Loops.{inside}
+use Rattle.block_lower.proofs.QuietRows.{quiet_of_vec}
+use Rattle.block_lower.proofs.Regions.{Wholly}
+use Rattle.block_lower.proofs.Scene.{Scene}
+use Rattle.block_lower.proofs.Ticks.{later_in}
+
+module _ (code : Listing) (heartbeat z dispatch : ℕ) where
+  -- promotion points may be reached, and divert there; all tables are held, whatever they are
+  pub record Permits (S : Scene code heartbeat z) : Type 0 where
+    pub opened : S.is_open ≡ true
+    pub diverts : S.dispatch ≡ dispatch
+    pub wholly : (w : S.World) (t : List ℕ) → S.region w t ≡ Wholly
+    pub met : (w : S.World) (ts : List Table) → S.can w ts
+
+  -- with more ticks, and inside a loop
+  pub permits_later : {S : Scene code heartbeat z} (n : ℕ) → Permits S
+      → Permits (later_in code heartbeat z S n)
+  permits_later n permits = record {
+    opened = permits.opened;
+    diverts = permits.diverts;
+    wholly = permits.wholly;
+    met = permits.met;
+  }
+
+  pub permits_inside : {S : Scene code heartbeat z} (level : ℕ) (lowest : S.lowest ≤ level) (m : ℤ)
+      (held : Option ℤ) → Permits S → Permits (inside code heartbeat z S level lowest m held)
+  permits_inside level lowest m held permits = record {
+    opened = permits.opened;
+    diverts = permits.diverts;
+    wholly = permits.wholly;
+    met = permits.met;
+  }
+
+-- ---- statements that aren't quiet
+
+-- where the first of two isn't quiet, or the second, both together aren't
+pub first_loud : (a b : Bool) → a ≡ false → (a && b) ≡ false
+first_loud true b is = absurd (let wrong : true ≡ false = is in cc)
+first_loud false b is = refl
+
+pub second_loud : (a b : Bool) → b ≡ false → (a && b) ≡ false
+second_loud true b is = is
+second_loud false b is = refl
+
+-- a branch, the body of a `while` or that of a `loop` that isn't quiet
+pub loud_if : (calls : Bool) (e : Expr) (body other : Vec Stmt Global)
+    → list_is_quiet calls body.items ≡ false → is_quiet calls (If e body other) ≡ false
+loud_if calls e body other loud = first_loud _ _ (quiet_of_vec calls body ∙ loud)
+
+pub loud_other : (calls : Bool) (e : Expr) (body other : Vec Stmt Global)
+    → list_is_quiet calls other.items ≡ false → is_quiet calls (If e body other) ≡ false
+loud_other calls e body other loud =
+    second_loud (all_is_quiet calls (hidden-the_row-Stmt-0 body)) _
+    (quiet_of_vec calls other ∙ loud)
+
+pub loud_while : (calls : Bool) (e : Expr) (body : Vec Stmt Global)
+    → list_is_quiet calls body.items ≡ false → is_quiet calls (While e body) ≡ false
+loud_while calls e body loud = quiet_of_vec calls body ∙ loud
+
+pub loud_loop : (calls : Bool) (x : Name) (a b : Expr) (body : Vec Stmt Global)
+    → list_is_quiet calls body.items ≡ false → is_quiet calls (Loop x a b body) ≡ false
+loud_loop calls x a b body loud = quiet_of_vec calls body ∙ loud
+
+-- a function that isn't quiet
+loud_function : (fs : List Func) (x : List ℕ) (f : Func) → func_of fs x ≡ Some f
+    → list_is_quiet true f.body.items ≡ false → functions_are_quiet fs ≡ false
+loud_function [] x f is loud = cc
+loud_function (g ∷ gs) x f is loud =
+    go (λ later. loud_function gs x f later loud) (bytes_eq g.name.text.items x) refl
+  where
+    go : (func_of gs x ≡ Some f → functions_are_quiet gs ≡ false) → (b : Bool)
+        → bytes_eq g.name.text.items x ≡ b → functions_are_quiet (g ∷ gs) ≡ false
+    go behind true e =
+        let same : Some g ≡ Some f = rw e at is in
+        let here : g ≡ f = cc in
+        first_loud (list_is_quiet true g.body.items) (functions_are_quiet gs)
+        (ap (λ (h : Func). list_is_quiet true h.body.items) here ∙ loud)
+    go behind false e =
+        let later : func_of gs x ≡ Some f = rw e at is in
+        second_loud (list_is_quiet true g.body.items) (functions_are_quiet gs) (behind later)
+
+-- where a function isn't quiet, calls may not be
+pub loud_calls : (fs : List Func) (x : List ℕ) (f : Func) → func_of fs x ≡ Some f → (calls : Bool)
+    → calls ≡ functions_are_quiet fs → list_is_quiet calls f.body.items ≡ false → calls ≡ false
+loud_calls fs x f is true quiet loud = quiet ∙ loud_function fs x f is loud
+loud_calls fs x f is false quiet loud = refl
