@@ -6,7 +6,7 @@ use Rattle.std.proofs.Common.{map, refl, sym, ap, subst, ◌∙◌}
 use Rattle.std.specs.Prelude.{Contains}
 use Rattle.std.specs.List.{AllByRecursion, IsDistinct}
 use Rattle.std.specs.declared.alloc.Global.{Global}
-use Rattle.std.proofs.lemmas.List.Elements.{All-cons, All-contains, All-head, All-nil, All-tail}
+use Rattle.std.proofs.lemmas.List.Elements.{All-cons, All-head, All-nil, All-tail}
 use Rattle.std.proofs.lemmas.List.Elements.{Contains-append_left, Contains-append_right}
 use Rattle.std.proofs.lemmas.Slice.Eq.{bytes_eq-Decides}
 use Rattle.loop_syntax.specs.declared.Func.{Func}
@@ -19,7 +19,6 @@ use Rattle.loop_syntax.specs.declared.Stmt.TheVariants.{Let, Set, Put, If', Whil
 use Rattle.loop_syntax.specs.declared.Stmt.TheVariants.{Fold, Call, Both, Print, Emit, Par}
 use Rattle.loop_rules.specs.Declarations.{tables_of_decls}
 use Rattle.loop_rules.specs.Names.{func_of, is_in, texts}
-use Rattle.loop_rules.specs.Reading.{ReadsTable}
 use Rattle.loop_rules.specs.Sites as rules
 use Rattle.loop_check.specs.Unbroken.{NoneBroken}
 use Rattle.loop_check.proofs.Lists.{contains_here, contains_there}
@@ -35,7 +34,7 @@ use Rattle.loop_syntax.specs.declared.TableDecl.TheVariants.{Input, Made}
 use Rattle.block_lower.specs.Main.{table_name}
 use Rattle.block_lower.specs.Names.{names_after}
 use Rattle.block_lower.proofs.Unbroken.{program_fits}
-use Rattle.block_lower.proofs.Cutting.{MayCut, ProgramRules}
+use Rattle.block_lower.proofs.Cutting.{ProgramRules}
 use Rattle.block_lower.proofs.Occurring.{Occurs, OccursIn, at_first, at_later, in_if, in_loop}
 use Rattle.block_lower.proofs.Occurring.{in_other, in_par, in_while, itself}
 

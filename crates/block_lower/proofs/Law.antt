@@ -1,6 +1,6 @@
 -- The law of the code of statements: inside any scene, where a task that shows a state behind it owes what
 -- follows, a task that shows a state before it owes what the statements give and what follows.
-use Rattle.std.proofs.Common.{◌≡◌, ℕ, Bool, true, false, List, [], ◌∷◌, ◌++◌, length, Some, None, refl, sym, subst, ◌∙◌}
+use Rattle.std.proofs.Common.{◌≡◌, ℕ, Bool, false, List, [], ◌∷◌, ◌++◌, length, Some, None, refl, sym, subst, ◌∙◌}
 use Rattle.std.proofs.lemmas.Bool.{true≢false}
 use Rattle.loop_syntax.specs.declared.Func.{Func}
 use Rattle.loop_syntax.specs.declared.ParLoop.{ParLoop}

@@ -1,7 +1,6 @@
 -- The code of each statement is written where that of its parts is.
-use Rattle.std.proofs.Common.{◌≡◌, ℕ, List, [], ◌∷◌, ◌++◌, length, Some, Vec, refl, sym, subst}
+use Rattle.std.proofs.Common.{◌≡◌, ℕ, List, [], ◌∷◌, ◌++◌, length, Some, refl, sym, subst}
 use Rattle.std.specs.Prelude.{ℤ}
-use Rattle.std.specs.declared.alloc.Global.{Global}
 use Rattle.tp_value.specs.declared.Place.{Place}
 use Rattle.loop_syntax.specs.declared.Name.{Name}
 use Rattle.loop_syntax.specs.declared.Expr.{Expr}
@@ -25,7 +24,7 @@ use Rattle.block_lower.specs.Bodies.{entries, activation}
 use Rattle.block_lower.specs.Code.{Opens, Computes, Operand, number, computed, IsCell, Code, let_code, set_code, print_code, if_code, while_code, Codes, Branch, branch, Other, nothing, something, to, store}
 use Rattle.block_lower.specs.Fitting.{AllFit, IsFree, level_of}
 use Rattle.block_lower.specs.Layout.{value_cell}
-use Rattle.block_lower.specs.Lowering.{IsRound, WritesValue, WritesOperand, WritesTest, WritesBelow, Lowers, WithBody, LowersAll, LowersBranch, LowersOther, LowersBody}
+use Rattle.block_lower.specs.Lowering.{WritesValue, WritesOperand, WritesTest, WritesBelow, Lowers, WithBody, LowersAll, LowersBranch, LowersOther, LowersBody}
 use Rattle.block_lower.specs.Names.{Sees, SeesAfter, names_after_list}
 use Rattle.block_lower.specs.Writing.{label, IsEmpty, IsFresh, Pushes, Closes, Stands, Continues, Leads}
 use Rattle.block_lower.proofs.Fitting.{fit_of_vec, fit_before, fit_last, codes_more}

@@ -1,10 +1,9 @@
 -- The code of a quiet `par` is written where that of its parts is.
-use Rattle.std.proofs.Common.{◌≡◌, ℕ, suc, ◌+◌, ◌≤◌, true, false, List, [], ◌∷◌, ◌++◌, length, Vec}
-use Rattle.std.proofs.Common.{refl, sym, ap, subst, ◌∙◌, arith, append-nil, append_assoc}
+use Rattle.std.proofs.Common.{◌≡◌, ℕ, suc, ◌+◌, true, false, List, [], ◌∷◌, ◌++◌, length}
+use Rattle.std.proofs.Common.{refl, sym, ap, subst, ◌∙◌, append-nil, append_assoc}
 use Rattle.std.specs.Prelude.{pos}
 use Rattle.std.specs.List.{list_any, AllByRecursion}
 use Rattle.std.proofs.lemmas.Bool.{true≢false}
-use Rattle.std.proofs.lemmas.List.{length-append}
 use Rattle.loop_syntax.specs.declared.Carry.{Carry}
 use Rattle.loop_syntax.specs.declared.Carry.TheVariants as carry
 use Rattle.loop_syntax.specs.declared.ParLoop.{ParLoop}
@@ -20,7 +19,6 @@ use Rattle.tpal_syntax.specs.declared.instructions.Instr.{Instr}
 use Rattle.tpal_syntax.specs.declared.instructions.Instr.TheVariants as instr
 use Rattle.tpal_syntax.specs.declared.instructions.Term.{Term}
 use Rattle.tpal_syntax.specs.declared.instructions.Value.TheVariants as value
-use Rattle.tpal_syntax.specs.declared.notes.Note.{Note}
 use Rattle.tpal_syntax.specs.declared.notes.Note.TheVariants as note
 use Rattle.tpal_syntax.specs.declared.sites.LoopSite.{LoopSite}
 use Rattle.tpal_syntax.specs.Listing.{Listing}
@@ -45,7 +43,7 @@ use Rattle.block_lower.specs.Bodies.{entries, activation}
 use Rattle.block_lower.specs.Code.{OpensAs, Opens, IsFreeCell, Code, Codes, quiet_par_code, to, store, load, next_turn}
 use Rattle.block_lower.specs.Fitting.{IsFree}
 use Rattle.block_lower.specs.Layout.{value_cell, Activation, Entry}
-use Rattle.block_lower.specs.Lowering.{IsRound, AreBounds, WritesBounds, WritesSome, WritesLength}
+use Rattle.block_lower.specs.Lowering.{AreBounds, WritesBounds, WritesSome, WritesLength}
 use Rattle.block_lower.specs.Lowering.{WritesBegin, WritesPrep, IsRoundQuiet, WritesSite}
 use Rattle.block_lower.specs.Lowering.{IsQuietBegun, BeginsQuiet, EndsLoop, turn, Lowers, LowersBody}
 use Rattle.block_lower.specs.Marked.{length_test, marked_begin, unmark, side_test, IsSite}
@@ -55,7 +53,7 @@ use Rattle.block_lower.specs.Quiet.{list_is_quiet}
 use Rattle.block_lower.specs.Round.{Round, par_round}
 use Rattle.block_lower.specs.Sites.{carried_table, carries_from, loop_site, rows_from}
 use Rattle.block_lower.specs.Sizes.{has_row}
-use Rattle.block_lower.specs.Writing.{label, next_label, IsEmpty, IsFresh, Pushes, Traps, Closes}
+use Rattle.block_lower.specs.Writing.{label, next_label, IsFresh, Pushes, Traps, Closes}
 use Rattle.block_lower.specs.Writing.{Appends, Readies, Stands, Continues, Leads}
 use Rattle.block_lower.proofs.Fitting.{fit_of_vec}
 use Rattle.block_lower.proofs.Lowered.{cell_is}

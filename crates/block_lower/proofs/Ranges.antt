@@ -1,5 +1,5 @@
 -- The literals of statements that have a code are numbers of 64 bits.
-use Rattle.std.proofs.Common.{◌≡◌, ℕ, ℤ, ◌+◌, List, [], ◌∷◌, ◌++◌, All, Some, Vec, subst, sym}
+use Rattle.std.proofs.Common.{◌≡◌, ℕ, ℤ, ◌+◌, List, [], ◌∷◌, All, Some, Vec, subst, sym}
 use Rattle.std.specs.declared.alloc.Global.{Global}
 use Rattle.std.proofs.lemmas.List.Elements.{All-cons, All-head, All-nil, All-tail}
 use Rattle.loop_syntax.specs.declared.Expr.{Expr}
@@ -17,7 +17,7 @@ use Rattle.tpal_syntax.specs.declared.instructions.Term.{Term}
 use Rattle.tpal_syntax.specs.declared.instructions.Value.{Value}
 use Rattle.tpal_syntax.specs.Listing.{Listing}
 use Rattle.expr_lower.specs.Bodies.{literal}
-use Rattle.block_lower.specs.Code.{Arguments, Branch, Code, Codes, Computes, Operand, Other}
+use Rattle.block_lower.specs.Code.{Arguments, Branch, Code, Codes, Operand, Other}
 use Rattle.block_lower.specs.Code.{both_code, branch, call_code, computed, emit_code, fold_code}
 use Rattle.block_lower.specs.Code.{fold_nothing_code, if_code, let_code, loop_code, loop_to_code}
 use Rattle.block_lower.specs.Code.{no_argument, none, nothing, number, one_argument, one_more}

@@ -1,5 +1,5 @@
 -- What the code of a program asks of it holds where it breaks no rule.
-use Rattle.std.proofs.Common.{◌≡◌, ℕ, zero, suc, ◌+◌, ◌≤◌, Bool, true, false, cond, List, [], ◌∷◌, ◌++◌, length, drop, bytes_eq, Some, refl, subst, arith, Contains}
+use Rattle.std.proofs.Common.{◌≡◌, ℕ, ◌+◌, ◌≤◌, Bool, true, false, cond, List, [], ◌∷◌, ◌++◌, length, bytes_eq, Some, refl, subst, arith, Contains}
 use Rattle.std.specs.Prelude.{nat_eq}
 use Rattle.std.specs.List.{AllByRecursion}
 use Rattle.std.proofs.lemmas.Bool.Decides.{nat_tests}
@@ -13,7 +13,7 @@ use Rattle.loop_syntax.specs.declared.TableDecl.TheVariants.{Input, Made}
 use Rattle.loop_rules.specs.declared.part.Part.TheVariants.{OfSize, OfFunc}
 use Rattle.loop_rules.specs.Broken.{C1', C2', C3', C6', C10', C11'}
 use Rattle.loop_rules.specs.Declarations.{declared_list, table_of_decl}
-use Rattle.loop_rules.specs.Limits.{first_name, past, c11}
+use Rattle.loop_rules.specs.Limits.{past, c11}
 use Rattle.loop_rules.specs.Names.{texts, func_of}
 use Rattle.loop_rules.specs.Carries.{c6}
 use Rattle.loop_rules.specs.Reductions.{c2, c3}

@@ -4,7 +4,7 @@ use Rattle.std.proofs.Common.{length, map, bytes_eq, None, Some, refl, sym, subs
 use Rattle.std.specs.Prelude.{◌||◌, not, drop, IsTrue}
 use Rattle.std.specs.List.{AllByRecursion}
 use Rattle.std.proofs.lemmas.List.{length-map}
-use Rattle.tp_value.specs.declared.limits.TheConstants.{MAX_CARRIES, MAX_PAR_NESTING}
+use Rattle.tp_value.specs.declared.limits.TheConstants.{MAX_CARRIES}
 use Rattle.tp_value.specs.declared.limits.TheConstants.{MAX_REDUCTIONS}
 use Rattle.tp_value.specs.declared.Place.{Place}
 use Rattle.loop_syntax.specs.declared.Carry.{Carry}

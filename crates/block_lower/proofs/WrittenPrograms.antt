@@ -36,7 +36,7 @@ use Rattle.block_lower.specs.Lowering.{IsRound, FitsIn, LowersAll}
 use Rattle.block_lower.specs.Main.{IsFunction, AreFunctions, IsProgram, Makes, table_name}
 use Rattle.block_lower.specs.Names.{Sees, SeesAfter, names_after_list}
 use Rattle.block_lower.specs.Owing.{IsDeclared, AreDeclared, OwesMeaning}
-use Rattle.block_lower.specs.Programs.{most_of, size_of, entries_from, quiet_calls, dispatch_of, added_by_main, added_by_funcs, FuncFitsIn, FuncsFitNow, activation_of, AreWritten, LowersFuncs, SeesTables, WritesMakes, IsMainAt, LowersMain}
+use Rattle.block_lower.specs.Programs.{most_of, entries_from, quiet_calls, dispatch_of, added_by_main, added_by_funcs, FuncFitsIn, FuncsFitNow, activation_of, AreWritten, LowersFuncs, SeesTables, WritesMakes, IsMainAt, LowersMain}
 use Rattle.block_lower.specs.Round.{outermost}
 use Rattle.block_lower.specs.Sizes.{added_by_func, declared_by_list, kept_by_list, kept_by_decls}
 use Rattle.block_lower.specs.Writing.{label, next_label, IsFresh, Pushes, Closes, Stands, Continues, Leads}

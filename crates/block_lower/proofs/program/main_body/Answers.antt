@@ -1,6 +1,4 @@
-use Rattle.std.proofs.Common.{◌≡◌, ◌+◌, ap, ◌∙◌, arith}
-use Rattle.block_lower.specs.Bodies.{entries}
-use Rattle.block_lower.specs.Programs.{entries_from, quiet_calls}
+use Rattle.std.proofs.Common.{arith}
 use Rattle.block_lower.proofs.Adding.{few_kept_by_list, few_kept_by_decls}
 use Rattle.block_lower.proofs.Planning.{fitting_are_small, fitting_main_is_small}
 use Rattle.block_lower.proofs.program.main_body.Goals as goal

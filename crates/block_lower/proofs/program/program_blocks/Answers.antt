@@ -1,4 +1,4 @@
-use Rattle.std.proofs.Common.{◌≡◌, ◌+◌, List, ◌++◌, ◌∷◌, [], length, max, ap, sym, subst, ◌∙◌, arith}
+use Rattle.std.proofs.Common.{List, ◌++◌, ◌∷◌, [], length, max, ap, subst, ◌∙◌, arith}
 use Rattle.std.proofs.lemmas.List.{length-append}
 use Rattle.tpal_syntax.specs.declared.blocks.Block.{Block}
 use Rattle.expr_lower.specs.Standing.{AreAt}

@@ -1,4 +1,4 @@
-use Rattle.std.proofs.Common.{◌∙◌, arith}
+use Rattle.std.proofs.Common.{arith}
 use Rattle.block_lower.proofs.FittingNow.{fits_func, is_outermost}
 use Rattle.block_lower.proofs.WrittenFunctions.{func_written}
 use Rattle.block_lower.proofs.lowering.Lowering.lower_func.Goals as goal

@@ -1,4 +1,4 @@
-use Rattle.std.proofs.Common.{◌+◌, take, take_all, List, refl, ap, sym, subst, ◌∙◌, arith}
+use Rattle.std.proofs.Common.{take, take_all, List, refl, ap, sym, subst, ◌∙◌, arith}
 use Rattle.std.proofs.lemmas.List.Sums.{sum_by_more}
 use Rattle.loop_syntax.specs.declared.Func.{Func}
 use Rattle.block_lower.specs.declared.body.Body.{Body}

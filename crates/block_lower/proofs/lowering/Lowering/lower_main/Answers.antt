@@ -1,4 +1,4 @@
-use Rattle.std.proofs.Common.{◌+◌, [], ◌∙◌, arith}
+use Rattle.std.proofs.Common.{[], ◌∙◌, arith}
 use Rattle.block_lower.proofs.FittingNow.{is_outermost}
 use Rattle.block_lower.proofs.WrittenTables.{low_of_fit}
 use Rattle.block_lower.proofs.WrittenPrograms.{main_fits_now, main_written, sees_after_main}

@@ -1,4 +1,4 @@
-use Rattle.std.proofs.Common.{refl, ap, ◌∙◌, length}
+use Rattle.std.proofs.Common.{refl, ◌∙◌}
 use Rattle.block_lower.proofs.WrittenTables.{made_written}
 use Rattle.block_lower.proofs.lowering.Lowering.make_low.Goals as goal
 

@@ -1,5 +1,4 @@
-use Rattle.std.proofs.Common.{sym}
-use Rattle.block_lower.proofs.LoweredPars.{prep_written, no_prep_written}
+use Rattle.block_lower.proofs.LoweredPars.{prep_written}
 use Rattle.block_lower.proofs.lowering.Lowering.push_prep.Goals as goal
 
 pub returns-clause-code : goal.returns-clause-code
