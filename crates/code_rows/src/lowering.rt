@@ -1,7 +1,6 @@
-// Programs that are lowered and run, with their outputs worked out by hand; and a `par` that the
-// first beat cuts.
+// Programs that are lowered and run, with their outputs worked out by hand.
 
-ghost use Rattle.std.specs.Prelude.{◌≡◌, ◌≤◌, length, IfOk, IfSome};
+ghost use Rattle.std.specs.Prelude.{◌≡◌, ◌≤◌, length, IfOk};
 ghost use Rattle.tpal_machine.specs.Belonging.{RunsOn};
 
 use block_lower::{LowerFault, block_count, lower};
@@ -13,7 +12,7 @@ use slices::Held;
 use std::alloc::Global;
 use std::test::Fail;
 use tp_value::{NoMemory, Outcome, Place, Stop, TrapKind};
-use tpal_machine::{Pace, Task, Turn, answer, run_task};
+use tpal_machine::{Pace, Task, Turn, run_task};
 use tpal_syntax::{Code, CodeTable};
 
 fn checked(alloc: Global, source: &[u8]) -> Option<Checked> {
@@ -39,12 +38,6 @@ fn checked(alloc: Global, source: &[u8]) -> Option<Checked> {
 const PACE: Pace = Pace {
     heartbeat: 1,
     allowed: false,
-};
-
-/// Every promotion-ready block that a task comes to has a beat.
-const BEATING: Pace = Pace {
-    heartbeat: 1,
-    allowed: true,
 };
 
 /// The outcome of a task within so many turns.
@@ -406,85 +399,5 @@ fn too_many_blocks_are_told(rt: HostRuntime) -> Result<(), Fail> {
         Err(fault) => fault == LowerFault::Blocks(65_552),
     };
     assert!(&rt; told);
-    Ok(())
-}
-
-/// The left and the child of the first fork that a task comes to, in so many turns. The record that
-/// it asks for is 7.
-fn forked(task: Task, code: &Code, turns: u8) -> Option<(Task, Task)>
-    requires { RunsOn code.now task }
-    ensures left { IfSome result (λ parts. RunsOn code.now parts.0) }
-    ensures child { IfSome result (λ parts. RunsOn code.now parts.1) }
-{
-    if turns == 0 {
-        return None;
-    }
-    match run_task(task, code, BEATING, 4096).turn {
-        Turn::Pause(next) => forked(next, code, turns - 1),
-        Turn::NeedRecord(waits) => forked(answer(waits, Some(7)), code, turns - 1),
-        Turn::Forked {
-            left,
-            rest: _,
-            child,
-            rec: _,
-        } => Some((left, child)),
-        Turn::Arrived {
-            rec: _,
-            side: _,
-            out: _,
-        }
-        | Turn::Stuck {
-            fault: _,
-            block: _,
-            at: _,
-        }
-        | Turn::Halted(_)
-        | Turn::NoMemory => None,
-    }
-}
-
-/// The ticks of a side that a task arrives with, in so many turns.
-fn ticks_of(task: Task, code: &Code, turns: u8) -> Option<u64>
-    requires { RunsOn code.now task }
-{
-    if turns == 0 {
-        return None;
-    }
-    match run_task(task, code, PACE, 4096).turn {
-        Turn::Pause(next) => ticks_of(next, code, turns - 1),
-        Turn::Arrived {
-            rec: _,
-            side: _,
-            out,
-        } => Some(out.ticks),
-        Turn::NeedRecord(_)
-        | Turn::Forked {
-            left: _,
-            rest: _,
-            child: _,
-            rec: _,
-        }
-        | Turn::Stuck {
-            fault: _,
-            block: _,
-            at: _,
-        }
-        | Turn::Halted(_)
-        | Turn::NoMemory => None,
-    }
-}
-
-// The first iteration is over when the beat comes; of the other three the left keeps one.
-#[test]
-fn a_beat_cuts_a_par(rt: HostRuntime) -> Result<(), Fail> {
-    let alloc = rt.alloc();
-    let source = b"main { let s = 0; par i in 0..4 reduce s by add { fold s with i; } print s; }";
-    let program = checked(alloc, source).ok_or("a program")?;
-    let code = lower(alloc, &program)?;
-    let tables = held(alloc, code.tables())?;
-    let task = Task::first(alloc, &code, tables, 1000)?;
-    let (left, child) = forked(task, &code, 9).ok_or("a fork")?;
-    assert_eq!(&rt; ticks_of(left, &code, 9), Some(2));
-    assert_eq!(&rt; ticks_of(child, &code, 9), Some(2));
     Ok(())
 }

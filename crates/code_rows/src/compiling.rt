@@ -1,0 +1,71 @@
+// From a source text to a program and its code, and what the code's first task holds.
+
+ghost use Rattle.std.specs.Prelude.{◌≡◌, [], length, IfOk, IfSome};
+ghost use Rattle.block_lower.specs.Owing.{AreHeld, AreNamed, OwesMeaning};
+
+use block_lower::lower;
+use loop_check::{Checked, check};
+use loop_lex::lex;
+use loop_parse::parse;
+use loop_rules::resolve;
+use loop_syntax::TableDecl;
+use slices::Held;
+use std::alloc::Global;
+use std::test::Fail;
+use tp_value::NoMemory;
+use tpal_syntax::Code;
+
+/// A program with its code.
+#[derive(Drop)]
+pub struct Compiled {
+    /// The program, which keeps to all rules.
+    pub program: Checked,
+    /// Its code.
+    pub code: Code,
+}
+
+fn checked(alloc: Global, source: &[u8]) -> Option<Checked> {
+    if source.len() > 1_048_576 {
+        return None;
+    }
+    let Ok(tokens) = lex(alloc, source) else {
+        return None;
+    };
+    let Ok(program) = parse(alloc, source, &tokens) else {
+        return None;
+    };
+    let Ok(resolved) = resolve(alloc, program) else {
+        return None;
+    };
+    match check(alloc, resolved) {
+        Ok(program) => Some(program),
+        Err(_fault) => None,
+    }
+}
+
+/// The program of a source, with its code.
+pub fn compile(alloc: Global, source: &[u8]) -> Result<Compiled, Fail>
+    ensures { IfOk result (λ on. OwesMeaning on.program on.code) }
+{
+    let program = checked(alloc, source).ok_or("a program")?;
+    let code = lower(alloc, &program)?;
+    Ok(Compiled { program, code })
+}
+
+/// What the first task holds, where nothing is given: for programs that declare no table, or one
+/// that is made.
+pub fn held(alloc: Global, on: &Compiled) -> Result<Option<Vec<Held>>, NoMemory>
+    requires owes { OwesMeaning on.now.program on.now.code }
+    ensures named { IfOk result
+        (λ found. IfSome found (λ all. AreNamed on.now.program.tables.items [])) }
+    ensures held { IfOk result
+        (λ found. IfSome found (λ all. AreHeld on.now.program.tables.items [] all.items)) }
+    ensures tables { IfOk result
+        (λ found. IfSome found (λ all. length all.items ≡ length on.now.code.tables)) }
+{
+    match on.program.program().tables.as_slice() {
+        [] => Ok(Some(Vec::new(alloc))),
+        [TableDecl::Made(_, _, _)] => Ok(Some(vec![in alloc; Held::none(alloc, 0, 0)]?)),
+        _ => Ok(None),
+    }
+}
