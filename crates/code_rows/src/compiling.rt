@@ -24,7 +24,8 @@ pub struct Compiled {
     pub code: Code,
 }
 
-fn checked(alloc: Global, source: &[u8]) -> Option<Checked> {
+/// The program of a source, where it keeps to all rules.
+pub fn checked(alloc: Global, source: &[u8]) -> Option<Checked> {
     if source.len() > 1_048_576 {
         return None;
     }

@@ -3,36 +3,14 @@
 ghost use Rattle.std.specs.Prelude.{◌≡◌, ◌≤◌, length, IfOk};
 ghost use Rattle.tpal_machine.specs.Belonging.{RunsOn};
 
+use crate::compiling::checked;
 use block_lower::{LowerFault, block_count, lower};
-use loop_check::{Checked, check};
-use loop_lex::lex;
-use loop_parse::parse;
-use loop_rules::resolve;
 use slices::Held;
 use std::alloc::Global;
 use std::test::Fail;
 use tp_value::{NoMemory, Outcome, Place, Stop, TrapKind};
 use tpal_machine::{Pace, Task, Turn, run_task};
 use tpal_syntax::{Code, CodeTable};
-
-fn checked(alloc: Global, source: &[u8]) -> Option<Checked> {
-    if source.len() > 1_048_576 {
-        return None;
-    }
-    let Ok(tokens) = lex(alloc, source) else {
-        return None;
-    };
-    let Ok(program) = parse(alloc, source, &tokens) else {
-        return None;
-    };
-    let Ok(resolved) = resolve(alloc, program) else {
-        return None;
-    };
-    match check(alloc, resolved) {
-        Ok(program) => Some(program),
-        Err(_fault) => None,
-    }
-}
 
 /// No beat is due.
 const PACE: Pace = Pace {
