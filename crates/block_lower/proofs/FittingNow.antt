@@ -1,5 +1,6 @@
 -- What is written next fits where what stands round it does.
-use Rattle.std.proofs.Common.{◌≡◌, ℕ, zero, suc, ◌+◌, ◌<◌, List, [], ◌∷◌, ◌++◌, length, take, get_or}
+use Rattle.std.proofs.Common.{◌≡◌, ℕ, zero, suc, ◌+◌, ◌<◌, List, [], ◌∷◌, ◌++◌, length, take}
+use Rattle.std.proofs.Common.{get_or}
 use Rattle.std.proofs.Common.{Vec, sym, subst, arith}
 use Rattle.std.specs.declared.alloc.Global.{Global}
 use Rattle.loop_syntax.specs.declared.Expr.{Expr}

@@ -87,20 +87,6 @@ pub bounded_start_written : (scope : Scope) (a b : Expr) (again exit : ℕ) (old
 bounded_start_written scope a b again exit old bounds new starts test code act names sees visible_a visible_b stands =
     starts code act names (below_test 1 (value.Reg 0) again) (to exit) sees visible_a visible_b (test code stands)
 
--- ---- behind the body
-
-pub turn_to_written : (level again exit : ℕ) (n : ℤ) (old next new : Output) → Pushes (step_up 0 level []) old next → WritesBelow 0 (value.Int n) again exit next new
-    → (code : Listing) → Stands code new → Continues code old (turn level (bound.Number n) again) (to exit)
-turn_to_written level again exit n old next new push test code stands =
-    pushed code old next (step_up 0 level []) (below_test 0 (value.Int n) again) (to exit) push (test code stands)
-
-pub turn_bounded_written : (level again exit : ℕ) (old next loads new : Output) → Pushes (step_up 1 level []) old next → Pushes (load 0 (bound_cell level) ∷ []) next loads
-    → WritesBelow 1 (value.Reg 0) again exit loads new → (code : Listing) → Stands code new → Continues code old (turn level bound.Cell again) (to exit)
-turn_bounded_written level again exit old next loads new push push_load test code stands =
-    let tested : List Instr = below_test 1 (value.Reg 0) again in
-    pushed code old next (step_up 1 level []) (load 0 (bound_cell level) ∷ tested) (to exit) push
-    (pushed code next loads (load 0 (bound_cell level) ∷ []) tested (to exit) push_load (test code stands))
-
 -- ---- what stands round a body
 
 pub loop_is_round : (round : Round) (as_told : told.Round) (level : ℕ) → IsRound round as_told → IsRound (loop_round round level) as_told

@@ -40,12 +40,14 @@ use Rattle.block_lower.specs.declared.repeat.Bound.TheVariants as bound
 use Rattle.block_lower.specs.declared.repeat.Turns.{Turns}
 use Rattle.block_lower.specs.declared.round.Round as told
 use Rattle.block_lower.specs.Bodies.{entries, activation}
-use Rattle.block_lower.specs.Code.{OpensAs, Opens, IsFreeCell, Code, Codes, quiet_par_code, to, store, load, next_turn}
+use Rattle.block_lower.specs.Code.{OpensAs, Opens, IsFreeCell, Code, Codes, quiet_par_code, to}
+use Rattle.block_lower.specs.Code.{store, load, next_turn}
 use Rattle.block_lower.specs.Fitting.{IsFree}
 use Rattle.block_lower.specs.Layout.{value_cell, Activation, Entry}
 use Rattle.block_lower.specs.Lowering.{AreBounds, WritesBounds, WritesSome, WritesLength}
 use Rattle.block_lower.specs.Lowering.{WritesBegin, WritesPrep, IsRoundQuiet, WritesSite}
-use Rattle.block_lower.specs.Lowering.{IsQuietBegun, BeginsQuiet, EndsLoop, turn, Lowers, LowersBody}
+use Rattle.block_lower.specs.Lowering.{IsQuietBegun, BeginsQuiet, EndsLoop, turn, Lowers}
+use Rattle.block_lower.specs.Lowering.{LowersBody}
 use Rattle.block_lower.specs.Marked.{length_test, marked_begin, unmark, side_test, IsSite}
 use Rattle.block_lower.specs.Marked.{IsQuietSite}
 use Rattle.block_lower.specs.Names.{Sees, SeesAfter}
@@ -159,83 +161,134 @@ pub site_written : (scope : Scope) (l : ParLoop) (site : LoopSite) (first exit :
     → prep_label site.label ≡ label none
     → WritesPrep scope l site.label none new
     → WritesSite scope l site first exit old new
-site_written scope l site first exit old handled child over none new here append first_is close_first over_is writes_over none_is fresh_over close_none prep_is prep code stands =
+site_written scope l site first exit old handled child over none new here append first_is
+    close_first over_is writes_over none_is fresh_over close_none prep_is prep code stands =
     let p : Stands code none
     × (list_any has_row l.carries.items ≡ true
-    → Opens code (label none) (rows_from scope 0 l.carries.items) (to site.label)) = prep code stands in
-    let n : Continues code over [] (to (over_label site.label)) = closed_block code over none (to (over_label site.label)) close_none p.0 in
-    let o : Continues code child (unmark site ∷ side_test site exit) (to (side_label site.label)) = writes_over code n.closed in
-    let f : Continues code handled [] (to first) = closed_block code handled child (to first) close_first o.closed in
+    → Opens code (label none) (rows_from scope 0 l.carries.items) (to site.label)) = prep code
+    stands in
+    let n : Continues code over [] (to (over_label site.label)) = closed_block code over none
+    (to (over_label site.label)) close_none p.0 in
+    let o : Continues code child (unmark site ∷ side_test site exit) (to (side_label site.label)) =
+    writes_over code n.closed in
+    let f : Continues code handled [] (to first) = closed_block code handled child (to first)
+    close_first o.closed in
     let handler : List Block = loop_handler_blocks site in
     let join : List Block = loop_join_blocks site in
-    let a : Stands code old × AreAt code (label old) (handler ++ join) = appended code old handled (handler ++ join) append f.closed in (
+    let a : Stands code old × AreAt code (label old) (handler ++ join) = appended code old handled
+    (handler ++ join) append f.closed in (
       a.0,
       record {
-        handler = subst (λ (k : ℕ). AreAt code k handler) (sym here) (front code (label old) handler join a.1);
-        join = subst (λ (k : ℕ). AreAt code k join) (ap target_label (sym here)) (back code (label old) handler join a.1);
-        child = subst (λ (k : ℕ). Opens code k [] (to first)) (sym first_is) (fresh_opens code handled [] (to first) append.fresh f);
-        over = subst (λ (k : ℕ). Opens code k (unmark site ∷ side_test site exit) (to (side_label site.label))) (sym over_is)
-            (fresh_opens code child (unmark site ∷ side_test site exit) (to (side_label site.label)) close_first.fresh o);
-        none = subst (λ (k : ℕ). Opens code k [] (to (over_label site.label))) (sym none_is) (fresh_opens code over [] (to (over_label site.label)) fresh_over n);
-        rows = λ is. subst (λ (k : ℕ). Opens code k (rows_from scope 0 l.carries.items) (to site.label)) (sym prep_is) (p.1 is);
+        handler = subst (λ (k : ℕ). AreAt code k handler) (sym here)
+            (front code (label old) handler join a.1);
+        join = subst (λ (k : ℕ). AreAt code k join) (ap target_label (sym here))
+            (back code (label old) handler join a.1);
+        child = subst (λ (k : ℕ). Opens code k [] (to first)) (sym first_is)
+            (fresh_opens code handled [] (to first) append.fresh f);
+        over = subst (λ (k : ℕ). Opens code k (unmark site ∷ side_test site exit)
+            (to (side_label site.label))) (sym over_is)
+            (fresh_opens code child (unmark site ∷ side_test site exit) (to (side_label site.label))
+            close_first.fresh o);
+        none = subst (λ (k : ℕ). Opens code k [] (to (over_label site.label))) (sym none_is)
+            (fresh_opens code over [] (to (over_label site.label)) fresh_over n);
+        rows = λ is. subst (λ (k : ℕ). Opens code k (rows_from scope 0 l.carries.items)
+            (to site.label)) (sym prep_is) (p.1 is);
       },
     )
 
 -- ---- the whole begin
 
-any_rows : (scope : Scope) (before : ℕ) (cs : List Carry) → list_any is_of_cells (carries_from scope before cs) ≡ list_any has_row cs
+any_rows : (scope : Scope) (before : ℕ) (cs : List Carry)
+    → list_any is_of_cells (carries_from scope before cs) ≡ list_any has_row cs
 any_rows scope before [] = refl
 any_rows scope before (carry.Rows t i ∷ cs) = any_rows scope (suc before) cs
 any_rows scope before (carry.Cells t k j ∷ cs) = refl
 
-pub targets_seen : (tables : List (List ℕ)) (functions : List Entry) (most : ℕ) (names : List (List ℕ)) (fixed : List ℕ) (rs : List Reduce)
-    → AllByRecursion (λ r. IsFree tables functions most names fixed r.target.text.items) rs → TargetsIn names rs
+pub targets_seen : (tables : List (List ℕ)) (functions : List Entry) (most : ℕ)
+    (names : List (List ℕ)) (fixed : List ℕ) (rs : List Reduce)
+    → AllByRecursion (λ r. IsFree tables functions most names fixed r.target.text.items) rs
+    → TargetsIn names rs
 targets_seen tables functions most names fixed [] free = tt
-targets_seen tables functions most names fixed (r ∷ rs) free = (free.0.seen, targets_seen tables functions most names fixed rs free.1)
+targets_seen tables functions most names fixed (r ∷ rs) free =
+    (free.0.seen, targets_seen tables functions most names fixed rs free.1)
 
-module _ (on : Body) (as_told : told.Round) (scope : Scope) (tables names : List (List ℕ)) (sees : Sees scope names tables) where
-  reduced_there : (rs : List Reduce) → TargetsIn names rs → AllByRecursion (λ (r : Reduce). HasVariable scope r.target.text.items) rs
+module _ (on : Body) (as_told : told.Round) (scope : Scope) (tables names : List (List ℕ))
+    (sees : Sees scope names tables) where
+  reduced_there : (rs : List Reduce) → TargetsIn names rs
+      → AllByRecursion (λ (r : Reduce). HasVariable scope r.target.text.items) rs
   reduced_there [] seen = tt
-  reduced_there (r ∷ rs) seen = (seen_variable scope names tables sees r.target.text.items seen.0, reduced_there rs seen.1)
+  reduced_there (r ∷ rs) seen = (
+    seen_variable scope names tables sees r.target.text.items seen.0,
+    reduced_there rs seen.1,
+  )
 
-  reduced_free_cells : (code : Listing) (fixed : List ℕ) (rs : List Reduce) → AllByRecursion (λ r. IsFree tables (entries on.callees.items) on.most names fixed r.target.text.items) rs
-      → AllByRecursion (λ (r : Reduce). IsFreeCell code (activation on tables) names fixed r.target.text.items) rs
+  reduced_free_cells : (code : Listing) (fixed : List ℕ) (rs : List Reduce)
+      → AllByRecursion (λ r. IsFree tables (entries on.callees.items) on.most names fixed
+      r.target.text.items) rs
+      → AllByRecursion (λ (r : Reduce). IsFreeCell code (activation on tables) names fixed
+      r.target.text.items) rs
   reduced_free_cells code fixed [] free = tt
   reduced_free_cells code fixed (r ∷ rs) free = (
-    record { cell = offset_of scope r.target.text.items; is = cell_is on as_told scope tables names fixed r.target.text.items code sees free.0 },
+    record {
+      cell = offset_of scope r.target.text.items;
+      is = cell_is on as_told scope tables names
+          fixed r.target.text.items code sees free.0;
+    },
     reduced_free_cells code fixed rs free.1,
   )
 
-carried_there : (scope : Scope) (names tables : List (List ℕ)) → Sees scope names tables → (cs : List Carry) → AllByRecursion (λ c. IsTrue (is_in tables (carried_table c))) cs
+carried_there : (scope : Scope) (names tables : List (List ℕ)) → Sees scope names tables
+    → (cs : List Carry) → AllByRecursion (λ c. IsTrue (is_in tables (carried_table c))) cs
     → AllByRecursion (λ (c : Carry). HasTable scope (carried_table c)) cs
 carried_there scope names tables sees [] seen = tt
-carried_there scope names tables sees (c ∷ cs) seen =
-    (seen_table scope names tables sees (carried_table c) seen.0, carried_there scope names tables sees cs seen.1)
+carried_there scope names tables sees (c ∷ cs) seen = (
+  seen_table scope names tables sees (carried_table c) seen.0,
+  carried_there scope names tables
+      sees cs seen.1,
+)
 
-pub quiet_begun : (on : Body) (as_told : told.Round) (scope : Scope) (l : ParLoop) (site : LoopSite) (turns : Turns) (check first exit : ℕ) (old bounds start tested begun new : Output)
-    → site ≡ loop_site scope l on.size as_told.depth (length scope.cells.items) (value_cell (length scope.cells.items)) site.label
+pub quiet_begun : (on : Body) (as_told : told.Round) (scope : Scope) (l : ParLoop) (site : LoopSite)
+    (turns : Turns) (check first exit : ℕ) (old bounds start tested begun new : Output)
+    → site ≡ loop_site scope l on.size as_told.depth (length scope.cells.items)
+    (value_cell (length scope.cells.items)) site.label
     → IsLoopSite site → turns.exit ≡ over_label site.label
-    → WritesBounds scope l.from l.to old bounds → WritesSome check exit bounds start → IsFresh start → check ≡ label start
-    → WritesLength start tested → next_label tested ≡ next_label start → WritesBegin l.place site first tested begun
+    → WritesBounds scope l.from l.to old bounds → WritesSome check exit bounds start → IsFresh start
+    → check ≡ label start
+    → WritesLength start tested → next_label tested ≡ next_label start
+    → WritesBegin l.place site first tested begun
     → WritesSite scope l site first exit begun new → first ≡ label new
     → BeginsQuiet on as_told scope l turns exit old new
-quiet_begun on as_told scope l site turns check first exit old bounds start tested begun new is right exits starts some fresh check_is measures wide_is begins round_it first_is code tables names round same sees fits stands =
+quiet_begun on as_told scope l site turns check first exit old bounds start tested begun new is
+    right exits starts some fresh check_is measures wide_is begins round_it first_is code tables
+    names round same sees fits stands =
     let wide : ℕ = next_label tested in
     let s : Stands code begun × IsRoundQuiet code scope l site first exit = round_it code stands in
-    let b : Continues code tested (marked_begin site first) (to wide) × AreAt code wide (trap_block wide Wide l.place ∷ []) = begins code s.0 in
-    let t : Continues code start (length_test (next_label start) (marked_begin site first)) (to wide) = measures code (marked_begin site first) (to wide) b.0 in
+    let b : Continues code tested (marked_begin site first) (to wide)
+    × AreAt code wide (trap_block wide Wide l.place ∷ []) = begins code s.0 in
+    let t : Continues code start (length_test (next_label start) (marked_begin site first))
+    (to wide) = measures code (marked_begin site first) (to wide) b.0 in
     let test : List Instr = instr.Calc 2 1 Lt (value.Reg 0) ∷ instr.IfJump 2 check ∷ [] in
-    let w : Leads code old (λ instrs end. (end ≡ to exit) × AreBounds code (activation on tables) names l.from l.to instrs test) =
-    starts code (activation on tables) names test (to exit) sees fits.2 fits.3 (some code t.closed) in
-    let here : site ≡ loop_site scope l on.size round.depth (length names) (value_cell (length names)) site.label =
-    is ∙ ap (λ (d : ℕ). loop_site scope l on.size d (length scope.cells.items) (value_cell (length scope.cells.items)) site.label) (sym same.depth)
-    ∙ ap (λ (n : ℕ). loop_site scope l on.size round.depth n (value_cell n) site.label) (as_long scope names tables sees) in
-    let rows : list_any is_of_cells site.carries ≡ list_any has_row l.carries.items = ap (λ (q : LoopSite). list_any is_of_cells q.carries) is ∙ any_rows scope 0 l.carries.items in
-    let own : IsSite code (activation on tables) names l round.depth (value_cell (length names)) site =
+    let w : Leads code old (λ instrs end. (end ≡ to exit)
+    × AreBounds code (activation on tables) names l.from l.to instrs test) =
+    starts code (activation on tables) names test (to exit) sees fits.2 fits.3 (some code t.closed)
+    in
+    let here : site ≡ loop_site scope l on.size round.depth (length names)
+    (value_cell (length names)) site.label =
+    is ∙ ap (λ (d : ℕ). loop_site scope l on.size d (length scope.cells.items)
+    (value_cell (length scope.cells.items)) site.label) (sym same.depth)
+    ∙ ap (λ (n : ℕ). loop_site scope l on.size round.depth n (value_cell n) site.label)
+    (as_long scope names tables sees) in
+    let rows : list_any is_of_cells site.carries
+    ≡ list_any has_row l.carries.items = ap (λ (q : LoopSite). list_any is_of_cells q.carries)
+    is ∙ any_rows scope 0 l.carries.items in
+    let own : IsSite code (activation on tables) names l round.depth (value_cell (length names))
+    site =
     record {
       scope = scope;
       sees = sees;
-      reduced = reduced_there on as_told scope tables names sees l.reduces.items (targets_seen tables (entries on.callees.items) on.most names round.fixed l.reduces.items fits.5.reduced);
+      reduced = reduced_there on as_told scope tables names sees l.reduces.items
+          (targets_seen tables (entries on.callees.items) on.most names round.fixed l.reduces.items
+          fits.5.reduced);
       carried = carried_there scope names tables sees l.carries.items fits.5.carried_seen;
       is = here;
       right = right;
@@ -253,17 +306,21 @@ quiet_begun on as_told scope l site turns check first exit old bounds start test
           site = site;
           check = check;
           bounds = w.told.1;
-          is_site = subst (λ (k : ℕ). IsQuietSite code (activation on tables) names l round.depth check k exit site) first_is (record {
-            is_site = own;
-            wide = wide;
-            begins = subst (λ (k : ℕ). Opens code k (length_test wide (marked_begin site first)) (to wide)) (sym check_is)
-                (subst (λ (k : ℕ). Opens code (label start) (length_test k (marked_begin site first)) (to wide)) (sym wide_is)
-                (fresh_opens code start (length_test (next_label start) (marked_begin site first)) (to wide) fresh t));
-            too_wide = b.1;
-            child = s.1.child;
-            over = s.1.over;
-            none = s.1.none;
-          });
+          is_site = subst (λ (k : ℕ). IsQuietSite code (activation on tables) names l round.depth
+              check k exit site) first_is (record {
+                is_site = own;
+                wide = wide;
+                begins = subst (λ (k : ℕ). Opens code k (length_test wide (marked_begin site first))
+                    (to wide)) (sym check_is)
+                    (subst (λ (k : ℕ). Opens code (label start)
+                    (length_test k (marked_begin site first)) (to wide)) (sym wide_is)
+                    (fresh_opens code start (length_test (next_label start) (marked_begin site first))
+                    (to wide) fresh t));
+                too_wide = b.1;
+                child = s.1.child;
+                over = s.1.over;
+                none = s.1.none;
+              });
           over = exits;
         },
       );
@@ -272,48 +329,83 @@ quiet_begun on as_told scope l site turns check first exit old bounds start test
 -- ---- the iterations
 
 -- the same body, where the same variables and tables are seen
-pub body_same : (on : Body) (as_told : told.Round) (scope later : Scope) (x : List ℕ) (body : List Stmt) (old new : Output) → SeesAfter (λ names. names) scope later
+pub body_same : (on : Body) (as_told : told.Round) (scope later : Scope) (x : List ℕ)
+    (body : List Stmt) (old new : Output) → SeesAfter (λ names. names) scope later
     → LowersBody on as_told later x body old new → LowersBody on as_told scope x body old new
-body_same on as_told scope later x body old new keeps lowers code tables names round more last same sees fits c = lowers code tables names round more last same (keeps names tables sees) fits c
+body_same on as_told scope later x body old new keeps lowers code tables names round more last same
+    sees fits c = lowers code tables names round more last same (keeps names tables sees) fits c
 
-readied : (code : Listing) (dispatch : ℕ) (old new : Output) → Readies dispatch old new → Stands code new → Stands code old
-readied code dispatch old new r stands = subst (λ (bs : List Block). AreAt code 0 bs) r.blocks stands
+readied : (code : Listing) (dispatch : ℕ) (old new : Output) → Readies dispatch old new
+    → Stands code new → Stands code old
+readied code dispatch old new r stands = subst (λ (bs : List Block). AreAt code 0 bs) r.blocks
+    stands
 
-pub quiet_written : (on : Body) (as_told inside : told.Round) (scope : Scope) (l : ParLoop) (turns : Turns) (exit : ℕ) (old start middle closed ready inner new : Output)
-    → list_is_quiet on.quiet_calls l.body.items ≡ true → inside.reduces.now ≡ l.reduces.items → inside.depth ≡ as_told.depth + 1
-    → turns.level ≡ length scope.cells.items → turns.bound ≡ bound.Cell → turns.again ≡ label closed → exit ≡ label new
+pub quiet_written : (on : Body) (as_told inside : told.Round) (scope : Scope) (l : ParLoop)
+    (turns : Turns) (exit : ℕ) (old start middle closed ready inner new : Output)
+    → list_is_quiet on.quiet_calls l.body.items ≡ true → inside.reduces.now ≡ l.reduces.items
+    → inside.depth ≡ as_told.depth + 1
+    → turns.level ≡ length scope.cells.items → turns.bound ≡ bound.Cell → turns.again ≡ label closed
+    → exit ≡ label new
     → BeginsQuiet on as_told scope l turns exit old start → IsFresh start
-    → LowersBody on inside scope l.var.text.items l.body.items start middle → EndsLoop turns middle closed → Readies on.dispatch closed ready
-    → LowersBody on inside scope l.var.text.items l.body.items ready inner → EndsLoop turns inner new → IsFresh new
+    → LowersBody on inside scope l.var.text.items l.body.items start middle
+    → EndsLoop turns middle closed → Readies on.dispatch closed ready
+    → LowersBody on inside scope l.var.text.items l.body.items ready inner
+    → EndsLoop turns inner new → IsFresh new
     → Lowers on as_told scope (Par l) old new
-quiet_written on as_told inside scope l turns exit old start middle closed ready inner new quiet reduces depth long by_cell again_is exit_is begins fresh_start first ends_first readies second ends_second fresh code tables names round more last same sees fits c =
+quiet_written on as_told inside scope l turns exit old start middle closed ready inner new quiet
+    reduces depth long by_cell again_is exit_is begins fresh_start first ends_first readies second
+    ends_second fresh code tables names round more last same sees fits c =
     let within : Round = par_round round names l.reduces.items in
     let behind : ℕ → List Instr = λ n. turn n turns.bound turns.again in
     let same_within = par_is_round round as_told inside names l reduces depth same in
-    let fits_within = fit_of_vec tables (entries on.callees.items) on.most within (names ++ l.var.text.items ∷ []) l.body fits.4 in
-    let two : Bodied on inside scope l.var l.body.items turns.level (to turns.exit) (note.Ready on.dispatch) ready inner new behind long readies.noted second ends_second code tables names within l.body =
-    bodied on inside scope l.var l.body.items turns.level (to turns.exit) (note.Ready on.dispatch) ready inner new behind long readies.noted second ends_second code tables names within l.body same_within refl sees fits_within c.closed in
-    let one : Bodied on inside scope l.var l.body.items turns.level (to turns.exit) note.Plain start middle closed behind long fresh_start.plain first ends_first code tables names within l.body =
-    bodied on inside scope l.var l.body.items turns.level (to turns.exit) note.Plain start middle closed behind long fresh_start.plain first ends_first code tables names within l.body same_within refl sees fits_within
+    let fits_within = fit_of_vec tables (entries on.callees.items) on.most within
+    (names ++ l.var.text.items ∷ []) l.body fits.4 in
+    let two : Bodied on inside scope l.var l.body.items turns.level (to turns.exit)
+    (note.Ready on.dispatch) ready inner new behind long readies.noted second ends_second code
+    tables names within l.body =
+    bodied on inside scope l.var l.body.items turns.level (to turns.exit) (note.Ready on.dispatch)
+    ready inner new behind long readies.noted second ends_second code tables names within l.body
+    same_within refl sees fits_within c.closed in
+    let one : Bodied on inside scope l.var l.body.items turns.level (to turns.exit) note.Plain start
+    middle closed behind long fresh_start.plain first ends_first code tables names within l.body
+    =
+    bodied on inside scope l.var l.body.items turns.level (to turns.exit) note.Plain start middle
+    closed behind long fresh_start.plain first ends_first code tables names within l.body
+    same_within refl sees fits_within
     (readied code on.dispatch closed ready readies two.before) in
     let act : Activation = activation on tables in
-    let w : Leads code old (λ instrs end. (end ≡ to exit) × IsQuietBegun code act names l round.depth (label start) exit turns instrs) = begins code tables names round same sees fits one.before in
-    let b : IsQuietBegun code act names l round.depth (label start) exit turns w.instrs = w.told.1 in
-    let turns_are : behind (length names) ≡ next_turn (length names) turns.again = ap (λ k. turn (length names) k turns.again) by_cell in
+    let w : Leads code old (λ instrs end. (end ≡ to exit)
+    × IsQuietBegun code act names l round.depth (label start) exit turns instrs) = begins code
+    tables names round same sees fits one.before in
+    let b : IsQuietBegun code act names l round.depth (label start) exit turns w.instrs = w.told.1
+    in
+    let turns_are : behind (length names) ≡ next_turn (length names) turns.again = ap
+    (λ k. turn (length names) k turns.again) by_cell in
     let over : to turns.exit ≡ to (over_label b.site.label) = ap to b.over in
     let as_said : (instrs : List Instr) (first : Term)
-    → Codes code act within (names ++ l.var.text.items ∷ []) l.body.items instrs first (behind (length names)) (to turns.exit)
-    → Codes code act within (names ++ l.var.text.items ∷ []) l.body.items instrs first (next_turn (length names) turns.again) (to (over_label b.site.label)) =
-    λ instrs first codes. subst (λ (e : Term). Codes code act within (names ++ l.var.text.items ∷ []) l.body.items instrs first (next_turn (length names) turns.again) e) over
-    (subst (λ (is : List Instr). Codes code act within (names ++ l.var.text.items ∷ []) l.body.items instrs first is (to turns.exit)) turns_are codes) in
+    → Codes code act within (names ++ l.var.text.items ∷ []) l.body.items instrs first
+    (behind (length names)) (to turns.exit)
+    → Codes code act within (names ++ l.var.text.items ∷ []) l.body.items instrs first
+    (next_turn (length names) turns.again) (to (over_label b.site.label)) =
+    λ instrs first codes. subst (λ (e : Term). Codes code act within
+    (names ++ l.var.text.items ∷ []) l.body.items instrs first
+    (next_turn (length names) turns.again) e) over
+    (subst (λ (is : List Instr). Codes code act within (names ++ l.var.text.items ∷ []) l.body.items
+    instrs first is (to turns.exit)) turns_are codes) in
     let head : turns.again ≡ label ready = again_is ∙ ap length (sym readies.blocks) in
     record {
       instrs = w.instrs;
       end = w.end;
       continues = w.continues;
-      told = subst (λ (e : Term). Code code act round names (Par l) w.instrs e more last) (sym w.told.0)
-          (quiet_par_code l b.site fits.0 fits.1 quiet (reduced_free_cells on as_told scope tables names sees code round.fixed l.reduces.items fits.5.reduced) b.bounds.from b.bounds.to b.is_site one.begins (as_said one.instrs one.first one.codes)
-          (subst (λ (k : ℕ). OpensAs code (note.Ready on.dispatch) k (instr.Tick ∷ two.instrs) two.first) (sym head) two.begins)
+      told = subst (λ (e : Term). Code code act round names (Par l) w.instrs e more last)
+          (sym w.told.0)
+          (quiet_par_code l b.site fits.0 fits.1 quiet
+          (reduced_free_cells on as_told scope tables names sees code round.fixed
+          l.reduces.items fits.5.reduced) b.bounds.from b.bounds.to b.is_site one.begins
+          (as_said one.instrs one.first one.codes)
+          (subst (λ (k : ℕ). OpensAs code (note.Ready on.dispatch) k (instr.Tick ∷ two.instrs)
+          two.first) (sym head) two.begins)
           (as_said two.instrs two.first two.codes)
-          (subst (λ (k : ℕ). Opens code k more last) (sym exit_is) (fresh_opens code new more last fresh c)));
+          (subst (λ (k : ℕ). Opens code k more last) (sym exit_is)
+          (fresh_opens code new more last fresh c)));
     }

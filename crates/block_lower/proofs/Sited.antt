@@ -58,7 +58,8 @@ module _ (scope : Scope) (names tables : List (List ℕ)) (sees : Sees scope nam
   -- what holds of the cells of all variables holds of those that are reduced
   all_reduced : (P : ℕ → Type 0)
       → ((x : List ℕ) → is_in names x ≡ true → P (offset_of scope x))
-      → (rs : List Reduce) → TargetsIn names rs → All P (map (λ (a : ℕ × Op). a.0) (accs_of scope rs))
+      → (rs : List Reduce) → TargetsIn names rs → All P
+      (map (λ (a : ℕ × Op). a.0) (accs_of scope rs))
   all_reduced P each [] seen = All-nil P
   all_reduced P each (r ∷ rs) seen =
       All-cons P (offset_of scope r.target.text.items)
@@ -79,7 +80,8 @@ module _ (scope : Scope) (names tables : List (List ℕ)) (sees : Sees scope nam
       go : (b : Bool) → bytes_eq r.target.text.items x ≡ b
           → cond b (Some r.op) (operator_of rs x) ≡ None
           → (operator_of rs x ≡ None → All P (map (λ (a : ℕ × Op). a.0) (accs_of scope rs)))
-          → All P (offset_of scope r.target.text.items ∷ map (λ (a : ℕ × Op). a.0) (accs_of scope rs))
+          → All P (offset_of scope r.target.text.items ∷ map (λ (a : ℕ × Op). a.0)
+          (accs_of scope rs))
       go true e is behind = absurd (cc)
       go false e is behind =
           All-cons P (offset_of scope r.target.text.items)
@@ -257,18 +259,26 @@ pub right_site : (on : Body) (scope : Scope) (names tables : List (List ℕ)) (f
     → length scope.tables.items ≤ 16
     → IsLoopSite (loop_site scope l on.size depth (length scope.cells.items)
     (value_cell (length scope.cells.items)) label)
-right_site on scope names tables functions fixed l depth label sees cut shallow room has_room below few =
+right_site on scope names tables functions fixed l depth label sees cut shallow room has_room below
+    few =
     let level : ℕ = length scope.cells.items in
     let long : level ≡ length names = as_long scope names tables sees in
     let accs : List ℕ = map (λ (a : ℕ × Op). a.0) (accs_of scope l.reduces.items) in
     let inside : ℕ → Type 0 = λ off. off < on.size in
     let rs : List Reduce = l.reduces.items in
-    let seen_all : TargetsIn names rs = targets_seen tables functions on.most names fixed rs cut.reduced in
+    let seen_all : TargetsIn names rs = targets_seen tables functions on.most names fixed rs
+    cut.reduced in
     let own : (x : List ℕ) → is_in names x ≡ true → offset_of scope x < value_cell level =
-    λ x seen. omega (arith, cell_of_level scope names tables sees x seen, (at_level names x seen).0, long) in
+    λ x seen. omega (
+      arith,
+      cell_of_level scope names tables sees x seen,
+      (at_level names x seen).0,
+      long,
+    ) in
     let above : (x : List ℕ) → is_in names x ≡ true → rec_cell depth < offset_of scope x =
     λ x seen. omega (arith, cell_of_level scope names tables sees x seen, shallow) in
-    let all : (P : ℕ → Type 0) → ((x : List ℕ) → is_in names x ≡ true → P (offset_of scope x)) → All P accs =
+    let all : (P : ℕ → Type 0) → ((x : List ℕ) → is_in names x ≡ true → P (offset_of scope x))
+    → All P accs =
     λ P each. all_reduced scope names tables sees P each rs seen_all in
     record {
       label = below;
@@ -277,25 +287,40 @@ right_site on scope names tables functions fixed l depth label sees cut shallow 
           All-cons inside (bound_cell level)
           (value_cell level ∷ bound_cell level ∷ rec_cell depth ∷ accs)
           (omega (arith, has_room.room, room, long))
-          (All-cons inside (value_cell level) (bound_cell level ∷ rec_cell depth ∷ accs) (omega (arith, has_room.room, room, long))
-          (All-cons inside (bound_cell level) (rec_cell depth ∷ accs) (omega (arith, has_room.room, room, long))
+          (All-cons inside (value_cell level) (bound_cell level ∷ rec_cell depth ∷ accs)
+          (omega (arith, has_room.room, room, long))
+          (All-cons inside (bound_cell level) (rec_cell depth ∷ accs)
+          (omega (arith, has_room.room, room, long))
           (All-cons inside (rec_cell depth) accs (omega (arith, has_room.room, room, shallow))
           (all inside (λ x seen. omega (arith, own x seen, has_room.room, room, long))))));
       offsets_differ =
           AllPairs-cons (λ a b. a ≢ b) (value_cell level) (bound_cell level ∷ rec_cell depth ∷ accs)
-          (All-cons (λ b. value_cell level ≢ b) (bound_cell level) (rec_cell depth ∷ accs) (λ same. absurd (omega (arith, same)))
-          (All-cons (λ b. value_cell level ≢ b) (rec_cell depth) accs (λ same. absurd (omega (arith, same, shallow)))
-          (all (λ b. value_cell level ≢ b) (λ x seen same. absurd (omega (arith, own x seen, same))))))
+          (All-cons (λ b. value_cell level ≢ b) (bound_cell level) (rec_cell depth ∷ accs)
+          (λ same. absurd (omega (arith, same)))
+          (All-cons (λ b. value_cell level ≢ b) (rec_cell depth) accs
+          (λ same. absurd (omega (arith, same, shallow)))
+          (all (λ b. value_cell level ≢ b) (λ x seen same. absurd
+          (omega (arith, own x seen, same))))))
           (AllPairs-cons (λ a b. a ≢ b) (bound_cell level) (rec_cell depth ∷ accs)
-          (All-cons (λ b. bound_cell level ≢ b) (rec_cell depth) accs (λ same. absurd (omega (arith, same, shallow)))
-          (all (λ b. bound_cell level ≢ b) (λ x seen same. absurd (omega (arith, own x seen, same)))))
+          (All-cons (λ b. bound_cell level ≢ b) (rec_cell depth) accs
+          (λ same. absurd (omega (arith, same, shallow)))
+          (all (λ b. bound_cell level ≢ b) (λ x seen same. absurd
+          (omega (arith, own x seen, same)))))
           (AllPairs-cons (λ a b. a ≢ b) (rec_cell depth) accs
-          (all (λ b. rec_cell depth ≢ b) (λ x seen same. absurd (omega (arith, above x seen, same))))
+          (all (λ b. rec_cell depth ≢ b) (λ x seen same. absurd
+          (omega (arith, above x seen, same))))
           (accs_differ scope names tables sees rs cut.reduced_differ seen_all)));
-      few_accs = omega (arith, cut.few_reduces, length-map {B = ℕ × Op} rs (λ (r : Reduce). (offset_of scope r.target.text.items, r.op)));
+      few_accs = omega (
+        arith,
+        cut.few_reduces,
+        length-map {B = ℕ × Op} rs
+            (λ (r : Reduce). (offset_of scope r.target.text.items, r.op)),
+      );
       few_carries = omega (arith, cut.few_carries, as_many_carries scope 0 l.carries.items);
-      carries = low_carries scope names tables sees few 0 l.carries.items (omega (arith, cut.few_carries)) cut.carried_seen;
-      tables_differ = tables_apart scope names tables sees 0 l.carries.items cut.carried_differ cut.carried_seen;
+      carries = low_carries scope names tables sees few 0 l.carries.items
+          (omega (arith, cut.few_carries)) cut.carried_seen;
+      tables_differ = tables_apart scope names tables sees 0 l.carries.items cut.carried_differ
+          cut.carried_seen;
       rows_stay = rows_stay scope l.carries.items 0 l.carries.items;
     }
 

@@ -1,12 +1,9 @@
 -- Facts of lists of statements that loops and calls over them need.
-use Rattle.std.proofs.Common.{◌≡◌, ℕ, zero, suc, ◌+◌, ◌<◌, ◌≤◌, true, List, [], ◌∷◌, ◌++◌, length, take, get_or, Some, Ok, Err, Result, Vec, vec_len, refl, sym, ap, ◌∙◌, arith, rules}
-use Rattle.std.specs.Prelude.{OnOk, ℤ, ◌==◌}
+use Rattle.std.proofs.Common.{◌≡◌, ℕ, zero, suc, ◌+◌, ◌<◌, ◌≤◌, true, List, [], ◌∷◌, ◌++◌, length, take, get_or, Ok, Err, Result, Vec, vec_len, refl, sym, ap, ◌∙◌, arith, rules}
+use Rattle.std.specs.Prelude.{OnOk, ◌==◌}
 use Rattle.std.specs.declared.alloc.Global.{Global}
 use Rattle.std.proofs.lemmas.List.{take_more}
-use Rattle.loop_syntax.specs.declared.Expr.{Expr}
-use Rattle.loop_syntax.specs.declared.Expr.TheVariants.{Int, Var, Cell', Rows, Cols, Neg', Bin'}
 use Rattle.loop_syntax.specs.declared.Stmt.{Stmt}
-use Rattle.expr_lower.specs.Bodies.{literal, trap_count}
 use Rattle.block_lower.specs.declared.body.Body.{Body}
 use Rattle.block_lower.specs.Bodies.{HasRoomFor}
 use Rattle.block_lower.specs.Heights.{AreLow, AllAreLow}
@@ -33,16 +30,6 @@ long_as v n is = omega (arith, is, v.ok)
 pub no_items : {X : Type 0} (xs : List X) → true ≡ (length xs == 0) → xs ≡ []
 no_items [] none = refl
 no_items (x ∷ xs) none = absurd (search rules)
-
--- a literal has no trap block
-pub quiet_literal : (e : Expr) (n : ℤ) → literal e ≡ Some n → trap_count e ≡ 0
-quiet_literal (Int m place) n is = refl
-quiet_literal (Var x) n is = cc
-quiet_literal (Cell' t p a q b) n is = cc
-quiet_literal (Rows t) n is = cc
-quiet_literal (Cols t) n is = cc
-quiet_literal (Neg' p a place) n is = cc
-quiet_literal (Bin' o place p a q b) n is = cc
 
 -- no statement keeps more than the most that one of them keeps
 pub kept_at : (ss : List Stmt) (i : ℕ) (d : Stmt) → i < length ss → kept (get_or ss i d) ≤ kept_by_list ss

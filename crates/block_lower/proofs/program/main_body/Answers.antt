@@ -15,15 +15,31 @@ overflow_add-size c =
     let most = rw c.deref-2.ensures.value at c.declared_by_list-most.ensures in
     let kept = rw c.deref-3.ensures.value at c.kept_by_list.ensures in
     let made = rw c.deref-4.ensures.value at c.kept_by_decls.ensures in
-    omega (arith, few, most, kept, made, c.value_cell.ensures, c.max-kept.ensures, few_kept_by_list c.args.program.now.main.items, few_kept_by_decls c.args.program.now.tables.items)
+    omega (
+      arith,
+      few,
+      most,
+      kept,
+      made,
+      c.value_cell.ensures,
+      c.max-kept.ensures,
+      few_kept_by_list
+          c.args.program.now.main.items,
+      few_kept_by_decls c.args.program.now.tables.items,
+    )
 
 pub callees_of-requires-clause-labels : goal.callees_of-requires-clause-labels
 callees_of-requires-clause-labels c =
     let calls = rw c.deref.ensures.value at c.functions_are_quiet-quiet_calls.ensures in
-    rw (c.deref-5.ensures.value, calls) (omega (arith, c.added_by_main-first.ensures, c.requires.labels))
+    rw (c.deref-5.ensures.value, calls) (omega (
+      arith,
+      c.added_by_main-first.ensures,
+      c.requires.labels,
+    ))
 
 pub callees_of-requires-clause-small : goal.callees_of-requires-clause-small
-callees_of-requires-clause-small c = rw c.deref-5.ensures.value (fitting_are_small c.args.program.now c.args.program.now.funcs.items c.requires.fits.functions)
+callees_of-requires-clause-small c = rw c.deref-5.ensures.value
+    (fitting_are_small c.args.program.now c.args.program.now.funcs.items c.requires.fits.functions)
 
 pub returns-clause-callees : goal.returns-clause-callees
 returns-clause-callees c =

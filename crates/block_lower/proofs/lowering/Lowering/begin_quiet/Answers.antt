@@ -13,29 +13,34 @@ use Rattle.block_lower.proofs.lowering.Lowering.begin_quiet.Goals as goal
 pub value_cell-requires : goal.value_cell-requires
 value_cell-requires c =
     let self = c.args.self.now in
-    let s = site_fits self.on self.scope c.args.round c.args.l.now c.requires.fits c.requires.room c.requires.few_tables in
+    let s = site_fits self.on self.scope c.args.round c.args.l.now c.requires.fits c.requires.room
+    c.requires.few_tables in
     omega (arith, s.cells, c.requires.room.few, c.level-level.ensures)
 
 pub site_of-requires-clause-few_carries : goal.site_of-requires-clause-few_carries
 site_of-requires-clause-few_carries c =
     let self = c.args.self.now in
-    (site_fits self.on self.scope c.args.round c.args.l.now c.requires.fits c.requires.room c.requires.few_tables).few_carries
+    (site_fits self.on self.scope c.args.round c.args.l.now c.requires.fits c.requires.room
+    c.requires.few_tables).few_carries
 
 pub site_of-requires-clause-depth : goal.site_of-requires-clause-depth
 site_of-requires-clause-depth c =
     let self = c.args.self.now in
-    (site_fits self.on self.scope c.args.round c.args.l.now c.requires.fits c.requires.room c.requires.few_tables).shallow
+    (site_fits self.on self.scope c.args.round c.args.l.now c.requires.fits c.requires.room
+    c.requires.few_tables).shallow
 
 pub site_of-requires-clause-cells : goal.site_of-requires-clause-cells
 site_of-requires-clause-cells c =
     let self = c.args.self.now in
-    let s = site_fits self.on self.scope c.args.round c.args.l.now c.requires.fits c.requires.room c.requires.few_tables in
+    let s = site_fits self.on self.scope c.args.round c.args.l.now c.requires.fits c.requires.room
+    c.requires.few_tables in
     omega (arith, s.cells, c.requires.room.few)
 
 pub bounds-requires-clause-cells : goal.bounds-requires-clause-cells
 bounds-requires-clause-cells c =
     let self = c.args.self.now in
-    let s = site_fits self.on self.scope c.args.round c.args.l.now c.requires.fits c.requires.room c.requires.few_tables in
+    let s = site_fits self.on self.scope c.args.round c.args.l.now c.requires.fits c.requires.room
+    c.requires.few_tables in
     omega (arith, s.cells, c.requires.room.few)
 
 pub push_begin-requires-clause-label : goal.push_begin-requires-clause-label
@@ -46,13 +51,15 @@ push_begin-requires-clause-label c =
 pub push_begin-requires-clause-cells : goal.push_begin-requires-clause-cells
 push_begin-requires-clause-cells c =
     let cells = ap (λ (q : LoopSite). q.cells) c.in_ok-site.ensures in
-    let on = c.in_ok-push_length.ensures.on ∙ c.in_ok-push_some.ensures.on ∙ c.in_ok-bounds.ensures.on in
+    let on = c.in_ok-push_length.ensures.on ∙ c.in_ok-push_some.ensures.on
+    ∙ c.in_ok-bounds.ensures.on in
     ap (λ o. o.size) on ∙ sym cells
 
 pub push_site-requires-clause-site : goal.push_site-requires-clause-site
 push_site-requires-clause-site c =
     let self = c.args.self.now in
-    let s = site_fits self.on self.scope c.args.round c.args.l.now c.requires.fits c.requires.room c.requires.few_tables in
+    let s = site_fits self.on self.scope c.args.round c.args.l.now c.requires.fits c.requires.room
+    c.requires.few_tables in
     rw (c.in_ok-site.ensures, c.value_cell.ensures, c.level-level.ensures)
     (s.right _ (omega (arith, c.requires.labels)))
 
@@ -60,12 +67,21 @@ pub push_site-requires-clause-here : goal.push_site-requires-clause-here
 push_site-requires-clause-here c =
     let label = ap (λ (q : LoopSite). q.label) c.in_ok-site.ensures in
     let begun = c.in_ok-push_begin.ensures in
-    omega (arith, label, c.in_ok-bounds.ensures.labels, c.in_ok-push_some.ensures.labels, c.in_ok-push_length.ensures.labels, begun.labels, ap length begun.fresh.traps)
+    omega (
+      arith,
+      label,
+      c.in_ok-bounds.ensures.labels,
+      c.in_ok-push_some.ensures.labels,
+      c.in_ok-push_length.ensures.labels,
+      begun.labels,
+      ap length begun.fresh.traps,
+    )
 
 pub push_site-requires-clause-carries : goal.push_site-requires-clause-carries
 push_site-requires-clause-carries c =
     let self = c.args.self.now in
-    (site_fits self.on self.scope c.args.round c.args.l.now c.requires.fits c.requires.room c.requires.few_tables).few_carries
+    (site_fits self.on self.scope c.args.round c.args.l.now c.requires.fits c.requires.room
+    c.requires.few_tables).few_carries
 
 pub returns-clause-turns : goal.returns-clause-turns
 returns-clause-turns c =
@@ -76,7 +92,19 @@ returns-clause-turns c =
     let blocks = rw c.deref.ensures.value at c.site_blocks.ensures in (
       c.level-level.ensures,
       refl,
-      omega (arith, label, size, blocks, c.in_ok-bounds.ensures.labels, c.in_ok-push_some.ensures.labels, c.in_ok-push_length.ensures.labels, begun.labels, round_it.labels, ap length round_it.fresh.traps, c.requires.labels),
+      omega (
+        arith,
+        label,
+        size,
+        blocks,
+        c.in_ok-bounds.ensures.labels,
+        c.in_ok-push_some.ensures.labels,
+        c.in_ok-push_length.ensures.labels,
+        begun.labels,
+        round_it.labels,
+        ap length round_it.fresh.traps,
+        c.requires.labels,
+      ),
     )
 
 pub returns-clause-code : goal.returns-clause-code
@@ -84,7 +112,8 @@ returns-clause-code c =
     let self = c.args.self.now in
     let l = c.args.l.now in
     let site = c.in_ok-site.site in
-    let s = site_fits self.on self.scope c.args.round l c.requires.fits c.requires.room c.requires.few_tables in
+    let s = site_fits self.on self.scope c.args.round l c.requires.fits c.requires.room
+    c.requires.few_tables in
     let is = c.in_ok-site.ensures in
     let label = ap (λ (q : LoopSite). q.label) is in
     let bounds = c.in_ok-bounds.ensures in
@@ -100,14 +129,34 @@ returns-clause-code c =
     let blocks = rw c.deref.ensures.value at c.site_blocks.ensures in
     let long = length self.scope.cells.items in
     let here = (rw (c.value_cell.ensures, c.level-level.ensures) at is)
-    ∙ ap (λ (k : ℕ). loop_site self.scope l self.on.size c.args.round.depth long (value_cell long) k) (sym label) in
-    let small : c.added_by_body-body.result ≡ added_by_list self.on.quiet_calls l.body.items + 1 = omega (arith, size, c.requires.labels) in
+    ∙ ap (λ (k : ℕ). loop_site self.scope l self.on.size c.args.round.depth long (value_cell long)
+    k) (sym label) in
+    let small : c.added_by_body-body.result ≡ added_by_list self.on.quiet_calls l.body.items + 1 =
+    omega (arith, size, c.requires.labels) in
     let again = first + c.added_by_body-body.result in
-    let turns : Turns = record { level = c.level-level.result; bound = bound.Cell; again = again; exit = c.over_label.result } in
-    subst (λ (n : ℕ). BeginsQuiet self.on c.args.round self.scope l turns (again + n) self.out c.push_site.new.self.out) small
-    (quiet_begun self.on c.args.round self.scope l site turns check first exit self.out c.bounds.new.self.out c.push_some.new.self.out c.push_length.new.self.out c.push_begin.new.self.out c.push_site.new.self.out
+    let turns : Turns = record {
+      level = c.level-level.result;
+      bound = bound.Cell;
+      again = again;
+      exit = c.over_label.result;
+    } in
+    subst (λ (n : ℕ). BeginsQuiet self.on c.args.round self.scope l turns (again + n) self.out
+    c.push_site.new.self.out) small
+    (quiet_begun self.on c.args.round self.scope l site turns check first exit self.out
+    c.bounds.new.self.out c.push_some.new.self.out c.push_length.new.self.out
+    c.push_begin.new.self.out c.push_site.new.self.out
     here (rw here (s.right _ (omega (arith, c.requires.labels, label)))) c.over_label.ensures
     bounds.code some.code some.fresh
     (omega (arith, bounds.labels, some.labels, ap length some.fresh.traps))
     measured.code measured.labels begun.code (rw scope at round_it.code)
-    (omega (arith, label, blocks, bounds.labels, some.labels, measured.labels, begun.labels, round_it.labels, ap length round_it.fresh.traps)))
+    (omega (
+      arith,
+      label,
+      blocks,
+      bounds.labels,
+      some.labels,
+      measured.labels,
+      begun.labels,
+      round_it.labels,
+      ap length round_it.fresh.traps,
+    )))
