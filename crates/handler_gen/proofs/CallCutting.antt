@@ -133,7 +133,7 @@ module _ (code : Listing) (heartbeat : ℕ) (site : CallSite) (right : IsCallSit
         }
 
         sum_is : calculated alu.Add (register words 28) (Int (pos site.cells)) ≡ Ok (Int (pos (z + site.cells)))
-        sum_is = ap (λ u. calculated alu.Add u (Int (pos site.cells))) (h.r28 ∙ at.base) ∙ ap (λ n. Ok (Int n)) (int_wrap_fits w64 (pos (z + site.cells)) (omega (arith, ints, at.low, at.held.1)))
+        sum_is = ap (λ u. calculated alu.Add u (Int (pos site.cells))) (h.r28 ∙ at.base) ∙ ap (λ n. Ok (Int n)) (int_wrap_fits w64 (pos (z + site.cells)) (omega (arith, ints, at.low)))
 
         abbrev raised : List Word
         raised = slice_set words 28 (Int (pos (z + site.cells)))

@@ -25,7 +25,7 @@ mod LoopChildren
 -- the handler of a loop
 pub mod LoopCutting
 -- the handler of a pair of calls
-mod CallCutting
+pub mod CallCutting
 -- the block of `dispatch`
 pub mod Dispatched
 -- words in the cells of the parts of a cut

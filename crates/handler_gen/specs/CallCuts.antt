@@ -2,7 +2,7 @@
 use Rattle.std.specs.Prelude.{◌≡◌, ℕ, ◌+◌, ◌≤◌, ◌^◌, pos, false, true, [], Some, None, length, Bool}
 use Rattle.stack_marks.specs.Causes.{Holds}
 use Rattle.stack_marks.specs.declared.mark.Mark.{Mark}
-use Rattle.stack_marks.specs.Stacks.{StackValue, with_word, left_of, child_of, top_of}
+use Rattle.stack_marks.specs.Stacks.{StackValue, with_word, left_of, child_of}
 use Rattle.tpal_syntax.specs.declared.notes.CutKind.TheVariants.{Call}
 use Rattle.tpal_syntax.specs.declared.sites.CallSite.{CallSite}
 use Rattle.tpal_syntax.specs.declared.words.Word.TheVariants.{Int, Label, Rec}
@@ -66,7 +66,7 @@ pub record IsAtCalls (site : CallSite) (z : ℕ) (state : State) : Type 0 where
   pub free : state.pending ≡ None
   pub marked : oldest state.stack ≡ Some (call_mark site z)
   pub held : Holds state.stack z (site.cells + 2)
-  pub low : top_of state.stack ≤ 2 ^ 62
+  pub low : z + site.cells ≤ 2 ^ 62
 
 -- What the handler of a pair of calls does: it asks once, goes back unchanged where there is no
 -- record, and under a record the left keeps the first call and the child gets the second one.

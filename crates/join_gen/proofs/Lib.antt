@@ -9,6 +9,6 @@ mod Combining
 -- the join of a loop
 pub mod LoopJoining
 -- the join of a pair of calls
-mod CallJoining
+pub mod CallJoining
 -- the blocks meet the conditions of a code
 mod Fits
