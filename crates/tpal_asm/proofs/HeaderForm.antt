@@ -10,7 +10,7 @@ use Rattle.tpal_syntax.specs.declared.notes.Note.{Note}
 use Rattle.tpal_syntax.specs.declared.notes.Note.TheVariants as note
 use Rattle.tpal_syntax.specs.declared.notes.Target.{Target}
 use Rattle.tpal_syntax.specs.Parts.{is_register, is_carry}
-use Rattle.tpal_print.proofs.Reading.{Reading, ◌>>=◌, after, branch, many, with_more, is_digit, no_digit, digits_at, number_at, word_at, register_at, table_at, rename_at, next_rename_at, renames_at, carry_at, next_carry_at, carries_at, policy_at, kind_at}
+use Rattle.tpal_syntax.specs.Readers.{Reading, ◌>>=◌, after, branch, many, with_more, is_digit, no_digit, digits_at, number_at, word_at, register_at, table_at, rename_at, next_rename_at, renames_at, carry_at, next_carry_at, carries_at, policy_at, kind_at}
 use Rattle.tpal_asm.specs.Reading.{ended, cut_rest, target_rest, ready_rest, jtppt_rest, note_rest, header_rest}
 use Rattle.tpal_asm.specs.Labels.{place_of}
 use Rattle.tpal_asm.specs.Stages.{IsNoteForm}

@@ -6,7 +6,8 @@ use Rattle.tpal_syntax.specs.declared.notes.Note.{Note}
 use Rattle.tpal_syntax.specs.declared.notes.Note.TheVariants as note
 use Rattle.tpal_syntax.specs.Parts.{is_word}
 use Rattle.tpal_syntax.specs.Text.{note_text, header_text}
-use Rattle.tpal_print.proofs.Reading.{word_at, relabel_note}
+use Rattle.tpal_syntax.specs.Readers.{word_at}
+use Rattle.tpal_print.proofs.Reading.{relabel_note}
 use Rattle.tpal_print.proofs.Pieces.{word_comes}
 use Rattle.tpal_asm.specs.Reading.{ended, note_rest, header_rest}
 use Rattle.tpal_asm.specs.Stages.{IsNoteForm}

@@ -11,7 +11,8 @@ use Rattle.tpal_syntax.specs.declared.blocks.CodeTable.{CodeTable}
 use Rattle.tpal_syntax.specs.Parts.{is_word}
 use Rattle.tpal_syntax.specs.Conditions.{IsTarget, block_names}
 use Rattle.tpal_syntax.specs.Text.{header_text}
-use Rattle.tpal_print.proofs.Reading.{after, relabel_note}
+use Rattle.tpal_syntax.specs.Readers.{after}
+use Rattle.tpal_print.proofs.Reading.{relabel_note}
 use Rattle.tpal_asm.specs.Reading.{ended, header_rest}
 use Rattle.tpal_asm.specs.Labels.{Head, names_of, place_of, is_ready_name}
 use Rattle.tpal_asm.specs.Stages.{IsNoteOf, Stage, Outside, Inside, Says, a_header, IsNewName, IsWithin, is_among}

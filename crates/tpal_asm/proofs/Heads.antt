@@ -12,7 +12,8 @@ use Rattle.std.specs.Fmt.{decimal}
 use Rattle.tpal_syntax.specs.Parts.{is_word}
 use Rattle.tpal_syntax.specs.Conditions.{is_ready, block_names}
 use Rattle.tpal_syntax.specs.Text.{header_text, table_line, instr_text, term_text}
-use Rattle.tpal_print.proofs.Reading.{word_at, relabel_note}
+use Rattle.tpal_syntax.specs.Readers.{word_at}
+use Rattle.tpal_print.proofs.Reading.{relabel_note}
 use Rattle.tpal_asm.specs.Reading.{ended, header_rest}
 use Rattle.tpal_asm.specs.Labels.{Head, names_of, place_of, with_head}
 use Rattle.tpal_asm.specs.Stages.{IsHead, AreHeads, no_line, new_head, known_head, no_head, is_among, Stage, Outside, Inside, Says, a_table, a_header, an_instr, an_end, Leads, stay, go_on, IsNewName, IsWithin}

@@ -1,6 +1,6 @@
 -- Lists that are read one item after another.
 use Rattle.std.proofs.Common.{◌≡◌, ℕ, suc, ◌+◌, ◌-◌, ◌<◌, List, [], ◌∷◌, ◌++◌, Option, Some, None, refl, sym, ap, ◌∙◌, append_assoc, append-nil, arith}
-use Rattle.tpal_print.proofs.Reading.{Reading, many, with_more, ◌>>=◌}
+use Rattle.tpal_syntax.specs.Readers.{Reading, many, with_more, ◌>>=◌}
 use Rattle.tpal_asm.specs.Reading.{onto}
 
 onto_more : {A : Type 0} (xs : List A) (a : A) (o : Option (List A × List ℕ)) → onto xs (o >>= λ ys. Some (a ∷ ys.0, ys.1)) ≡ onto (xs ++ a ∷ []) o

@@ -9,7 +9,8 @@ use Rattle.tpal_syntax.specs.declared.notes.CarryAt.TheVariants as carry
 use Rattle.tpal_syntax.specs.declared.notes.Note.{Note}
 use Rattle.tpal_syntax.specs.declared.notes.Note.TheVariants as note
 use Rattle.tpal_syntax.specs.Text.{rename_text, carry_text, carries_text, policy_text, kind_text, note_text}
-use Rattle.tpal_print.proofs.Reading.{word_at, renames_at, relabel_note}
+use Rattle.tpal_syntax.specs.Readers.{word_at, renames_at}
+use Rattle.tpal_print.proofs.Reading.{relabel_note}
 use Rattle.tpal_print.proofs.Pieces.{Words, word_comes}
 use Rattle.tpal_print.proofs.Notes.{renames_come, carries_come}
 use Rattle.tpal_print.proofs.Whole.{policy_mid, kind_mid, ShortNote}

@@ -11,7 +11,7 @@ use Rattle.tpal_syntax.specs.declared.notes.Note.{Note}
 use Rattle.tpal_syntax.specs.declared.notes.Note.TheVariants as note
 use Rattle.tpal_syntax.specs.declared.notes.Target.{Target}
 use Rattle.tpal_syntax.specs.Text.{register_text, table_text, rename_text, carry_text, carries_text, policy_text, kind_text, target_text, note_text}
-use Rattle.tpal_print.proofs.Reading.{Reading, ◌>>=◌, after, branch, many, with_more, register_at, word_at, rename_at, next_rename_at, renames_at, carry_at, next_carry_at, carries_at, policy_at, kind_at}
+use Rattle.tpal_syntax.specs.Readers.{Reading, ◌>>=◌, after, branch, many, with_more, register_at, word_at, rename_at, next_rename_at, renames_at, carry_at, next_carry_at, carries_at, policy_at, kind_at}
 use Rattle.tpal_asm.proofs.Sound.{bind, chosen, none_some, after-sound, word-sound, register-sound, table-sound, join2, join3, join5, join6, Named, same}
 use Rattle.tpal_asm.specs.Reading.{cut_rest, target_rest, ready_rest, jtppt_rest, note_rest, made_target}
 

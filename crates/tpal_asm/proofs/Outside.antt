@@ -14,7 +14,7 @@ use Rattle.tpal_syntax.specs.declared.blocks.CodeTable.TheVariants.{Input, Made}
 use Rattle.tpal_syntax.specs.Parts.{is_word, is_register, is_carry}
 use Rattle.tpal_syntax.specs.Conditions.{is_renamed, block_names}
 use Rattle.tpal_syntax.specs.Text.{table_line, header_text}
-use Rattle.tpal_print.proofs.Reading.{after}
+use Rattle.tpal_syntax.specs.Readers.{after}
 use Rattle.tpal_print.proofs.Pieces.{and_left, and_right}
 use Rattle.tpal_asm.specs.Labels.{Head, names_of, place_of}
 use Rattle.tpal_asm.specs.Stages.{IsNoteForm, IsNoteOf, IsNewTable, Stage, Outside, Inside, Says, a_table, a_header, is_among}

@@ -3,7 +3,7 @@ use Rattle.std.proofs.Common.{◌≡◌, ℕ, ◌≤◌, ◌<◌, List, [], ◌�
 use Rattle.std.specs.Prelude.{codes}
 use Rattle.tpal_syntax.specs.declared.blocks.Block.{Block}
 use Rattle.tpal_syntax.specs.declared.blocks.CodeTable.{CodeTable}
-use Rattle.tpal_print.proofs.Reading.{after}
+use Rattle.tpal_syntax.specs.Readers.{after}
 use Rattle.tpal_asm.specs.declared.fault.Wrong.{Wrong}
 use Rattle.tpal_asm.specs.declared.fault.Wrong.TheVariants as wrongs
 use Rattle.tpal_asm.specs.declared.stages.Stage as code

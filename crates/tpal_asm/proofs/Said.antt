@@ -15,7 +15,7 @@ use Rattle.tpal_syntax.specs.declared.instructions.Term.{Term}
 use Rattle.tpal_syntax.specs.declared.instructions.Term.TheVariants.{Halt, Join}
 use Rattle.tpal_syntax.specs.Parts.{is_word, is_register, is_offset, is_size, is_value, is_instr, is_term}
 use Rattle.tpal_syntax.specs.Text.{register_text, table_text, cell_text, place_text, alu_text, trap_text, value_text, instr_text, term_text}
-use Rattle.tpal_print.proofs.Reading.{◌>>=◌, after, branch, negative, number_at, word_at, label_at, cell_at, place_at, alu_at, trap_at, value_at}
+use Rattle.tpal_syntax.specs.Readers.{◌>>=◌, after, branch, negative, number_at, word_at, label_at, cell_at, place_at, alu_at, trap_at, value_at}
 use Rattle.tpal_print.proofs.Pieces.{and_right}
 use Rattle.tpal_asm.proofs.Sound.{bind, chosen, after-sound, number-sound, word-sound, register-sound, join2, join3, join4, join5, join7, join8, none_some, table-sound, size-sound, Stands, Named, same}
 use Rattle.tpal_asm.specs.Reading.{if_jump_rest, store_rest, salloc_rest, sfree_rest, prmpush_rest, prmpop_rest, prmempty_rest, prmsplit_rest, fork_rest, put_rest, make_rest, trap_rest, print_rest, emit_rest, load_rest, jralloc_rest, fetch_rest, rows_rest, cols_rest, name_rest, calc_rest, source_rest, move_rest, assigned_rest, changed_rest, stack_rest, table_rest, other_rest, instr_rest, jump_rest, join_rest, term_rest}

@@ -8,7 +8,7 @@ use Rattle.std.proofs.lemmas.Bool.{eqb-true, leb-true}
 use Rattle.std.proofs.lemmas.Bool.Decides.{nat_tests}
 use Rattle.tpal_syntax.specs.Parts.{is_letter, is_word_byte, is_word}
 use Rattle.tpal_syntax.specs.Text.{register_text, table_text}
-use Rattle.tpal_print.proofs.Reading.{◌>>=◌, after, branch, is_digit, no_digit, digits_at, number_at, word_bytes, word_at, register_at, table_at}
+use Rattle.tpal_syntax.specs.Readers.{◌>>=◌, after, branch, is_digit, no_digit, digits_at, number_at, word_bytes, word_at, register_at, table_at}
 use Rattle.tpal_print.proofs.Pieces.{and_left, and_right}
 
 -- ---- steps of a reading

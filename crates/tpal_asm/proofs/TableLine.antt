@@ -6,7 +6,7 @@ use Rattle.tpal_syntax.specs.declared.blocks.CodeTable.{CodeTable}
 use Rattle.tpal_syntax.specs.declared.blocks.CodeTable.TheVariants.{Input, Made}
 use Rattle.tpal_syntax.specs.Parts.{is_word}
 use Rattle.tpal_syntax.specs.Text.{table_line}
-use Rattle.tpal_print.proofs.Reading.{◌>>=◌, after, word_at}
+use Rattle.tpal_syntax.specs.Readers.{◌>>=◌, after, word_at}
 use Rattle.tpal_print.proofs.Pieces.{number_comes, word_comes}
 use Rattle.tpal_asm.specs.Reading.{ended, table_line_rest}
 use Rattle.tpal_asm.proofs.Sound.{bind, chosen, after-sound, number-sound, word-sound, join3, join4, same}

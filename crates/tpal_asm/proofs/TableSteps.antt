@@ -6,7 +6,7 @@ use Rattle.tpal_syntax.specs.declared.blocks.CodeTable.{CodeTable}
 use Rattle.tpal_syntax.specs.declared.blocks.CodeTable.TheVariants.{Input, Made}
 use Rattle.tpal_syntax.specs.Parts.{is_word}
 use Rattle.tpal_syntax.specs.Text.{table_line, header_text, note_text}
-use Rattle.tpal_print.proofs.Reading.{word_at}
+use Rattle.tpal_syntax.specs.Readers.{word_at}
 use Rattle.tpal_print.proofs.Pieces.{word_comes}
 use Rattle.tpal_asm.specs.Reading.{ended, table_line_rest}
 use Rattle.tpal_asm.specs.Labels.{Head, names_of}

@@ -1,7 +1,7 @@
 -- Words at the front of a text.
 use Rattle.std.proofs.Common.{◌≡◌, ℕ, zero, suc, ◌<◌, ◌≤◌, Bool, true, false, cond, List, [], ◌∷◌, length, get_or, take, drop, refl, ap, ◌∙◌, arith}
 use Rattle.tpal_syntax.specs.Parts.{is_word_byte}
-use Rattle.tpal_print.proofs.Reading.{word_bytes}
+use Rattle.tpal_syntax.specs.Readers.{word_bytes}
 
 -- the bytes of a word go on as far as all are of a word
 pub word_bytes-at : (text : List ℕ) (n : ℕ) → n ≤ length text → ((k : ℕ) → k < n → is_word_byte (get_or text k 0) ≡ true) → (n < length text → is_word_byte (get_or text n 0) ≡ false)

@@ -22,10 +22,10 @@ use Rattle.tpal_syntax.specs.declared.notes.Note.TheVariants as note
 use Rattle.tpal_syntax.specs.declared.notes.Target.{Target}
 use Rattle.tpal_syntax.specs.declared.blocks.CodeTable.{CodeTable}
 use Rattle.tpal_syntax.specs.declared.blocks.CodeTable.TheVariants.{Input, Made}
-use Rattle.tpal_print.proofs.Reading.{renames_at, carries_at, policy_at, kind_at, ◌>>=◌, after}
-use Rattle.tpal_print.proofs.Reading.{branch, negative, number_at, word_at, register_at, table_at}
-use Rattle.tpal_print.proofs.Reading.{label_at, cell_at, place_at, value_at, alu_at, trap_at}
-use Rattle.tpal_print.proofs.Reading.{source_at}
+use Rattle.tpal_syntax.specs.Readers.{renames_at, carries_at, policy_at, kind_at, ◌>>=◌, after}
+use Rattle.tpal_syntax.specs.Readers.{branch, negative, number_at, word_at, register_at, table_at}
+use Rattle.tpal_syntax.specs.Readers.{label_at, cell_at, place_at, value_at, alu_at, trap_at}
+use Rattle.tpal_syntax.specs.Readers.{source_at}
 
 -- what a function returned, seen by view, is what a reading gives
 abbrev pub Reads : {X Y : Type 0} → (X → Y) → Option X → Option Y → Type 0

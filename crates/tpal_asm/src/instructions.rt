@@ -1,7 +1,6 @@
 // Instructions, each read from the front of a text.
 
 ghost use Rattle.std.specs.Prelude.{◌≡◌, codes, Option, Some, None};
-ghost use Rattle.tpal_print.proofs.Reading.{after, branch, instr_at, term_at};
 ghost use Rattle.tpal_asm.specs.Reading.{Reads, rest_of, if_jump_rest, store_rest, salloc_rest};
 ghost use Rattle.tpal_asm.specs.Reading.{sfree_rest, prmpush_rest, prmpop_rest, prmempty_rest};
 ghost use Rattle.tpal_asm.specs.Reading.{prmsplit_rest, fork_rest, put_rest, make_rest, trap_rest};

@@ -1,9 +1,8 @@
 // Notes, each read from the front of a text.
 
 ghost use Rattle.std.specs.Prelude.{◌≡◌, codes, Option, Some, None, IfOk, length, List, ◌++◌};
-ghost use Rattle.tpal_print.proofs.Reading.{many, rename_at, next_rename_at, renames_at, carry_at};
-ghost use Rattle.tpal_print.proofs.Reading.{next_carry_at, carries_at, policy_at, kind_at};
-ghost use Rattle.tpal_print.proofs.Reading.{target_at, note_at};
+ghost use Rattle.tpal_syntax.specs.Readers.{many, rename_at, next_rename_at, renames_at, carry_at};
+ghost use Rattle.tpal_syntax.specs.Readers.{next_carry_at, carries_at, policy_at, kind_at};
 ghost use Rattle.tpal_asm.specs.Reading.{Reads, rest_of, pair_of, onto, carried_rows_rest};
 ghost use Rattle.tpal_asm.specs.Reading.{carried_cells_rest, cut_rest, target_rest, ready_rest};
 ghost use Rattle.tpal_asm.specs.Reading.{jtppt_rest, note_rest};
@@ -54,7 +53,7 @@ fn more_renames<'a>(
 }
 
 // The renames, and what stands behind the brace.
-#[tactic(auto, unfolding(tpal_print::proofs::Reading::renames_at))]
+#[tactic(auto, unfolding(tpal_syntax::specs::Readers::renames_at))]
 fn renames<'a>(
     alloc: Global,
     text: &'a [u8],
@@ -142,7 +141,7 @@ fn more_carries<'a>(
     Ok(rest)
 }
 
-#[tactic(auto, unfolding(tpal_print::proofs::Reading::carries_at))]
+#[tactic(auto, unfolding(tpal_syntax::specs::Readers::carries_at))]
 fn carries<'a>(
     alloc: Global,
     text: &'a [u8],
@@ -162,7 +161,7 @@ fn carries<'a>(
     Ok(Some((Items::new(carries), rest)))
 }
 
-#[tactic(auto, unfolding(tpal_print::proofs::Reading::policy_at))]
+#[tactic(auto, unfolding(tpal_syntax::specs::Readers::policy_at))]
 fn policy(text: &[u8]) -> Option<(bool, &[u8])>
     ensures { Reads rest_of result (policy_at text.now) }
 {
@@ -173,7 +172,7 @@ fn policy(text: &[u8]) -> Option<(bool, &[u8])>
     Some((true, rest))
 }
 
-#[tactic(auto, unfolding(tpal_print::proofs::Reading::kind_at))]
+#[tactic(auto, unfolding(tpal_syntax::specs::Readers::kind_at))]
 fn kind(text: &[u8]) -> Option<(CutKind, &[u8])>
     ensures { Reads rest_of result (kind_at text.now) }
 {

@@ -4,9 +4,9 @@ ghost use Rattle.std.specs.Prelude.{◌≡◌, ◌≤◌, ◌<◌, ◌^◌, ℕ,
 ghost use Rattle.std.specs.Prelude.{MatchOption, not, length, take, drop};
 ghost use Rattle.std.specs.Prelude.{codes, ◌∷◌, []};
 ghost use Rattle.tpal_syntax.specs.Parts.{is_letter, is_word_byte};
-ghost use Rattle.tpal_print.proofs.Reading.{after, is_digit, no_digit, digits_at, number_at};
-ghost use Rattle.tpal_print.proofs.Reading.{word_at, word_bytes, register_at, table_at, label_at};
-ghost use Rattle.tpal_print.proofs.Reading.{cell_at, place_at, value_at, alu_at, trap_at};
+ghost use Rattle.tpal_syntax.specs.Readers.{after, is_digit, no_digit, digits_at, number_at};
+ghost use Rattle.tpal_syntax.specs.Readers.{word_at, word_bytes, register_at, table_at, label_at};
+ghost use Rattle.tpal_syntax.specs.Readers.{cell_at, place_at, value_at, alu_at, trap_at};
 ghost use Rattle.tpal_asm.specs.Reading.{Reads, rest_of, rests_of, cell_of, reg_rest, name_rest};
 ghost use Rattle.tpal_asm.specs.Reading.{negative_rest, number_rest};
 ghost use Rattle.tpal_asm.specs.Labels.{place_of, heads};
@@ -48,7 +48,7 @@ fn no_digit(text: &[u8]) -> bool
 }
 
 /// The digits that go on.
-#[tactic(auto, unfolding(tpal_print::proofs::Reading::digits_at))]
+#[tactic(auto, unfolding(tpal_syntax::specs::Readers::digits_at))]
 fn digits(text: &[u8], limit: u64, from: u64) -> Option<(u64, &[u8])>
     requires low { 9 ≤ limit }
     requires high { limit ≤ 9223372036854775808 }
@@ -73,7 +73,7 @@ fn digits(text: &[u8], limit: u64, from: u64) -> Option<(u64, &[u8])>
 }
 
 /// A number without leading zeros, up to a limit.
-#[tactic(auto, unfolding(tpal_print::proofs::Reading::number_at))]
+#[tactic(auto, unfolding(tpal_syntax::specs::Readers::number_at))]
 pub fn number(text: &[u8], limit: u64) -> Option<(u64, &[u8])>
     requires low { 9 ≤ limit }
     requires high { limit ≤ 9223372036854775808 }
@@ -121,7 +121,7 @@ fn word_length(text: &[u8]) -> usize
 }
 
 /// The word at the front.
-#[tactic(auto, unfolding(tpal_print::proofs::Reading::word_at))]
+#[tactic(auto, unfolding(tpal_syntax::specs::Readers::word_at))]
 pub fn word(text: &[u8]) -> Option<(&[u8], &[u8])>
     ensures { Reads rests_of result (word_at text.now) }
 {
@@ -189,7 +189,7 @@ pub fn label<'a>(labels: &Labels, text: &'a [u8]) -> Option<(u32, &'a [u8])>
 }
 
 /// A cell, by the register of its base and an offset.
-#[tactic(auto, unfolding(tpal_print::proofs::Reading::cell_at))]
+#[tactic(auto, unfolding(tpal_syntax::specs::Readers::cell_at))]
 pub fn cell(text: &[u8]) -> Option<((u8, u16), &[u8])>
     ensures { Reads cell_of result (cell_at text.now) }
 {
@@ -209,7 +209,7 @@ fn place_number(text: &[u8]) -> Option<(u32, &[u8])>
 }
 
 /// A place.
-#[tactic(auto, unfolding(tpal_print::proofs::Reading::place_at))]
+#[tactic(auto, unfolding(tpal_syntax::specs::Readers::place_at))]
 pub fn place(text: &[u8]) -> Option<(Place, &[u8])>
     ensures { Reads rest_of result (place_at text.now) }
 {
@@ -248,7 +248,7 @@ fn positive(text: &[u8]) -> Option<(Value, &[u8])>
 }
 
 /// An operand.
-#[tactic(auto, unfolding(tpal_print::proofs::Reading::value_at, crate::specs::Reading::reg_rest, crate::specs::Reading::negative_rest, crate::specs::Reading::number_rest))]
+#[tactic(auto, unfolding(tpal_syntax::specs::Readers::value_at, crate::specs::Reading::reg_rest, crate::specs::Reading::negative_rest, crate::specs::Reading::number_rest))]
 pub fn value<'a>(labels: &Labels, text: &'a [u8]) -> Option<(Value, &'a [u8])>
     ensures { Reads rest_of result (value_at (place_of (heads labels.now.places)) text.now) }
 {
@@ -269,7 +269,7 @@ pub fn value<'a>(labels: &Labels, text: &'a [u8]) -> Option<(Value, &'a [u8])>
 }
 
 /// The operator at the front, and what stands behind the space after it.
-#[tactic(auto, unfolding(tpal_print::proofs::Reading::alu_at))]
+#[tactic(auto, unfolding(tpal_syntax::specs::Readers::alu_at))]
 pub fn alu(text: &[u8]) -> Option<(Alu, &[u8])>
     ensures { Reads rest_of result (alu_at text.now) }
 {
@@ -313,7 +313,7 @@ pub fn alu(text: &[u8]) -> Option<(Alu, &[u8])>
 }
 
 /// The kind of a trap, and what stands behind the comma after it.
-#[tactic(auto, unfolding(tpal_print::proofs::Reading::trap_at))]
+#[tactic(auto, unfolding(tpal_syntax::specs::Readers::trap_at))]
 pub fn trap_kind(text: &[u8]) -> Option<(TrapKind, &[u8])>
     ensures { Reads rest_of result (trap_at text.now) }
 {

@@ -11,7 +11,7 @@ ghost use Rattle.std.specs.Prelude.{◌<◌, OnOk, Some, None, false, slice_inde
 ghost use Rattle.tpal_syntax.specs.Conditions.{block_names, input_names};
 ghost use Rattle.tpal_syntax.specs.declared.blocks.CodeTable.{CodeTable};
 ghost use Rattle.tpal_asm.specs.declared.fault.Wrong.TheVariants as wrongs;
-ghost use Rattle.tpal_print.proofs.Reading.{after};
+ghost use Rattle.tpal_syntax.specs.Readers.{after};
 ghost use Rattle.tpal_asm.specs.Reading.{Reads, header_rest, table_line_rest};
 ghost use Rattle.tpal_asm.specs.Steps.{seen, Unfit, HandlerUnfit, NoteFits, NoteUnfit, header_of};
 ghost use Rattle.tpal_asm.specs.Steps.{table_of, is_input_of, IsUnrepeated, TableUnfit};

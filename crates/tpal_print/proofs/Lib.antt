@@ -1,6 +1,6 @@
 -- Lemmas of this crate: each code is read back from its text.
 
--- reading a text from its front
+-- whole texts read from their front, and labels that are given anew
 pub mod Reading
 -- numbers, words, registers, operands
 pub mod Pieces

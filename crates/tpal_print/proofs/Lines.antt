@@ -10,7 +10,8 @@ use Rattle.tpal_syntax.specs.declared.instructions.Term.{Term}
 use Rattle.tpal_syntax.specs.declared.instructions.Term.TheVariants.{Jump, Halt, Join}
 use Rattle.tpal_syntax.specs.Parts.{is_register, is_offset, is_size, is_place, is_value, is_instr, is_term}
 use Rattle.tpal_syntax.specs.Text.{cell_text, place_text, alu_text, value_text, instr_text, term_text}
-use Rattle.tpal_print.proofs.Reading.{after, value_at, assigned_at, instr_at, term_at, relabel_value, relabel, relabel_term}
+use Rattle.tpal_syntax.specs.Readers.{after, value_at}
+use Rattle.tpal_print.proofs.Reading.{assigned_at, instr_at, term_at, relabel_value, relabel, relabel_term}
 use Rattle.tpal_print.proofs.Pieces.{stops, Words, and_left, and_right, below, word_comes, register_comes, register_mid, table_comes, table_mid, size_comes, size_mid, cell_comes, cell_mid, place_comes, alu_mid, trap_mid, value_comes, no_digits, no_letter}
 
 -- digits are no `rows`

@@ -10,7 +10,7 @@ use Rattle.tpal_syntax.specs.declared.notes.CarryAt.TheVariants as carry
 use Rattle.tpal_syntax.specs.Parts.{is_register, is_carry}
 use Rattle.tpal_syntax.specs.Conditions.{is_renamed}
 use Rattle.tpal_syntax.specs.Text.{rename_text, carry_text, carries_text}
-use Rattle.tpal_print.proofs.Reading.{Reading, ◌>>=◌, after, branch, many, with_more, rename_at, next_rename_at, renames_at, carry_at, next_carry_at, carries_at}
+use Rattle.tpal_syntax.specs.Readers.{Reading, ◌>>=◌, after, branch, many, with_more, rename_at, next_rename_at, renames_at, carry_at, next_carry_at, carries_at}
 use Rattle.tpal_print.proofs.Pieces.{stops, and_left, and_right, register_comes, register_mid, table_mid}
 
 -- what is read from the text of an item, whatever follows that meets P

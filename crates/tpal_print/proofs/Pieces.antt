@@ -15,7 +15,8 @@ use Rattle.tpal_syntax.specs.declared.instructions.Alu.TheVariants as alu
 use Rattle.tp_value.specs.declared.values.Place.{Place}
 use Rattle.tp_value.specs.declared.values.TrapKind.{TrapKind}
 use Rattle.tp_value.specs.declared.values.TrapKind.TheVariants.{Divide, Index, Deep, Size, Wide}
-use Rattle.tpal_print.proofs.Reading.{after, is_digit, digits_at, no_digit, number_at, word_bytes, word_at, cell_at, place_at, alu_at, trap_at, value_at, relabel_value}
+use Rattle.tpal_syntax.specs.Readers.{after, is_digit, digits_at, no_digit, number_at, word_bytes, word_at, cell_at, place_at, alu_at, trap_at, value_at}
+use Rattle.tpal_print.proofs.Reading.{relabel_value}
 
 -- no byte of a word comes next
 abbrev pub stops : List ℕ → Bool

@@ -21,7 +21,8 @@ use Rattle.tpal_syntax.specs.declared.blocks.CodeTable.TheVariants.{Input, Made}
 use Rattle.tpal_syntax.specs.Parts.{is_word, is_word_byte, is_letter, is_register, is_offset, is_size, is_value, is_instr, is_term}
 use Rattle.tpal_syntax.specs.Conditions.{IsNote, IsBlock, IsCode, AreDistinct, block_names, input_names}
 use Rattle.tpal_syntax.specs.Text.{CodeText, line, note_text, block_text, table_line, tables_text, text_of}
-use Rattle.tpal_print.proofs.Reading.{◌>>=◌, after, word_at, many, with_more, block_at, table_line_at, code_at, relabel_value, relabel, relabel_term, relabel_note, relabel_block}
+use Rattle.tpal_syntax.specs.Readers.{◌>>=◌, after, word_at, many, with_more}
+use Rattle.tpal_print.proofs.Reading.{block_at, table_line_at, code_at, relabel_value, relabel, relabel_term, relabel_note, relabel_block}
 use Rattle.tpal_print.proofs.Pieces.{Words, and_left, and_right, below, number_comes, word_comes}
 use Rattle.tpal_print.proofs.Notes.{Comes, many_come}
 use Rattle.tpal_print.proofs.Whole.{ShortNote, ShortBlock, handler_below, instr_line, term_line, regroup, block_comes}

@@ -8,3 +8,5 @@ pub mod Conditions
 pub mod Listing
 -- the one text of a code
 pub mod Text
+-- readers of the parts of such a text, from its front
+pub mod Readers

@@ -1,5 +1,5 @@
 use Rattle.std.proofs.Common.{◌∙◌, ap, sym, ◌+◌, ◌-◌, arith}
-use Rattle.tpal_print.proofs.Reading.{many, next_carry_at}
+use Rattle.tpal_syntax.specs.Readers.{many, next_carry_at}
 use Rattle.tpal_asm.specs.Reading.{onto}
 use Rattle.tpal_asm.proofs.Lists.{more-none, more-some}
 use Rattle.tpal_asm.proofs.notes.more_carries.Goals as goal

@@ -1,5 +1,5 @@
 use Rattle.std.proofs.Common.{◌≡◌, ◌-◌}
-use Rattle.tpal_print.proofs.Reading.{many, next_carry_at}
+use Rattle.tpal_syntax.specs.Readers.{many, next_carry_at}
 use Rattle.tpal_asm.specs.Reading.{onto}
 use Rattle.tpal_asm.proofs.notes.more_carries.Given as goal
 

@@ -1,5 +1,5 @@
 use Rattle.std.proofs.Common.{◌≡◌, length}
-use Rattle.tpal_print.proofs.Reading.{after}
+use Rattle.tpal_syntax.specs.Readers.{after}
 use Rattle.tpal_asm.proofs.parts.behind.Given as goal
 
 -- what is left decides

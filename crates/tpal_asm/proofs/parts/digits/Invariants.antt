@@ -1,5 +1,5 @@
 use Rattle.std.proofs.Common.{◌≡◌, ◌≤◌, length}
-use Rattle.tpal_print.proofs.Reading.{digits_at}
+use Rattle.tpal_syntax.specs.Readers.{digits_at}
 use Rattle.tpal_asm.proofs.parts.digits.Given as goal
 
 abbrev pub invariant-loop-first : goal.invariant-loop-first
