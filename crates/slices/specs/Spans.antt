@@ -45,7 +45,7 @@ held_in list k j = in_chunk (slice_get list k) j
 
 -- the number at a position in boxes, of which the first has position `start`
 unfoldable pub in_list : ℕ → List (Box (List ℤ) Global) → ℕ → Option ℤ
-in_list start list i = held_in list (i / 1024 - start / 1024) (i % 1024)
+in_list start list i = held_in list (i / 512 - start / 512) (i % 512)
 
 -- what cells in boxes hold at a position
 abbrev pub chunks_at : Chunks → ℕ → Option ℤ

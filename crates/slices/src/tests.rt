@@ -95,7 +95,7 @@ fn appends_are_refused(rt: HostRuntime) -> Result<(), Fail> {
     Ok(())
 }
 
-/// The cells at both ends of three rows of a thousand, and on both sides of the first box's end.
+/// The cells at both ends of three rows of a thousand, and on both sides of the second box's end.
 fn marks(rt: &impl Abort, held: &Held, wanted: &[Option<i64>; 5]) {
     assert_eq!(rt; held.fetch(0, 999), wanted[0]);
     assert_eq!(rt; held.fetch(1, 0), wanted[1]);
