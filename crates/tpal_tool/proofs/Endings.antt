@@ -1,7 +1,8 @@
 -- How a call ends.
 use Rattle.std.proofs.Common.{◌≡◌, ℕ, suc, ◌<◌, ◌≤◌, List, [], length, refl, ap, sym, ◌∙◌, arith, subst, inl, inr}
-use Rattle.std.specs.Prelude.{Option, Some, None, Result, Ok, Err, IfOk, IfSome, IsSomeAnd, unwrap_or, replicate, ◌⊎◌}
+use Rattle.std.specs.Prelude.{Bool, true, false, Option, Some, None, Result, Ok, Err, IfOk, IfSome, IsSomeAnd, unwrap_or, replicate, ◌⊎◌}
 use Rattle.std.proofs.lemmas.List.{length-replicate}
+use Rattle.std.proofs.lemmas.Bool.{false≢true}
 use Rattle.tp_value.specs.declared.limits.TheConstants.{MAX_SOURCE_BYTES, MAX_TABLES_BYTES}
 use Rattle.tp_value.specs.declared.values.Stop.{Stop}
 use Rattle.tp_value.specs.declared.values.Stop.TheVariants as stops
@@ -16,12 +17,12 @@ use Rattle.tpal_tool.specs.declared.status.Status.{Status}
 use Rattle.tpal_tool.specs.declared.status.Status.TheVariants.{Done, Trap, OutOfFuel, Refused, NoMemory, ReadFault, WriteFault}
 use Rattle.tpal_tool.specs.Inputs.{first_missing}
 use Rattle.tpal_tool.specs.Lines.{missing_line, tables_line, too_long_line}
-use Rattle.tpal_tool.specs.Owed.{RunOwes, faulty_tables, missing, ran, CompilesTo, Owes, Owed, bad_words, too_long, refused, compiled, tables_too_long, AreTexts, IsTables, IsToldTables, IsFinal, Finished, Names, ReadFailed, program_failed, tables_failed, Ends, finished, read_failed, write_failed, no_memory, IsWritten, whole, failed, no_room, NamedRunOwes, long, fits}
+use Rattle.tpal_tool.specs.Owed.{RunOwes, faulty_tables, missing, ran, shown, CompilesTo, Owes, Owed, bad_words, too_long, refused, compiled, tables_too_long, AreTexts, IsTables, IsToldTables, IsFinal, Finished, Names, ReadFailed, program_failed, tables_failed, Ends, finished, read_failed, write_failed, no_memory, IsWritten, whole, failed, no_room, NamedRunOwes, long, fits}
 use Rattle.tpal_tool.specs.Owed as owed
 use Rattle.tpal_tool.specs.Shelf.{HasRisen}
 use Rattle.tpal_tool.specs.Sink.{Appended}
 use Rattle.tpal_tool.specs.Verdict.{Refuses, Accepts, RefusesOnly, AcceptsOnly}
-use Rattle.tpal_tool.specs.Words.{Command, Run, Compile, program_name, tables_name}
+use Rattle.tpal_tool.specs.Words.{Options, Command, Run, Compile, program_name, tables_name}
 use Rattle.tpal_tool.proofs.TreeInputs.{missing_of_tree}
 use Rattle.loop_meaning.proofs.TreeMeanings.{meaning_of_tree}
 
@@ -79,16 +80,16 @@ pub compiled-owed : (told : List ℕ → Option (List ℕ)) (name source : List 
 compiled-owed told name source program status text is_source low only is compiles =
     (source, [], texts_of (Some (Compile name)) told (Compile name) source [] refl (turned (told name) source is_source) refl, compiled refl low only is compiles)
 
-pub run-owed : (told : List ℕ → Option (List ℕ)) (name source : List ℕ) (over : Option (List ℕ)) (fuel : ℕ) (program : Program) (status : Status) (text : List ℕ) → IfSome (told name) (λ t. source ≡ t) → length source ≤ MAX_SOURCE_BYTES → AcceptsOnly source program → NamedRunOwes program told over fuel status text → Owed (Some (Run name over fuel)) told status text
-run-owed told name source over fuel program status text is_source low only (long {name = other} over_is is_long is text_is) =
+pub run-owed : (told : List ℕ → Option (List ℕ)) (name source : List ℕ) (over : Option (List ℕ)) (options : Options) (program : Program) (status : Status) (text : List ℕ) → IfSome (told name) (λ t. source ≡ t) → length source ≤ MAX_SOURCE_BYTES → AcceptsOnly source program → NamedRunOwes program told over options status text → Owed (Some (Run name over options)) told status text
+run-owed told name source over options program status text is_source low only (long {name = other} over_is is_long is text_is) =
     let tables : (t : List ℕ) × IfSome (told other) (λ told_text. told_text ≡ t) × (MAX_TABLES_BYTES < length t) = some_longer (told other) MAX_TABLES_BYTES is_long in (
       source,
       tables.0,
-      texts_of (Some (Run name over fuel)) told (Run name over fuel) source tables.0 refl (turned (told name) source is_source) (subst (λ (o : Option (List ℕ)). IsTables told o tables.0) (sym over_is) tables.1),
-      tables_too_long {name = name} {over = other} {fuel = fuel} (ap (λ o. Some (Run name o fuel)) over_is) low only tables.2 is text_is,
+      texts_of (Some (Run name over options)) told (Run name over options) source tables.0 refl (turned (told name) source is_source) (subst (λ (o : Option (List ℕ)). IsTables told o tables.0) (sym over_is) tables.1),
+      tables_too_long {name = name} {over = other} {options = options} (ap (λ o. Some (Run name o options)) over_is) low only tables.2 is text_is,
     )
-run-owed told name source over fuel program status text is_source low only (fits tables is_tables few owes) =
-    (source, tables, texts_of (Some (Run name over fuel)) told (Run name over fuel) source tables refl (turned (told name) source is_source) is_tables, owed.ran {name = name} {over = over} {fuel = fuel} refl low only few owes)
+run-owed told name source over options program status text is_source low only (fits tables is_tables few owes) =
+    (source, tables, texts_of (Some (Run name over options)) told (Run name over options) source tables refl (turned (told name) source is_source) is_tables, owed.ran {name = name} {over = over} {options = options} refl low only few owes)
 
 -- ---- faults of reading
 
@@ -97,9 +98,9 @@ risen_from : (old mid new : ℕ) → old ≤ mid → HasRisen mid new → HasRis
 risen_from old mid new more (inl above) = inl (omega (arith, more, above))
 risen_from old mid new more (inr last) = inr last
 
-pub tables-failed : (told : List ℕ → Option (List ℕ)) (name source : List ℕ) (over : Option (List ℕ)) (fuel : ℕ) (program : Program) (reads reads' : List ℕ → ℕ) → IfSome (told name) (λ t. source ≡ t) → length source ≤ MAX_SOURCE_BYTES → AcceptsOnly source program → IsSomeAnd over (λ n. HasRisen (reads n) (reads' n)) → ReadFailed (Some (Run name over fuel)) told reads reads'
+pub tables-failed : (told : List ℕ → Option (List ℕ)) (name source : List ℕ) (over : Option (List ℕ)) (options : Options) (program : Program) (reads reads' : List ℕ → ℕ) → IfSome (told name) (λ t. source ≡ t) → length source ≤ MAX_SOURCE_BYTES → AcceptsOnly source program → IsSomeAnd over (λ n. HasRisen (reads n) (reads' n)) → ReadFailed (Some (Run name over options)) told reads reads'
 tables-failed told name source None fuel program reads reads' is_source low only never = elim never [ ]
-tables-failed told name source (Some over) fuel program reads reads' is_source low only risen = tables_failed refl source (turned (told name) source is_source) low only risen
+tables-failed told name source (Some over) options program reads reads' is_source low only risen = tables_failed refl source (turned (told name) source is_source) low only risen
 
 -- a fault behind a fetch that told what was told before
 pub later-failed : (wanted : Option Command) (told told' : List ℕ → Option (List ℕ)) (old mid new : List ℕ → ℕ) → ((name : List ℕ) → told' name ≡ told name) → ((name : List ℕ) → old name ≤ mid name) → ReadFailed wanted told' mid new → ReadFailed wanted told old new
@@ -118,10 +119,11 @@ final-by_stop stops.Done = tt
 final-by_stop (stops.Trap kind place) = tt
 final-by_stop stops.NoFuel = tt
 
-RunOwes-final : {program : Program} {tables : List ℕ} {fuel : ℕ} {status : Status} {text : List ℕ} → RunOwes program tables fuel status text → IsFinal status
+RunOwes-final : {program : Program} {tables : List ℕ} {options : Options} {status : Status} {text : List ℕ} → RunOwes program tables options status text → IsFinal status
 RunOwes-final (faulty_tables fault first is text_is) = final is tt
 RunOwes-final (missing inputs name are misses is text_is) = final is tt
-RunOwes-final {program = program} {fuel = fuel} (ran inputs are complete is text_is) = final is (final-by_stop (meaning program inputs fuel).stop)
+RunOwes-final {program = program} {options = options} (ran inputs are complete is plain text_is) = final is (final-by_stop (meaning program inputs options.fuel).stop)
+RunOwes-final {program = program} {options = options} (shown inputs are complete is show shows) = final is (final-by_stop (meaning program inputs options.fuel).stop)
 
 Owes-final : {wanted : Option Command} {source tables : List ℕ} {status : Status} {text : List ℕ} → Owes wanted source tables status text → IsFinal status
 Owes-final (bad_words none is text_is) = final is tt
@@ -167,15 +169,15 @@ read_fault-failed wanted told reads reads' old new writes writes' status (no_mem
 -- ---- what a call wrote that came to its end
 
 abbrev over_of_run : Option (List ℕ) → Command → Option (List ℕ)
-over_of_run other (Run name over fuel) = over
+over_of_run other (Run name over options) = over
 over_of_run other (Compile name) = other
 
-abbrev fuel_of_run : ℕ → Command → ℕ
-fuel_of_run other (Run name over fuel) = fuel
-fuel_of_run other (Compile name) = other
+abbrev options_of_run : Options → Command → Options
+options_of_run other (Run name over options) = options
+options_of_run other (Compile name) = other
 
-run_no_compile : (name other : List ℕ) (over : Option (List ℕ)) (fuel : ℕ) → Run name over fuel ≡ Compile other → ⊥
-run_no_compile name other over fuel is = cc
+run_no_compile : (name other : List ℕ) (over : Option (List ℕ)) (options : Options) → Run name over options ≡ Compile other → ⊥
+run_no_compile name other over options is = cc
 
 -- a tables text is read in one way only
 pub record ReadOneWay : Type 0 where
@@ -188,30 +190,57 @@ missed_too : ReadOneWay → (p q : Program) (tables : List ℕ) (a b : List Tabl
 missed_too way p q tables a b same are are' =
     missing_of_tree p q a same ∙ ap (first_missing q.tables.items) (way.one_list tables a b are are')
 
--- what a run owes is one thing alone
-run_same : ReadOneWay → (p q : Program) (tables : List ℕ) (fuel : ℕ) (status status' : Status) (text text' : List ℕ) → program_of p ≡ program_of q → RunOwes p tables fuel status text → RunOwes q tables fuel status' text' → (status ≡ status') × (text ≡ text')
-run_same way p q tables fuel status status' text text' same (faulty_tables fault first is text_is) (faulty_tables fault' first' is' text_is') =
-    let one : fault ≡ fault' = way.one_fault tables fault fault' first first' in
-    (is ∙ sym is', text_is ∙ ap tables_line one ∙ sym text_is')
-run_same way p q tables fuel status status' text text' same (faulty_tables fault first is text_is) (missing inputs name are misses is' text_is') =
-    absurd (way.not_both tables inputs fault are first)
-run_same way p q tables fuel status status' text text' same (faulty_tables fault first is text_is) (ran inputs are complete is' text_is') =
-    absurd (way.not_both tables inputs fault are first)
-run_same way p q tables fuel status status' text text' same (missing inputs name are misses is text_is) (faulty_tables fault first is' text_is') =
-    absurd (way.not_both tables inputs fault are first)
-run_same way p q tables fuel status status' text text' same (missing inputs name are misses is text_is) (missing inputs' name' are' misses' is' text_is') =
-    let one : name ≡ name' = some_same (sym misses ∙ missed_too way p q tables inputs inputs' same are are' ∙ misses') in
-    (is ∙ sym is', text_is ∙ ap missing_line one ∙ sym text_is')
-run_same way p q tables fuel status status' text text' same (missing inputs name are misses is text_is) (ran inputs' are' complete is' text_is') =
+-- of one tables text, programs with one tree mean the same
+meant_same : ReadOneWay → (p q : Program) (tables : List ℕ) (fuel : ℕ) (a b : List Table) → program_of p ≡ program_of q → TablesOf tables a → TablesOf tables b → meaning q b fuel ≡ meaning p a fuel
+meant_same way p q tables fuel a b same are are' =
+    sym (meaning_of_tree p q a fuel same ∙ ap (λ list. meaning q list fuel) (way.one_list tables a b are are'))
+
+no_show : {P : Type 0} {show : Bool} → show ≡ true → show ≡ false → P
+no_show shows plain = absurd (false≢true (sym plain ∙ shows))
+
+-- over a tables text with a fault a run owes that fault's line
+faulty_is : ReadOneWay → (q : Program) (tables : List ℕ) (options : Options) (fault : TableFault) (status : Status) (text : List ℕ) → FirstTableFault tables fault → RunOwes q tables options status text → (status ≡ Refused) × (text ≡ tables_line fault)
+faulty_is way q tables options fault status text first (faulty_tables other also is text_is) = (is, text_is ∙ ap tables_line (way.one_fault tables other fault also first))
+faulty_is way q tables options fault status text first (missing inputs name are misses is text_is) = absurd (way.not_both tables inputs fault are first)
+faulty_is way q tables options fault status text first (ran inputs are complete is plain text_is) = absurd (way.not_both tables inputs fault are first)
+faulty_is way q tables options fault status text first (shown inputs are complete is show shows) = absurd (way.not_both tables inputs fault are first)
+
+-- where an input is missing, a run owes its line
+missing_is : ReadOneWay → (p q : Program) (tables : List ℕ) (options : Options) (inputs : List Table) (name : List ℕ) (status : Status) (text : List ℕ) → program_of p ≡ program_of q → TablesOf tables inputs → first_missing p.tables.items inputs ≡ Some name → RunOwes q tables options status text → (status ≡ Refused) × (text ≡ missing_line name)
+missing_is way p q tables options inputs name status text same are misses (faulty_tables fault first is text_is) = absurd (way.not_both tables inputs fault are first)
+missing_is way p q tables options inputs name status text same are misses (missing inputs' name' are' misses' is text_is) =
+    let one : name' ≡ name = some_same (sym misses' ∙ sym (missed_too way p q tables inputs inputs' same are are') ∙ misses) in
+    (is, text_is ∙ ap missing_line one)
+missing_is way p q tables options inputs name status text same are misses (ran inputs' are' complete is plain text_is) =
     absurd (some_none (sym complete ∙ sym (missed_too way p q tables inputs inputs' same are are') ∙ misses))
-run_same way p q tables fuel status status' text text' same (ran inputs are complete is text_is) (faulty_tables fault first is' text_is') =
-    absurd (way.not_both tables inputs fault are first)
-run_same way p q tables fuel status status' text text' same (ran inputs are complete is text_is) (missing inputs' name are' misses is' text_is') =
+missing_is way p q tables options inputs name status text same are misses (shown inputs' are' complete is show shows) =
+    absurd (some_none (sym complete ∙ sym (missed_too way p q tables inputs inputs' same are are') ∙ misses))
+
+-- where none is, a run owes the status of the meaning, and its text where it isn't shown
+ran_is : ReadOneWay → (p q : Program) (tables : List ℕ) (options : Options) (inputs : List Table) (status : Status) (text : List ℕ) → program_of p ≡ program_of q → TablesOf tables inputs → first_missing p.tables.items inputs ≡ None → RunOwes q tables options status text → (status ≡ status_of Done Trap OutOfFuel (meaning p inputs options.fuel)) × (options.show ≡ false → text ≡ text_of (meaning p inputs options.fuel))
+ran_is way p q tables options inputs status text same are complete (faulty_tables fault first is text_is) = absurd (way.not_both tables inputs fault are first)
+ran_is way p q tables options inputs status text same are complete (missing inputs' name are' misses is text_is) =
     absurd (some_none (sym complete ∙ missed_too way p q tables inputs inputs' same are are' ∙ misses))
-run_same way p q tables fuel status status' text text' same (ran inputs are complete is text_is) (ran inputs' are' complete' is' text_is') =
-    let one : inputs ≡ inputs' = way.one_list tables inputs inputs' are are' in
-    let meant : meaning p inputs fuel ≡ meaning q inputs' fuel = meaning_of_tree p q inputs fuel same ∙ ap (λ list. meaning q list fuel) one in
-    (is ∙ ap (status_of Done Trap OutOfFuel) meant ∙ sym is', text_is ∙ ap text_of meant ∙ sym text_is')
+ran_is way p q tables options inputs status text same are complete (ran inputs' are' complete' is plain text_is) =
+    let meant = meant_same way p q tables options.fuel inputs inputs' same are are' in
+    (is ∙ ap (status_of Done Trap OutOfFuel) meant, λ _. text_is ∙ ap text_of meant)
+ran_is way p q tables options inputs status text same are complete (shown inputs' are' complete' is show shows) =
+    (is ∙ ap (status_of Done Trap OutOfFuel) (meant_same way p q tables options.fuel inputs inputs' same are are'), λ plain. no_show show plain)
+
+-- what a run owes is one status alone, and one text where it isn't shown
+run_same : ReadOneWay → (p q : Program) (tables : List ℕ) (options : Options) (status status' : Status) (text text' : List ℕ) → program_of p ≡ program_of q → RunOwes p tables options status text → RunOwes q tables options status' text' → (status ≡ status') × (options.show ≡ false → text ≡ text')
+run_same way p q tables options status status' text text' same (faulty_tables fault first is text_is) other =
+    let one = faulty_is way q tables options fault status' text' first other in
+    (is ∙ sym one.0, λ _. text_is ∙ sym one.1)
+run_same way p q tables options status status' text text' same (missing inputs name are misses is text_is) other =
+    let one = missing_is way p q tables options inputs name status' text' same are misses other in
+    (is ∙ sym one.0, λ _. text_is ∙ sym one.1)
+run_same way p q tables options status status' text text' same (ran inputs are complete is plain text_is) other =
+    let one = ran_is way p q tables options inputs status' text' same are complete other in
+    (is ∙ sym one.0, λ none. text_is ∙ sym (one.1 none))
+run_same way p q tables options status status' text text' same (shown inputs are complete is show shows) other =
+    let one = ran_is way p q tables options inputs status' text' same are complete other in
+    (is ∙ sym one.0, λ plain. no_show show plain)
 
 module _ (wanted : Option Command) (told : List ℕ → Option (List ℕ)) (old new : Option (List ℕ)) (status : Status) where
   -- the told text of the program's name is the source
@@ -268,41 +297,48 @@ module _ (wanted : Option Command) (told : List ℕ → Option (List ℕ)) (old 
       by (too_long also over_it is text_is) = absurd (omega (arith, under, over_it))
       by (refused also low only is) = absurd (only.not_accepted program (accepted_here source f.source program same accepts))
       by (compiled also low only is compiles) = is
-      by (tables_too_long {name = other} {over = over} {fuel = fuel} also low only _ is text_is) = absurd (run_no_compile other name (Some over) fuel (some_same (sym also ∙ asked_is)))
-      by (owed.ran {name = other} {over = over} {fuel = fuel} also low only few owes) = absurd (run_no_compile other name over fuel (some_same (sym also ∙ asked_is)))
+      by (tables_too_long {name = other} {over = over} {options = options} also low only _ is text_is) = absurd (run_no_compile other name (Some over) options (some_same (sym also ∙ asked_is)))
+      by (owed.ran {name = other} {over = over} {options = options} also low only few owes) = absurd (run_no_compile other name over options (some_same (sym also ∙ asked_is)))
 
   -- a run whose tables text is too long
-  pub finished-tables_too_long : (f : Finished wanted told old new status) (name over source tables : List ℕ) (fuel : ℕ) (program : Program) → wanted ≡ Some (Run name (Some over) fuel) → told name ≡ Some source → length source ≤ MAX_SOURCE_BYTES → Accepts source program → told over ≡ Some tables → MAX_TABLES_BYTES < length tables → (status ≡ Refused) × Appended old new (too_long_line over)
-  finished-tables_too_long f name over source tables fuel program asked_is told_is fits_it accepts tables_told is_long = by f.owed f.written
+  pub finished-tables_too_long : (f : Finished wanted told old new status) (name over source tables : List ℕ) (options : Options) (program : Program) → wanted ≡ Some (Run name (Some over) options) → told name ≡ Some source → length source ≤ MAX_SOURCE_BYTES → Accepts source program → told over ≡ Some tables → MAX_TABLES_BYTES < length tables → (status ≡ Refused) × Appended old new (too_long_line over)
+  finished-tables_too_long f name over source tables options program asked_is told_is fits_it accepts tables_told is_long = by f.owed f.written
     where
       same : source ≡ f.source
-      same = source_same f (Run name (Some over) fuel) source asked_is told_is
+      same = source_same f (Run name (Some over) options) source asked_is told_is
 
       under : length f.source ≤ MAX_SOURCE_BYTES
       under = subst (λ (s : List ℕ). length s ≤ MAX_SOURCE_BYTES) same fits_it
 
       over_it : MAX_TABLES_BYTES < length f.tables
-      over_it = subst (λ (t : List ℕ). MAX_TABLES_BYTES < length t) (tables_same f (Run name (Some over) fuel) (Some over) tables asked_is refl tables_told) is_long
+      over_it = subst (λ (t : List ℕ). MAX_TABLES_BYTES < length t) (tables_same f (Run name (Some over) options) (Some over) tables asked_is refl tables_told) is_long
 
       by : {text : List ℕ} → Owes wanted f.source f.tables status text → Appended old new text → (status ≡ Refused) × Appended old new (too_long_line over)
       by (bad_words none is text_is) appended = absurd (some_none (sym none ∙ asked_is))
       by (too_long also beyond is text_is) appended = absurd (omega (arith, under, beyond))
       by (refused also low only is) appended = absurd (only.not_accepted program (accepted_here source f.source program same accepts))
-      by (compiled {name = other} also low only is compiles) appended = absurd (run_no_compile name other (Some over) fuel (some_same (sym asked_is ∙ also)))
+      by (compiled {name = other} also low only is compiles) appended = absurd (run_no_compile name other (Some over) options (some_same (sym asked_is ∙ also)))
       by (tables_too_long {over = other} also low only _ is text_is) appended =
           let one : other ≡ over = some_same (ap (over_of_run None) (some_same (sym also ∙ asked_is))) in
           (is, wrote (text_is ∙ ap too_long_line one) appended)
       by (owed.ran also low only few owes) appended = absurd (omega (arith, few, over_it))
 
-  -- a run over a tables text that isn't too long
-  pub finished-ran : ReadOneWay → (f : Finished wanted told old new status) (name source tables text : List ℕ) (over : Option (List ℕ)) (fuel : ℕ) (program : Program) (other : Status) → wanted ≡ Some (Run name over fuel) → told name ≡ Some source → length source ≤ MAX_SOURCE_BYTES → Accepts source program → IsToldTables told over tables → length tables ≤ MAX_TABLES_BYTES → RunOwes program tables fuel other text → (status ≡ other) × Appended old new text
-  finished-ran way f name source tables text over fuel program other asked_is told_is fits_it accepts tables_told few_it owes_it = by f.owed f.written
+  -- what a call owed that came to its end, of a run over a tables text that isn't too long
+  pub record RunOf (program : Program) (tables : List ℕ) (options : Options) : Type 0 where
+    pub run : Program
+    pub tree : program_of program ≡ program_of run
+    pub text : List ℕ
+    pub owes : RunOwes run tables options status text
+    pub written : Appended old new text
+
+  pub finished-run : (f : Finished wanted told old new status) (name source tables : List ℕ) (over : Option (List ℕ)) (options : Options) (program : Program) → wanted ≡ Some (Run name over options) → told name ≡ Some source → length source ≤ MAX_SOURCE_BYTES → Accepts source program → IsToldTables told over tables → length tables ≤ MAX_TABLES_BYTES → RunOf program tables options
+  finished-run f name source tables over options program asked_is told_is fits_it accepts tables_told few_it = by f.owed f.written
     where
       same : source ≡ f.source
-      same = source_same f (Run name over fuel) source asked_is told_is
+      same = source_same f (Run name over options) source asked_is told_is
 
       tables_is : tables ≡ f.tables
-      tables_is = tables_same f (Run name over fuel) over tables asked_is refl tables_told
+      tables_is = tables_same f (Run name over options) over tables asked_is refl tables_told
 
       under : length f.source ≤ MAX_SOURCE_BYTES
       under = subst (λ (s : List ℕ). length s ≤ MAX_SOURCE_BYTES) same fits_it
@@ -313,21 +349,44 @@ module _ (wanted : Option Command) (told : List ℕ → Option (List ℕ)) (old 
       accepts_here : Accepts f.source program
       accepts_here = accepted_here source f.source program same accepts
 
-      owes_here : RunOwes program f.tables fuel other text
-      owes_here = subst (λ (t : List ℕ). RunOwes program t fuel other text) tables_is owes_it
-
-      by : {mine : List ℕ} → Owes wanted f.source f.tables status mine → Appended old new mine → (status ≡ other) × Appended old new text
+      by : {mine : List ℕ} → Owes wanted f.source f.tables status mine → Appended old new mine → RunOf program tables options
       by (bad_words none is text_is) appended = absurd (some_none (sym none ∙ asked_is))
       by (too_long also beyond is text_is) appended = absurd (omega (arith, under, beyond))
       by (refused also low only is) appended = absurd (only.not_accepted program accepts_here)
-      by (compiled {name = compiled_name} also low only is compiles) appended = absurd (run_no_compile name compiled_name over fuel (some_same (sym asked_is ∙ also)))
+      by (compiled {name = compiled_name} also low only is compiles) appended = absurd (run_no_compile name compiled_name over options (some_same (sym asked_is ∙ also)))
       by (tables_too_long also low only beyond is text_is) appended = absurd (omega (arith, few_here, beyond))
-      by {mine = mine} (owed.ran {over = over'} {fuel = fuel'} {program = q} also low only few owes) appended =
-          let fuel_is : fuel' ≡ fuel = ap (fuel_of_run 0) (some_same (sym also ∙ asked_is)) in
-          let tree : program_of program ≡ program_of q = only.one_program program accepts_here in
-          let mine_owes : RunOwes q f.tables fuel status mine = subst (λ (n : ℕ). RunOwes q f.tables n status mine) fuel_is owes in
-          let one : (other ≡ status) × (text ≡ mine) = run_same way program q f.tables fuel other status text mine tree owes_here mine_owes in
-          (sym one.0, wrote (sym one.1) appended)
+      by {mine = mine} (owed.ran {over = over'} {options = options'} {program = q} also low only few owes) appended =
+          let options_is : options' ≡ options = ap (options_of_run options) (some_same (sym also ∙ asked_is)) in
+          record {
+            run = q;
+            tree = only.one_program program accepts_here;
+            text = mine;
+            owes = subst (λ (t : List ℕ). RunOwes q t options status mine) (sym tables_is) (subst (λ (o : Options). RunOwes q f.tables o status mine) options_is owes);
+            written = appended;
+          }
+
+  -- a run whose tables text has a fault
+  pub finished-faulty : ReadOneWay → (program : Program) (tables : List ℕ) (options : Options) (fault : TableFault) → FirstTableFault tables fault → RunOf program tables options → (status ≡ Refused) × Appended old new (tables_line fault)
+  finished-faulty way program tables options fault first r =
+      let one = faulty_is way r.run tables options fault status r.text first r.owes in
+      (one.0, wrote one.1 r.written)
+
+  -- a run that misses an input
+  pub finished-missing : ReadOneWay → (program : Program) (tables : List ℕ) (options : Options) (inputs : List Table) (name : List ℕ) → TablesOf tables inputs → first_missing program.tables.items inputs ≡ Some name → RunOf program tables options → (status ≡ Refused) × Appended old new (missing_line name)
+  finished-missing way program tables options inputs name are misses r =
+      let one = missing_is way program r.run tables options inputs name status r.text r.tree are misses r.owes in
+      (one.0, wrote one.1 r.written)
+
+  -- a run ends with the one status that it owes, and with the one text where it isn't shown
+  pub finished-ran : ReadOneWay → (program : Program) (tables : List ℕ) (options : Options) (other : Status) (text : List ℕ) → RunOwes program tables options other text → RunOf program tables options → (status ≡ other) × (options.show ≡ false → Appended old new text)
+  finished-ran way program tables options other text owes r =
+      let one = run_same way program r.run tables options other status text r.text r.tree owes r.owes in
+      (sym one.0, λ plain. wrote (sym (one.1 plain)) r.written)
+
+  -- a run over tables that are complete ends as the program's meaning does
+  pub finished-status : ReadOneWay → (program : Program) (tables : List ℕ) (options : Options) (inputs : List Table) → TablesOf tables inputs → first_missing program.tables.items inputs ≡ None → RunOf program tables options → status ≡ status_of Done Trap OutOfFuel (meaning program inputs options.fuel)
+  finished-status way program tables options inputs are complete r =
+      (ran_is way program r.run tables options inputs status r.text r.tree are complete r.owes).0
 
 -- ---- calls that meet no fault
 
@@ -338,20 +397,19 @@ module _ (wanted : Option Command) (told : List ℕ → Option (List ℕ)) (read
   unhurt command asked_is no_read no_write (read_failed is (program_failed {command = other} also risen) silent) =
       let same : other ≡ command = some_same (sym also ∙ asked_is) in
       absurd (no_read (program_name other) (inl (ap program_name same)) risen)
-  unhurt command asked_is no_read no_write (read_failed is (tables_failed {name = name} {over = over} {fuel = fuel} also source is_source low only risen) silent) =
-      let same : Run name (Some over) fuel ≡ command = some_same (sym also ∙ asked_is) in
+  unhurt command asked_is no_read no_write (read_failed is (tables_failed {name = name} {over = over} {options = options} also source is_source low only risen) silent) =
+      let same : Run name (Some over) options ≡ command = some_same (sym also ∙ asked_is) in
       absurd (no_read over (inr (ap tables_name (sym same))) risen)
   unhurt command asked_is no_read no_write (write_failed is risen cut) = absurd (no_write risen)
   unhurt command asked_is no_read no_write (no_memory is cut) = inr is
 
-  pub runs-ends : ReadOneWay → Ends wanted told reads reads' old new writes writes' status → (name source tables : List ℕ) (over : Option (List ℕ)) (fuel : ℕ) (program : Program) (inputs : List Table) → wanted ≡ Some (Run name over fuel) → told name ≡ Some source → length source ≤ MAX_SOURCE_BYTES → Accepts source program → IsToldTables told over tables → length tables ≤ MAX_TABLES_BYTES → TablesOf tables inputs → first_missing program.tables.items inputs ≡ None → ((read : List ℕ) → Names (Run name over fuel) read → HasRisen (reads read) (reads' read) → ⊥) → (HasRisen writes writes' → ⊥) → (status ≡ status_of Done Trap OutOfFuel (meaning program inputs fuel)) ⊎ (status ≡ NoMemory)
-  runs-ends way ends name source tables over fuel program inputs asked_is told_is fits_it accepts tables_told few are complete no_read no_write =
-      by (unhurt (Run name over fuel) asked_is no_read no_write ends)
+  pub runs-ends : ReadOneWay → Ends wanted told reads reads' old new writes writes' status → (name source tables : List ℕ) (over : Option (List ℕ)) (options : Options) (program : Program) (inputs : List Table) → wanted ≡ Some (Run name over options) → told name ≡ Some source → length source ≤ MAX_SOURCE_BYTES → Accepts source program → IsToldTables told over tables → length tables ≤ MAX_TABLES_BYTES → TablesOf tables inputs → first_missing program.tables.items inputs ≡ None → ((read : List ℕ) → Names (Run name over options) read → HasRisen (reads read) (reads' read) → ⊥) → (HasRisen writes writes' → ⊥) → (status ≡ status_of Done Trap OutOfFuel (meaning program inputs options.fuel)) ⊎ (status ≡ NoMemory)
+  runs-ends way ends name source tables over options program inputs asked_is told_is fits_it accepts tables_told few are complete no_read no_write =
+      by (unhurt (Run name over options) asked_is no_read no_write ends)
     where
-      by : (Finished wanted told old new status) ⊎ (status ≡ NoMemory) → (status ≡ status_of Done Trap OutOfFuel (meaning program inputs fuel)) ⊎ (status ≡ NoMemory)
+      by : (Finished wanted told old new status) ⊎ (status ≡ NoMemory) → (status ≡ status_of Done Trap OutOfFuel (meaning program inputs options.fuel)) ⊎ (status ≡ NoMemory)
       by (inl f) =
-          let owes : RunOwes program tables fuel (status_of Done Trap OutOfFuel (meaning program inputs fuel)) (text_of (meaning program inputs fuel)) = ran inputs are complete refl refl in
-          inl (finished-ran wanted told old new status way f name source tables _ over fuel program _ asked_is told_is fits_it accepts tables_told few owes).0
+          inl (finished-status wanted told old new status way program tables options inputs are complete (finished-run wanted told old new status f name source tables over options program asked_is told_is fits_it accepts tables_told few))
       by (inr is) = inr is
 
   pub compiles-ends : Ends wanted told reads reads' old new writes writes' status → (name source : List ℕ) (program : Program) → wanted ≡ Some (Compile name) → told name ≡ Some source → length source ≤ MAX_SOURCE_BYTES → Accepts source program → (HasRisen (reads name) (reads' name) → ⊥) → (HasRisen writes writes' → ⊥) → (status ≡ Done) ⊎ (status ≡ NoMemory)

@@ -1,13 +1,13 @@
 -- a text appended, or the first bytes of it, and then another
 pub mod Appending
+-- three texts that are written, one behind the other
+pub mod ThreeTexts
 -- a text that is written piece by piece
 pub mod Pieces
--- a task that was given no join record is given none by its own steps
-pub mod Unrecorded
--- the steps of a task to its end, and turns of so many steps
-pub mod CountedSteps
 -- how a call ends
 pub mod Endings
+-- why a part of a call halts, and why the whole does
+pub mod Halting
 -- the number of blocks that a program is counted with, by its tree alone
 pub mod TreeBlocks
 -- the inputs that a program misses, by its tree alone

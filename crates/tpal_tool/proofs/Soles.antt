@@ -1,6 +1,6 @@
 -- A source text comes to one thing alone.
-use Rattle.std.proofs.Common.{◌≡◌, ◌≢◌, ◌<◌, ◌≤◌, ℕ, List, ap, sym, ◌∙◌, subst, arith}
-use Rattle.std.specs.Prelude.{Some, None, Ok, Err, unwrap_or}
+use Rattle.std.proofs.Common.{◌≡◌, ◌≢◌, ◌<◌, ◌≤◌, ℕ, List, ap, sym, ◌∙◌, arith}
+use Rattle.std.specs.Prelude.{Ok, Err}
 use Rattle.tp_value.specs.declared.limits.TheConstants.{MAX_BLOCKS}
 use Rattle.tp_value.specs.declared.values.Place.{Place}
 use Rattle.loop_lex.specs.declared.token.Token.{Token}
@@ -10,11 +10,9 @@ use Rattle.loop_lex.specs.Lexical as lexical
 use Rattle.loop_syntax.specs.declared.program.Program.{Program}
 use Rattle.loop_syntax.specs.Tree.{ProgramTree, program_of}
 use Rattle.loop_parse.specs.Text.{Reads, TextFault, Byte, Range, Form, Deep, FirstTextFault, byte, range, form, deep, IsOnlyFault}
-use Rattle.tpal_tool.specs.declared.lines.SourceFault.{SourceFault}
-use Rattle.tpal_tool.specs.declared.lines.SourceFault.TheVariants as faults
-use Rattle.tpal_tool.specs.declared.reading.Reading.TheVariants.{Fault}
+use Rattle.tpal_tool.specs.declared.refusal.SourceFault.{SourceFault}
 use Rattle.tpal_tool.specs.Lines.{blocks_line, fault_line, fault_of, parallel_line, rule_line}
-use Rattle.tpal_tool.specs.Reading.{lexing_of, IsOnlyReading, ReadsAs}
+use Rattle.tpal_tool.specs.Reading.{ReadsAs}
 use Rattle.tpal_tool.specs.Verdict.{Refuses, faulty, broken, broken_parallel, too_many_blocks, RefusesOnly, AcceptsOnly}
 use Rattle.loop_rules.specs.Resolving.{IsFirstBroken}
 use Rattle.loop_rules.specs.Unbroken.{IsResolved}
@@ -60,12 +58,6 @@ range_first source p only (Deep q) (deep tokens lexed fault) = absurd (no_tokens
 no_tree : (source : List ℕ) (fault : LexFault) → lexical.IsOnlyReading source (Err fault) → (program : ProgramTree) → Reads source program → ⊥
 no_tree source fault only program reads = no_tokens reads.tokens fault (only (Ok reads.tokens) reads.lexed)
 
-some_fault : (a b : LexFault) → Some a ≡ Some b → a ≡ b
-some_fault a b is = ap (λ o. unwrap_or o a) is
-
-none_fault : (b : LexFault) → None ≡ Some b → ⊥
-none_fault b is = cc
-
 real_byte : (p : Place) → lexing.Byte p ≢ lexing.NoMemory
 real_byte p is = cc
 
@@ -73,21 +65,11 @@ real_range : (p : Place) → lexing.Range p ≢ lexing.NoMemory
 real_range p is = cc
 
 -- the lexer's fault is the first of the text, and the only one
-pub lexing-reads : (source : List ℕ) (found : SourceFault) (fault : LexFault) → lexing_of found ≡ Some fault → lexical.IsCause source fault → FirstTextFault source (fault_of found)
-lexing-reads source (faults.Byte p) fault is cause = byte (subst (λ (f : LexFault). lexical.IsCause source f) (sym (some_fault _ _ is)) cause)
-lexing-reads source (faults.Range p) fault is cause = range (subst (λ (f : LexFault). lexical.IsCause source f) (sym (some_fault _ _ is)) cause)
-lexing-reads source (faults.Form p) fault is cause = absurd (none_fault fault is)
-lexing-reads source (faults.Deep p) fault is cause = absurd (none_fault fault is)
+pub byte-only : (source : List ℕ) (p : Place) → (lexing.Byte p ≢ lexing.NoMemory → lexical.IsOnlyReading source (Err (lexing.Byte p))) → IsOnlyFault source (Byte p)
+byte-only source p only = (byte_first source p (only (real_byte p)), no_tree source (lexing.Byte p) (only (real_byte p)))
 
-pub lexing-alone : (source : List ℕ) (found : SourceFault) (fault : LexFault) → lexing_of found ≡ Some fault → (fault ≢ lexing.NoMemory → lexical.IsOnlyReading source (Err fault)) → IsOnlyFault source (fault_of found)
-lexing-alone source (faults.Byte p) fault is only =
-    let alone : lexing.Byte p ≢ lexing.NoMemory → lexical.IsOnlyReading source (Err (lexing.Byte p)) = subst (λ (f : LexFault). f ≢ lexing.NoMemory → lexical.IsOnlyReading source (Err f)) (sym (some_fault _ _ is)) only in
-    (byte_first source p (alone (real_byte p)), no_tree source (lexing.Byte p) (alone (real_byte p)))
-lexing-alone source (faults.Range p) fault is only =
-    let alone : lexing.Range p ≢ lexing.NoMemory → lexical.IsOnlyReading source (Err (lexing.Range p)) = subst (λ (f : LexFault). f ≢ lexing.NoMemory → lexical.IsOnlyReading source (Err f)) (sym (some_fault _ _ is)) only in
-    (range_first source p (alone (real_range p)), no_tree source (lexing.Range p) (alone (real_range p)))
-lexing-alone source (faults.Form p) fault is only = absurd (none_fault fault is)
-lexing-alone source (faults.Deep p) fault is only = absurd (none_fault fault is)
+pub range-only : (source : List ℕ) (p : Place) → (lexing.Range p ≢ lexing.NoMemory → lexical.IsOnlyReading source (Err (lexing.Range p))) → IsOnlyFault source (Range p)
+range-only source p only = (range_first source p (only (real_range p)), no_tree source (lexing.Range p) (only (real_range p)))
 
 -- ---- verdicts
 
@@ -99,74 +81,74 @@ resolved_of p none = record { unbroken = λ r place u h. none.unbroken r place h
 pub accepted-only : (source : List ℕ) (p : Program) → ReadsAs source p → NoneBroken p → blocks_of_program p ≤ MAX_BLOCKS → AcceptsOnly source p
 accepted-only source p reads_as none few = record {
   accepts = record { reads = reads_as.0; unbroken = none; fits = few };
-  one_program = λ other a. reads_as.1.0 (program_of other) a.reads;
+  one_program = λ other a. reads_as.1 (program_of other) a.reads;
   not_refused = unrefused;
 }
   where
     unrefused : (line : List ℕ) → Refuses source line → ⊥
-    unrefused line (faulty fault first t) = reads_as.1.1 fault first
+    unrefused line (faulty fault first t) = reads_as.2 fault first
     unrefused line (broken program rule place reads first t) =
-        not_both p rule place (resolved_of p none) (first-tree program p rule place (reads_as.1.0 (program_of program) reads) first)
+        not_both p rule place (resolved_of p none) (first-tree program p rule place (reads_as.1 (program_of program) reads) first)
     unrefused line (broken_parallel program rule place reads resolved first t) =
-        parallels.not_both p rule place none (parallels.first-tree program p (reads_as.1.0 (program_of program) reads) rule place first)
+        parallels.not_both p rule place none (parallels.first-tree program p (reads_as.1 (program_of program) reads) rule place first)
     unrefused line (too_many_blocks program reads unbroken many t) =
-        omega (arith, few, many, blocks_of_tree program p (reads_as.1.0 (program_of program) reads))
+        omega (arith, few, many, blocks_of_tree program p (reads_as.1 (program_of program) reads))
 
 -- a program that breaks no rule, and whose code has too many blocks
 pub too_many-only : (source : List ℕ) (p : Program) (line : List ℕ) → ReadsAs source p → NoneBroken p → MAX_BLOCKS < blocks_of_program p → line ≡ blocks_line (blocks_of_program p) → RefusesOnly source line
 too_many-only source p line reads_as none many is = record {
   refuses = too_many_blocks p reads_as.0 none many is;
   one_line = one;
-  not_accepted = λ program a. omega (arith, many, a.fits, blocks_of_tree program p (reads_as.1.0 (program_of program) a.reads));
+  not_accepted = λ program a. omega (arith, many, a.fits, blocks_of_tree program p (reads_as.1 (program_of program) a.reads));
 }
   where
     one : (other : List ℕ) → Refuses source other → other ≡ line
-    one other (faulty fault first t) = absurd (reads_as.1.1 fault first)
+    one other (faulty fault first t) = absurd (reads_as.2 fault first)
     one other (broken program rule place reads first t) =
-        absurd (not_both p rule place (resolved_of p none) (first-tree program p rule place (reads_as.1.0 (program_of program) reads) first))
+        absurd (not_both p rule place (resolved_of p none) (first-tree program p rule place (reads_as.1 (program_of program) reads) first))
     one other (broken_parallel program rule place reads resolved first t) =
-        absurd (parallels.not_both p rule place none (parallels.first-tree program p (reads_as.1.0 (program_of program) reads) rule place first))
+        absurd (parallels.not_both p rule place none (parallels.first-tree program p (reads_as.1 (program_of program) reads) rule place first))
     one other (too_many_blocks program reads unbroken more t) =
-        t ∙ ap blocks_line (blocks_of_tree program p (reads_as.1.0 (program_of program) reads)) ∙ sym is
+        t ∙ ap blocks_line (blocks_of_tree program p (reads_as.1 (program_of program) reads)) ∙ sym is
 
 -- a program that breaks a rule on names, limits, output or variables of loops
 pub broken-only : (source : List ℕ) (p : Program) (rule : ℕ) (place : Place) (line : List ℕ) → ReadsAs source p → IsFirstBroken p rule place → line ≡ rule_line rule place → RefusesOnly source line
 broken-only source p rule place line reads_as first is = record {
   refuses = broken p rule place reads_as.0 first is;
   one_line = one;
-  not_accepted = λ program a. not_both p rule place (resolved-tree program p (reads_as.1.0 (program_of program) a.reads) (resolved_of program a.unbroken)) first;
+  not_accepted = λ program a. not_both p rule place (resolved-tree program p (reads_as.1 (program_of program) a.reads) (resolved_of program a.unbroken)) first;
 }
   where
     one : (other : List ℕ) → Refuses source other → other ≡ line
-    one other (faulty fault found t) = absurd (reads_as.1.1 fault found)
+    one other (faulty fault found t) = absurd (reads_as.2 fault found)
     one other (broken program rule' place' reads first' t) =
-        let same : (rule' ≡ rule) × (place' ≡ place) = firsts_agree p rule' rule place' place (first-tree program p rule' place' (reads_as.1.0 (program_of program) reads) first') first in
+        let same : (rule' ≡ rule) × (place' ≡ place) = firsts_agree p rule' rule place' place (first-tree program p rule' place' (reads_as.1 (program_of program) reads) first') first in
         t ∙ ap (λ n. rule_line n place') same.0 ∙ ap (rule_line rule) same.1 ∙ sym is
     one other (broken_parallel program rule' place' reads resolved first' t) =
-        absurd (not_both p rule place (resolved-tree program p (reads_as.1.0 (program_of program) reads) resolved) first)
+        absurd (not_both p rule place (resolved-tree program p (reads_as.1 (program_of program) reads) resolved) first)
     one other (too_many_blocks program reads none many t) =
-        absurd (not_both p rule place (resolved-tree program p (reads_as.1.0 (program_of program) reads) (resolved_of program none)) first)
+        absurd (not_both p rule place (resolved-tree program p (reads_as.1 (program_of program) reads) (resolved_of program none)) first)
 
 -- a program that breaks a rule on parallel loops, and none of those
 pub parallel-only : (source : List ℕ) (p : Program) (rule : ℕ) (place : Place) (line : List ℕ) → ReadsAs source p → IsResolved p → parallel.IsFirstBroken p rule place → line ≡ parallel_line rule place → RefusesOnly source line
 parallel-only source p rule place line reads_as resolved first is = record {
   refuses = broken_parallel p rule place reads_as.0 resolved first is;
   one_line = one;
-  not_accepted = λ program a. parallels.not_both p rule place (parallels.none-tree program p (reads_as.1.0 (program_of program) a.reads) a.unbroken) first;
+  not_accepted = λ program a. parallels.not_both p rule place (parallels.none-tree program p (reads_as.1 (program_of program) a.reads) a.unbroken) first;
 }
   where
     one : (other : List ℕ) → Refuses source other → other ≡ line
-    one other (faulty fault found t) = absurd (reads_as.1.1 fault found)
+    one other (faulty fault found t) = absurd (reads_as.2 fault found)
     one other (broken program rule' place' reads first' t) =
-        absurd (not_both p rule' place' resolved (first-tree program p rule' place' (reads_as.1.0 (program_of program) reads) first'))
+        absurd (not_both p rule' place' resolved (first-tree program p rule' place' (reads_as.1 (program_of program) reads) first'))
     one other (broken_parallel program rule' place' reads resolved' first' t) =
-        let same : (rule' ≡ rule) × (place' ≡ place) = parallels.firsts_agree p rule' rule place' place (parallels.first-tree program p (reads_as.1.0 (program_of program) reads) rule' place' first') first in
+        let same : (rule' ≡ rule) × (place' ≡ place) = parallels.firsts_agree p rule' rule place' place (parallels.first-tree program p (reads_as.1 (program_of program) reads) rule' place' first') first in
         t ∙ ap (λ n. parallel_line n place') same.0 ∙ ap (parallel_line rule) same.1 ∙ sym is
     one other (too_many_blocks program reads none many t) =
-        absurd (parallels.not_both p rule place (parallels.none-tree program p (reads_as.1.0 (program_of program) reads) none) first)
+        absurd (parallels.not_both p rule place (parallels.none-tree program p (reads_as.1 (program_of program) reads) none) first)
 
 -- a text with a fault
-pub faulty-only : (source : List ℕ) (fault : SourceFault) (line : List ℕ) → FirstTextFault source (fault_of fault) → IsOnlyReading source (Fault fault) → line ≡ fault_line (fault_of fault) → RefusesOnly source line
+pub faulty-only : (source : List ℕ) (fault : SourceFault) (line : List ℕ) → FirstTextFault source (fault_of fault) → IsOnlyFault source (fault_of fault) → line ≡ fault_line (fault_of fault) → RefusesOnly source line
 faulty-only source fault line first only is = record {
   refuses = faulty (fault_of fault) first is;
   one_line = one;

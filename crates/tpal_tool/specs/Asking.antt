@@ -2,34 +2,46 @@
 use Rattle.std.specs.Prelude.{option_map}
 use Rattle.tpal_tool.specs.declared.request.Request.{Request}
 use Rattle.tpal_tool.specs.declared.request.Request.TheVariants as asked
+use Rattle.tpal_tool.specs.declared.request.RunOptions.{RunOptions}
+use Rattle.tpal_tool.specs.declared.request.Chosen as request
 use Rattle.tpal_tool.specs.declared.request.Gathered.{Gathered}
 use Rattle.tpal_tool.specs.declared.words.WordKind.{WordKind}
 use Rattle.tpal_tool.specs.declared.words.WordKind.TheVariants as kind
 use Rattle.tpal_tool.specs.declared.words.NextWord.{NextWord}
 use Rattle.tpal_tool.specs.declared.words.NextWord.TheVariants as next
-use Rattle.tpal_tool.specs.Words.{Command, Run, Compile, Given, Kind, Positional, EndOfOptions}
-use Rattle.tpal_tool.specs.Words.{FuelNext, FuelIs, Unlisted, Due, AnyWord, FuelValue}
+use Rattle.tpal_tool.specs.Words.{Options, Command, Run, Compile, Chosen, Given}
+use Rattle.tpal_tool.specs.Words.{Kind, Positional, EndOfOptions, Show, ValueNext, ValueIs, Unlisted}
+use Rattle.tpal_tool.specs.Words.{Due, AnyWord, ValueOf}
+
+-- how a run goes
+abbrev pub options_seen : RunOptions → Options
+options_seen o = record { beat = o.beat; forks = o.forks; fuel = o.fuel; show = o.show }
 
 -- the command that a value stands for
 abbrev pub command_of : Request → Command
-command_of (asked.Run run) = Run run.program.now (option_map (λ t. t.now) run.tables) run.fuel
+command_of (asked.Run run) =
+    Run run.program.now (option_map (λ t. t.now) run.tables) (options_seen run.options)
 command_of (asked.Compile program) = Compile program.now
+
+abbrev pub chosen_of : request.Chosen → Chosen
+chosen_of c = record { beat = c.beat; forks = c.forks; fuel = c.fuel; show = c.show }
 
 abbrev pub given_of : Gathered → Given
 given_of g =
     record {
       program = option_map (λ t. t.now) g.program;
       tables = option_map (λ t. t.now) g.tables;
-      fuel = g.fuel;
+      options = chosen_of g.options;
     }
 
 abbrev pub kind_seen : WordKind → Kind
 kind_seen kind.Positional = Positional
 kind_seen kind.EndOfOptions = EndOfOptions
-kind_seen kind.FuelNext = FuelNext
-kind_seen (kind.FuelIs value) = FuelIs value.now
+kind_seen kind.Show = Show
+kind_seen (kind.ValueNext option) = ValueNext option
+kind_seen (kind.ValueIs option value) = ValueIs option value.now
 kind_seen kind.Unlisted = Unlisted
 
 abbrev pub due_of : NextWord → Due
 due_of next.Any = AnyWord
-due_of next.FuelValue = FuelValue
+due_of (next.ValueOf option) = ValueOf option

@@ -5,19 +5,19 @@ pub mod Shelf
 pub mod Sink
 -- the inputs of a program, and the tables that a tables text gives
 pub mod Inputs
--- the number of steps after which a task ends
-pub mod Steps
 -- the words of a call: what they ask for
 pub mod Words
 -- what contracts see of the words that were read
 pub mod Asking
--- the lines of refusals
+-- the lines of refusals, and that of a run's counts
 pub mod Lines
 -- what a source text comes to: a program, or a refusal
 pub mod Verdict
 -- what a call owes, and how it ends
 pub mod Owed
--- what the reader answers
+-- what a source text reads as
 pub mod Reading
+-- what the parts of a call answer: texts, a status, or why they halt
+pub mod Answering
 -- the numbers of statuses
 pub mod Statuses

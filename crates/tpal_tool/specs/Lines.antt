@@ -1,5 +1,5 @@
--- The lines that a call writes where it refuses.
-use Rattle.std.specs.Prelude.{ℕ, List, [], ◌∷◌, ◌++◌, codes}
+-- The lines that a call writes: where it refuses, and where it shows what a run counted.
+use Rattle.std.specs.Prelude.{ℕ, List, [], ◌∷◌, ◌++◌, codes, string_bytes}
 use Rattle.std.specs.Fmt.{decimal}
 use Rattle.tp_value.specs.declared.values.Place.{Place}
 use Rattle.loop_meaning.specs.Answers.{place_text}
@@ -7,8 +7,11 @@ use Rattle.table_text.specs.declared.fault.TableFault.{TableFault}
 use Rattle.table_text.specs.declared.fault.TableFault.TheVariants.{Form, Cells, Repeated, NoMemory}
 use Rattle.loop_parse.specs.Text as text
 use Rattle.loop_parse.specs.Text.{TextFault}
-use Rattle.tpal_tool.specs.declared.lines.SourceFault.{SourceFault}
-use Rattle.tpal_tool.specs.declared.lines.SourceFault.TheVariants as faults
+use Rattle.schedule_core.specs.declared.lanes.Tally.{Tally}
+use Rattle.tpal_tool.specs.declared.refusal.Refusal.{Refusal}
+use Rattle.tpal_tool.specs.declared.refusal.Refusal.TheVariants as refusals
+use Rattle.tpal_tool.specs.declared.refusal.SourceFault.{SourceFault}
+use Rattle.tpal_tool.specs.declared.refusal.SourceFault.TheVariants as faults
 
 -- a refusal with its code, at a place
 abbrev pub line_at : List ℕ → Place → List ℕ
@@ -62,3 +65,26 @@ missing_line name = codes "refused E13 input " ++ name ++ 10 ∷ []
 -- words that are not of the form
 abbrev pub bad_words_line : List ℕ
 bad_words_line = codes "bad words" ++ 10 ∷ []
+
+-- what is refused
+abbrev pub line_of : Refusal → List ℕ
+line_of refusals.Words = bad_words_line
+line_of (refusals.TooLong name) = too_long_line (string_bytes name)
+line_of (refusals.Source fault) = fault_line (fault_of fault)
+line_of (refusals.Rule rule place) = rule_line rule place
+line_of (refusals.Parallel rule place) = parallel_line rule place
+line_of (refusals.Blocks blocks) = blocks_line blocks
+line_of (refusals.Tables fault) = tables_line fault
+line_of (refusals.Missing name) = missing_line name.items
+
+-- the counts of a run, with the ticks of the program's meaning
+abbrev pub counts_line : Tally → ℕ → List ℕ
+counts_line tally ticks =
+    codes "tasks "
+    ++ (decimal tally.tasks
+    ++ (codes " beats "
+    ++ (decimal tally.beats
+    ++ (codes " skipped "
+    ++ (decimal tally.skipped
+    ++ (codes " instructions "
+    ++ (decimal tally.instructions ++ (codes " ticks " ++ (decimal ticks ++ 10 ∷ [])))))))))

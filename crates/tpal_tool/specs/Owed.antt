@@ -1,7 +1,9 @@
 -- What a call owes.
-use Rattle.std.specs.Prelude.{◌≡◌, ◌≢◌, ◌⊎◌, ℕ, ◌<◌, ◌≤◌, List, [], Option, Some, None, IfSome}
-use Rattle.std.specs.Prelude.{length}
+use Rattle.std.specs.Prelude.{◌≡◌, ◌≢◌, ◌⊎◌, ℕ, ◌+◌, ◌*◌, ◌<◌, ◌≤◌, true, false, List, [], ◌++◌}
+use Rattle.std.specs.Prelude.{length, Option, Some, None, IfSome}
+use Rattle.slices.specs.Holding.{Holding}
 use Rattle.tp_value.specs.declared.limits.TheConstants.{MAX_SOURCE_BYTES, MAX_TABLES_BYTES}
+use Rattle.tp_value.specs.declared.values.Outcome.{Outcome}
 use Rattle.tp_value.specs.declared.values.Table.{Table}
 use Rattle.loop_syntax.specs.declared.program.Program.{Program}
 use Rattle.loop_meaning.specs.Answers.{status_of, text_of}
@@ -10,40 +12,79 @@ use Rattle.table_text.specs.declared.fault.TableFault.{TableFault}
 use Rattle.table_text.specs.TablesText.{TablesOf, FirstTableFault}
 use Rattle.tpal_syntax.specs.Listing.{Listing}
 use Rattle.tpal_syntax.specs.Text.{CodeText}
-use Rattle.block_lower.specs.Owing.{OwesMeaning}
+use Rattle.tpal_machine.specs.State.{first_state}
+use Rattle.schedule_core.specs.declared.lanes.Tally.{Tally}
+use Rattle.schedule_core.specs.Solo.{SoloRun}
+use Rattle.block_lower.specs.Owing.{AreHeld, OwesMeaning}
 use Rattle.tpal_tool.specs.declared.status.Status.{Status}
 use Rattle.tpal_tool.specs.declared.status.Status.TheVariants.{Done, Trap, OutOfFuel, Refused}
 use Rattle.tpal_tool.specs.declared.status.Status.TheVariants.{NoMemory, ReadFault, WriteFault}
 use Rattle.tpal_tool.specs.declared.status.Status.TheVariants.{BadWords}
 use Rattle.tpal_tool.specs.Inputs.{first_missing}
-use Rattle.tpal_tool.specs.Lines.{bad_words_line, missing_line, tables_line, too_long_line}
+use Rattle.tpal_tool.specs.Lines.{bad_words_line, counts_line, missing_line, tables_line}
+use Rattle.tpal_tool.specs.Lines.{too_long_line}
 use Rattle.tpal_tool.specs.Shelf.{HasRisen}
 use Rattle.tpal_tool.specs.Sink.{Appended, PrefixAppended}
 use Rattle.tpal_tool.specs.Verdict.{RefusesOnly, AcceptsOnly}
-use Rattle.tpal_tool.specs.Words.{Command, Run, Compile, program_name, tables_name}
+use Rattle.tpal_tool.specs.Words.{Options, Command, Run, Compile, program_name, tables_name}
 
 -- ---- what a program owes
 
--- what a run of a program over a tables text owes, with so much fuel: this status, and this text
-pub data RunOwes (program : Program) (tables : List ℕ) (fuel : ℕ) (status : Status) (text : List ℕ)
-    : Type 0 where
+-- One worker alone ran a code from its first task, over these inputs, and came to this outcome with
+-- these counts. Each of its diversions made a task or was skipped, and so many instructions as the
+-- heartbeat were executed for each task.
+pub record RanAlone (program : Program) (code : Listing) (inputs : List Table) (options : Options)
+    (outcome : Outcome) (tally : Tally) : Type 0 where
+  pub holdings : List Holding
+  pub are_held : AreHeld program.tables.items inputs holdings
+  pub run : SoloRun code options.beat options.forks (first_state holdings options.fuel) outcome tally
+  pub beats : tally.tasks + tally.skipped ≡ tally.beats
+  pub paid : tally.tasks * options.beat ≤ tally.instructions
+
+-- the text of a code, then that of an outcome, and then the line of these counts
+pub record ShowsRun (code : Listing) (outcome : Outcome) (tally : Tally) (text : List ℕ) : Type 0 where
+  pub bytes : List ℕ
+  pub code_text : CodeText bytes code.tables code.blocks
+  pub whole : text ≡ bytes ++ text_of outcome ++ counts_line tally outcome.ticks
+
+-- the text of a run that is shown: a code whose first task owes the program's meaning, whatever is
+-- promoted, that meaning's output, and the counts of one worker alone that ran this code
+pub record Shows (program : Program) (inputs : List Table) (options : Options) (text : List ℕ) :
+    Type 0 where
+  pub code : Listing
+  pub owes : OwesMeaning program code
+  pub tally : Tally
+  pub ran : RanAlone program code inputs options (meaning program inputs options.fuel) tally
+  pub shows : ShowsRun code (meaning program inputs options.fuel) tally text
+
+-- what a run of a program over a tables text owes, with these options: this status, and this text
+pub data RunOwes (program : Program) (tables : List ℕ) (options : Options) (status : Status)
+    (text : List ℕ) : Type 0 where
   faulty_tables : (fault : TableFault)
       → FirstTableFault tables fault
       → status ≡ Refused
       → text ≡ tables_line fault →
-      RunOwes program tables fuel status text
+      RunOwes program tables options status text
   missing : (inputs : List Table) (name : List ℕ)
       → TablesOf tables inputs
       → first_missing program.tables.items inputs ≡ Some name →
-      status ≡ Refused → text ≡ missing_line name → RunOwes program tables fuel status text
+      status ≡ Refused → text ≡ missing_line name → RunOwes program tables options status text
   ran : (inputs : List Table)
       → TablesOf tables inputs
       → first_missing program.tables.items inputs ≡ None →
-      status ≡ status_of Done Trap OutOfFuel (meaning program inputs fuel)
-      → text ≡ text_of (meaning program inputs fuel) →
-      RunOwes program tables fuel status text
+      status ≡ status_of Done Trap OutOfFuel (meaning program inputs options.fuel)
+      → options.show ≡ false
+      → text ≡ text_of (meaning program inputs options.fuel) →
+      RunOwes program tables options status text
+  shown : (inputs : List Table)
+      → TablesOf tables inputs
+      → first_missing program.tables.items inputs ≡ None →
+      status ≡ status_of Done Trap OutOfFuel (meaning program inputs options.fuel)
+      → options.show ≡ true
+      → Shows program inputs options text →
+      RunOwes program tables options status text
 
--- the text is that of a code whose first task owes the program's meaning, where nothing is diverted
+-- the text is that of a code whose first task owes the program's meaning, whatever is promoted
 pub record CompilesTo (program : Program) (text : List ℕ) : Type 0 where
   pub code : Listing
   pub code_text : CodeText text code.tables code.blocks
@@ -75,18 +116,18 @@ pub data Owes (wanted : Option Command) (source tables : List ℕ) (status : Sta
       → status ≡ Done
       → CompilesTo program text
       → Owes wanted source tables status text
-  tables_too_long : {name over : List ℕ} {fuel : ℕ} {program : Program}
-      → wanted ≡ Some (Run name (Some over) fuel) →
+  tables_too_long : {name over : List ℕ} {options : Options} {program : Program}
+      → wanted ≡ Some (Run name (Some over) options) →
       length source ≤ MAX_SOURCE_BYTES
       → AcceptsOnly source program
       → MAX_TABLES_BYTES < length tables →
       status ≡ Refused → text ≡ too_long_line over → Owes wanted source tables status text
-  ran : {name : List ℕ} {over : Option (List ℕ)} {fuel : ℕ} {program : Program}
-      → wanted ≡ Some (Run name over fuel) →
+  ran : {name : List ℕ} {over : Option (List ℕ)} {options : Options} {program : Program}
+      → wanted ≡ Some (Run name over options) →
       length source ≤ MAX_SOURCE_BYTES
       → AcceptsOnly source program
       → length tables ≤ MAX_TABLES_BYTES →
-      RunOwes program tables fuel status text → Owes wanted source tables status text
+      RunOwes program tables options status text → Owes wanted source tables status text
 
 -- the tables text is that of the name, where it is told; without a name it is empty
 abbrev pub IsTables : (List ℕ → Option (List ℕ)) → Option (List ℕ) → List ℕ → Type 0
@@ -145,8 +186,8 @@ pub data ReadFailed (wanted : Option Command) (told : List ℕ → Option (List 
       → wanted ≡ Some command
       → HasRisen (old (program_name command)) (new (program_name command)) →
       ReadFailed wanted told old new
-  tables_failed : {name over : List ℕ} {fuel : ℕ} {program : Program}
-      → wanted ≡ Some (Run name (Some over) fuel) →
+  tables_failed : {name over : List ℕ} {options : Options} {program : Program}
+      → wanted ≡ Some (Run name (Some over) options) →
       (source : List ℕ)
       → IfSome (told name) (λ text. text ≡ source)
       → length source ≤ MAX_SOURCE_BYTES
@@ -211,10 +252,12 @@ Owed wanted told status text =
 
 -- what a run of a program owes over the tables text of a name, or over the empty one
 pub data NamedRunOwes (program : Program) (told : List ℕ → Option (List ℕ)) (over : Option (List ℕ))
-    (fuel : ℕ) (status : Status) (text : List ℕ) : Type 0 where
+    (options : Options) (status : Status) (text : List ℕ) : Type 0 where
   long : {name : List ℕ}
       → over ≡ Some name
       → IfSome (told name) (λ tables. MAX_TABLES_BYTES < length tables) →
-      status ≡ Refused → text ≡ too_long_line name → NamedRunOwes program told over fuel status text
+      status ≡ Refused → text ≡ too_long_line name →
+      NamedRunOwes program told over options status text
   fits : (tables : List ℕ) → IsTables told over tables → length tables ≤ MAX_TABLES_BYTES →
-      RunOwes program tables fuel status text → NamedRunOwes program told over fuel status text
+      RunOwes program tables options status text →
+      NamedRunOwes program told over options status text

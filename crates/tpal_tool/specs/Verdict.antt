@@ -10,8 +10,6 @@ use Rattle.loop_rules.specs.Unbroken.{IsResolved}
 use Rattle.loop_check.specs.Checking as parallel
 use Rattle.loop_check.specs.Unbroken.{NoneBroken}
 use Rattle.block_lower.specs.Count.{blocks_of_program}
-use Rattle.tpal_tool.specs.declared.judging.Verdict.{Verdict}
-use Rattle.tpal_tool.specs.declared.judging.Verdict.TheVariants.{Accepted, Refused}
 use Rattle.tpal_tool.specs.Lines.{blocks_line, fault_line, parallel_line, rule_line}
 
 -- a source text of at most the greatest length is refused with this line
@@ -53,8 +51,3 @@ pub record AcceptsOnly (source : List ℕ) (program : Program) : Type 0 where
   pub accepts : Accepts source program
   pub one_program : (other : Program) → Accepts source other → program_of other ≡ program_of program
   pub not_refused : (line : List ℕ) → Refuses source line → ⊥
-
--- what a source text comes to
-abbrev pub IsVerdict : List ℕ → Verdict → Type 0
-IsVerdict source (Accepted program) = AcceptsOnly source program
-IsVerdict source (Refused line) = RefusesOnly source line.items

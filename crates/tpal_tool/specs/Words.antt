@@ -1,28 +1,36 @@
 -- The words of a call.
-use Rattle.std.specs.Prelude.{ℕ, Bool, false, not, ◌&&◌, ◌||◌, ◌==◌, nat_le, is_some, List, [], ◌∷◌}
-use Rattle.std.specs.Prelude.{length, take, drop, Option, Some, None, option_map, unwrap_or}
-use Rattle.std.specs.Prelude.{bytes_eq, codes, if◌then◌else◌}
+use Rattle.std.specs.Prelude.{ℕ, Bool, true, false, not, ◌&&◌, ◌==◌, nat_le, is_some, is_none}
+use Rattle.std.specs.Prelude.{List, [], ◌∷◌, length, take, drop, Option, Some, None, option_map}
+use Rattle.std.specs.Prelude.{unwrap_or, bytes_eq, codes, if◌then◌else◌}
 use Rattle.std.specs.Str.{all_ascii_digits}
 use Rattle.std.specs.Str.Parse.{digits_value_after}
-use Rattle.tp_value.specs.declared.limits.TheConstants.{MAX_FUEL}
-use Rattle.tpal_tool.specs.declared.words.TheConstants.{DEFAULT_FUEL}
+use Rattle.tp_value.specs.declared.limits.TheConstants.{MAX_BEAT, MAX_FORKS, MAX_FUEL}
+use Rattle.tpal_tool.specs.declared.request.Valued.{Valued}
+use Rattle.tpal_tool.specs.declared.request.Valued.TheVariants.{Beat, Forks, Fuel}
 
 -- ---- what a call is asked for
 
--- a run of a program, over the tables of a text where one is named, with so much fuel; or the code
--- of a program
+-- how a run goes: its heartbeat in instructions, how often each worker may be diverted, its fuel in
+-- ticks, and whether its code and its counts are shown
+pub record Options : Type 0 where
+  pub beat : ℕ
+  pub forks : ℕ
+  pub fuel : ℕ
+  pub show : Bool
+
+-- a run of a program, over the tables of a text where one is named; or the code of a program
 pub data Command : Type 0 where
-  Run : (program : List ℕ) → (tables : Option (List ℕ)) → (fuel : ℕ) → Command
+  Run : (program : List ℕ) → (tables : Option (List ℕ)) → (options : Options) → Command
   Compile : (program : List ℕ) → Command
 
 -- the name of the program's text
 abbrev pub program_name : Command → List ℕ
-program_name (Run program tables fuel) = program
+program_name (Run program tables options) = program
 program_name (Compile program) = program
 
 -- the name of the tables' text, where one is named
 abbrev pub tables_name : Command → Option (List ℕ)
-tables_name (Run program tables fuel) = tables
+tables_name (Run program tables options) = tables
 tables_name (Compile program) = None
 
 -- ---- numbers
@@ -38,6 +46,27 @@ abbrev pub number_up_to : ℕ → List ℕ → Option ℕ
 number_up_to most word =
     if nat_le 1 (length word) && nat_le (length word) 20 then spelled most 0 word else None
 
+-- a number that isn't below the least one
+abbrev pub at_least : ℕ → Option ℕ → Option ℕ
+at_least least None = None
+at_least least (Some n) = if nat_le least n then Some n else None
+
+-- the least value of an option
+abbrev pub least_of : Valued → ℕ
+least_of Beat = 1
+least_of Forks = 0
+least_of Fuel = 0
+
+-- the greatest value of an option
+abbrev pub most_of : Valued → ℕ
+most_of Beat = MAX_BEAT
+most_of Forks = MAX_FORKS
+most_of Fuel = MAX_FUEL
+
+-- the value of an option: a number in its range
+abbrev pub value_of : Valued → List ℕ → Option ℕ
+value_of option word = at_least (least_of option) (number_up_to (most_of option) word)
+
 -- ---- the words behind the command
 
 -- whether a word begins with a dash
@@ -49,31 +78,47 @@ is_dashed (b ∷ bs) = b == 45
 abbrev pub begins_with : List ℕ → List ℕ → Bool
 begins_with front word = bytes_eq (take (length front) word) front
 
--- what a word is: a positional one, the end of the options, an option whose value is the next word,
--- one with its value, or an option that isn't listed
+-- what a word is: a positional one, the end of the options, `--show`, an option whose value is the
+-- next word, one with its value, or an option that isn't listed
 pub data Kind : Type 0 where
   Positional : Kind
   EndOfOptions : Kind
-  FuelNext : Kind
-  FuelIs : List ℕ → Kind
+  Show : Kind
+  ValueNext : Valued → Kind
+  ValueIs : Valued → List ℕ → Kind
   Unlisted : Kind
 
 abbrev pub kind_of : List ℕ → Kind
 kind_of word =
     if bytes_eq word (codes "--") then EndOfOptions
-    else (if bytes_eq word (codes "--fuel") then FuelNext
-    else (if begins_with (codes "--fuel=") word then FuelIs (drop 7 word)
+    else (if bytes_eq word (codes "--show") then Show
+    else (if bytes_eq word (codes "--beat") then ValueNext Beat
+    else (if bytes_eq word (codes "--forks") then ValueNext Forks
+    else (if bytes_eq word (codes "--fuel") then ValueNext Fuel
+    else (if begins_with (codes "--beat=") word then ValueIs Beat (drop 7 word)
+    else (if begins_with (codes "--forks=") word then ValueIs Forks (drop 8 word)
+    else (if begins_with (codes "--fuel=") word then ValueIs Fuel (drop 7 word)
     else (if is_dashed word && not (bytes_eq word (codes "-")) then Unlisted
-    else Positional)))
+    else Positional))))))))
 
--- the words so far: one or two positional words, and the fuel
+-- the options so far
+pub record Chosen : Type 0 where
+  pub beat : Option ℕ
+  pub forks : Option ℕ
+  pub fuel : Option ℕ
+  pub show : Bool
+
+-- the words so far: one or two positional words, and the options
 pub record Given : Type 0 where
   pub program : Option (List ℕ)
   pub tables : Option (List ℕ)
-  pub fuel : Option ℕ
+  pub options : Chosen
+
+abbrev pub nothing_chosen : Chosen
+nothing_chosen = record { beat = None; forks = None; fuel = None; show = false }
 
 abbrev pub nothing_given : Given
-nothing_given = record { program = None; tables = None; fuel = None }
+nothing_given = record { program = None; tables = None; options = nothing_chosen }
 
 -- a positional word more: the program, then the tables, then none
 abbrev pub with_word : List ℕ → Given → Option Given
@@ -82,14 +127,31 @@ with_word word given =
     else (if is_some given.program then Some (record given { tables = Some word })
     else Some (record given { program = Some word }))
 
--- the fuel, which is given once
-abbrev pub with_number : Option ℕ → Given → Option Given
-with_number None given = None
-with_number (Some n) given =
-    if is_some given.fuel then None else Some (record given { fuel = Some n })
+-- the value of an option, which is given once
+abbrev pub with_number : Valued → ℕ → Chosen → Option Chosen
+with_number Beat n chosen =
+    if is_some chosen.beat then None else Some (record chosen { beat = Some n })
+with_number Forks n chosen =
+    if is_some chosen.forks then None else Some (record chosen { forks = Some n })
+with_number Fuel n chosen =
+    if is_some chosen.fuel then None else Some (record chosen { fuel = Some n })
 
-abbrev pub with_fuel : List ℕ → Given → Option Given
-with_fuel value given = with_number (number_up_to MAX_FUEL value) given
+abbrev pub with_options : Option Chosen → Given → Option Given
+with_options None given = None
+with_options (Some chosen) given = Some (record given { options = chosen })
+
+abbrev pub with_found : Valued → Option ℕ → Given → Option Given
+with_found option None given = None
+with_found option (Some n) given = with_options (with_number option n given.options) given
+
+abbrev pub with_value : Valued → List ℕ → Given → Option Given
+with_value option word given = with_found option (value_of option word) given
+
+-- `--show`, which stands there once
+abbrev pub with_show : Given → Option Given
+with_show given =
+    if given.options.show then None
+    else Some (record given { options = record given.options { show = true } })
 
 abbrev pub on_given : {A : Type 0} → Option Given → (Given → Option A) → Option A
 on_given None go = None
@@ -103,43 +165,62 @@ with_words (word ∷ words) given = on_given (with_word word given) (with_words 
 -- what comes next behind the command: a word, or the value of an option
 pub data Due : Type 0 where
   AnyWord : Due
-  FuelValue : Due
+  ValueOf : Valued → Due
 
--- one word more, by what it is; `more` reads the words behind it, and `value` reads a value and
--- then those
+-- one word more, by what it is; `more` reads the words behind it, and `value` reads the value of an
+-- option and then those
 abbrev pub with_kind : Kind
     → List ℕ
     → List (List ℕ)
-    → (more value : Given → Option Given)
+    → (more : Given → Option Given)
+    → (value : Valued → Given → Option Given)
     → Given
     → Option Given
 with_kind Positional word words more value given = on_given (with_word word given) more
 with_kind EndOfOptions word words more value given = with_words words given
-with_kind FuelNext word words more value given = value given
-with_kind (FuelIs number) word words more value given = on_given (with_fuel number given) more
+with_kind Show word words more value given = on_given (with_show given) more
+with_kind (ValueNext option) word words more value given = value option given
+with_kind (ValueIs option number) word words more value given =
+    on_given (with_value option number given) more
 with_kind Unlisted word words more value given = None
 
 -- the words behind the command, in order
 abbrev pub with_rest : Due → List (List ℕ) → Given → Option Given
 with_rest AnyWord [] given = Some given
-with_rest FuelValue [] given = None
-with_rest FuelValue (value ∷ words) given =
-    on_given (with_fuel value given) (with_rest AnyWord words)
+with_rest (ValueOf option) [] given = None
+with_rest (ValueOf option) (value ∷ words) given =
+    on_given (with_value option value given) (with_rest AnyWord words)
 with_rest AnyWord (word ∷ words) given =
-    with_kind (kind_of word) word words (with_rest AnyWord words) (with_rest FuelValue words) given
+    with_kind (kind_of word) word words (with_rest AnyWord words)
+    (λ option. with_rest (ValueOf option) words) given
 
 -- ---- whole lists of words
 
--- `run` takes a program, tables or none, and a fuel or none
+-- the options of a run, with what is taken where one isn't given
+abbrev pub options_of : Chosen → Options
+options_of chosen =
+    record {
+      beat = unwrap_or chosen.beat 10000;
+      forks = unwrap_or chosen.forks 1000000;
+      fuel = unwrap_or chosen.fuel 1000000000;
+      show = chosen.show;
+    }
+
+-- `run` takes a program, tables or none, and options
 abbrev pub run_of : Given → Option Command
 run_of given =
-    option_map (λ program. Run program given.tables (unwrap_or given.fuel DEFAULT_FUEL))
-    given.program
+    option_map (λ program. Run program given.tables (options_of given.options)) given.program
+
+-- whether no option was given
+abbrev pub is_plain : Chosen → Bool
+is_plain chosen =
+    is_none chosen.beat && is_none chosen.forks && is_none chosen.fuel && not chosen.show
 
 -- `compile` takes a program alone
 abbrev pub compile_of : Given → Option Command
 compile_of given =
-    if is_some given.tables || is_some given.fuel then None else option_map Compile given.program
+    if is_none given.tables && is_plain given.options then option_map Compile given.program
+    else None
 
 -- what good words ask for: the first is the command
 abbrev pub asked : List (List ℕ) → Option Command

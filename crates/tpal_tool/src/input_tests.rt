@@ -1,7 +1,7 @@
 // What a run begins with.
 
-use crate::inputs::{first_missing, hold_tables};
-use crate::judging::{Verdict, judge};
+use crate::inputs::{have_all, hold_tables};
+use crate::judging::judge;
 use loop_check::Checked;
 use slices::Held;
 use std::alloc::Global;
@@ -12,11 +12,7 @@ fn accepted(alloc: Global, source: &[u8]) -> Option<Checked> {
     if source.len() > 1_048_576 {
         return None;
     }
-    match judge(alloc, source) {
-        Ok(Verdict::Accepted(program)) => Some(program),
-        Ok(Verdict::Refused(_)) => None,
-        Err(_no_memory) => None,
-    }
+    judge(alloc, source).ok()
 }
 
 // What a run of a program over a tables text begins with.
@@ -28,9 +24,7 @@ fn held_of(alloc: Global, source: &[u8], tables: &[u8]) -> Option<Vec<Held>> {
     let Ok(given) = read_tables(alloc, tables) else {
         return None;
     };
-    if first_missing(&program.program().tables, &given).is_some() {
-        return None;
-    }
+    have_all(alloc, &program.program().tables, &given).ok()?;
     hold_tables(alloc, &program, given).ok()
 }
 

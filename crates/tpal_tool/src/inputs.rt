@@ -1,17 +1,37 @@
 // The tables that a run begins with.
 
-ghost use Rattle.std.specs.Prelude.{◌≡◌, List, None, Some, All, IfOk, IfSome, option_map, true};
+ghost use Rattle.std.specs.Prelude.{◌≡◌, ◌≤◌, List, None, Some, All, IfErr, IfOk, IfSome, OnOk};
+ghost use Rattle.std.specs.Prelude.{length, option_map, true};
 ghost use Rattle.std.specs.List.{position};
 ghost use Rattle.std.specs.Prelude.{bytes_eq};
 ghost use Rattle.block_lower.specs.Owing.{AreHeld, IsTable, IsWholeOf};
+ghost use Rattle.tp_value.specs.declared.limits.TheConstants.{MAX_TABLES_BYTES};
 ghost use Rattle.loop_meaning.specs.State.{table_of};
+ghost use Rattle.table_text.specs.TablesText.{TablesOf};
+ghost use Rattle.tpal_tool.specs.Answering.{Halts, RefusesMissing, RefusesTables};
 ghost use Rattle.tpal_tool.specs.Inputs.{first_missing, is_given, without};
 
+use crate::refusal::{Halt, Refusal};
 use loop_check::Checked;
 use loop_syntax::TableDecl;
 use slices::Held;
 use std::alloc::Global;
+use table_text::{TableFault, read_tables};
 use tp_value::{NoMemory, Table};
+
+/// The tables of a tables text.
+pub fn tables_of(alloc: Global, text: &[u8]) -> Result<Vec<Table>, Halt>
+    requires { length text.now ≤ MAX_TABLES_BYTES }
+    ensures are { IfOk result (λ given. TablesOf text.now given.items) }
+    ensures tables { IfOk result (λ given. All IsTable given.items) }
+    ensures halt { IfErr result (Halts (RefusesTables text.now) ⊥) }
+{
+    match read_tables(alloc, text) {
+        Ok(given) => Ok(given),
+        Err(TableFault::NoMemory) => Err(Halt::NoMemory),
+        Err(fault) => Err(Halt::Refused(Refusal::Tables(fault))),
+    }
+}
 
 fn is_given(tables: &[Table], name: &[u8]) -> bool
     ensures { result ≡ is_given tables.now name.now }
@@ -20,7 +40,7 @@ fn is_given(tables: &[Table], name: &[u8]) -> bool
 }
 
 /// The first declared input, in order, that has no table of its name.
-pub fn first_missing<'a>(declared: &'a [TableDecl], given: &[Table]) -> Option<&'a [u8]>
+fn first_missing<'a>(declared: &'a [TableDecl], given: &[Table]) -> Option<&'a [u8]>
     ensures { option_map (λ name. name.now) result ≡ first_missing declared.now given.now }
 {
     for declaration in declared {
@@ -34,6 +54,20 @@ pub fn first_missing<'a>(declared: &'a [TableDecl], given: &[Table]) -> Option<&
         }
     }
     None
+}
+
+/// Refuses tables that lack one of a declared input.
+pub fn have_all(alloc: Global, declared: &[TableDecl], given: &[Table]) -> Result<(), Halt>
+    ensures complete { OnOk result (first_missing declared.now given.now ≡ None) }
+    ensures halt { IfErr result (Halts (RefusesMissing declared.now given.now) ⊥) }
+{
+    match first_missing(declared, given) {
+        None => Ok(()),
+        Some(name) => {
+            let name = Vec::from_slice(alloc, name)?;
+            Err(Halt::Refused(Refusal::Missing(name)))
+        }
+    }
 }
 
 fn place_of(tables: &[Table], name: &[u8]) -> Option<usize>

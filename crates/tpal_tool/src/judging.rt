@@ -1,79 +1,84 @@
 // From a source text to a program that can be compiled, or a refusal.
 
-ghost use Rattle.std.specs.Prelude.{ℕ, ◌≤◌, List, IfOk, length};
+ghost use Rattle.std.specs.Prelude.{◌≡◌, ◌≤◌, ℕ, List, IfErr, IfOk, length};
 ghost use Rattle.loop_rules.specs.Unbroken.{IsResolved};
 ghost use Rattle.loop_check.specs.Unbroken.{NoneBroken};
+ghost use Rattle.tpal_tool.specs.Answering.{Halts, RefusesSource};
 ghost use Rattle.tpal_tool.specs.Reading.{ReadsAs};
-ghost use Rattle.tpal_tool.specs.Verdict.{IsVerdict};
+ghost use Rattle.tpal_tool.specs.Verdict.{AcceptsOnly};
 
-use crate::lines::{blocks_line, fault_line, parallel_line, rule_line};
-use crate::reading::{Reading, read_source};
+use crate::reading::read_source;
+use crate::refusal::{Halt, Refusal};
 use block_lower::block_count;
 use loop_check::{Checked, check};
 use loop_rules::{Resolved, RuleFault, resolve};
 use loop_syntax::Program;
 use std::alloc::Global;
-use tp_value::{MAX_BLOCKS, MAX_SOURCE_BYTES, NoMemory};
+use tp_value::{MAX_BLOCKS, MAX_SOURCE_BYTES};
 
-/// What a source text comes to.
-#[derive(Drop)]
-pub enum Verdict {
-    /// A program that breaks no rule, and whose code has few enough blocks.
-    Accepted(Checked),
-    /// The line with which the text is refused.
-    Refused(Vec<u8>),
+/// A program whose rules on names, limits, output and variables of loops are looked at.
+fn resolved(alloc: Global, program: Program) -> Result<Resolved, Halt>
+    ensures program { IfOk result (λ resolved. resolved ≡ program) }
+    ensures resolved { IfOk result IsResolved }
+    ensures halt { (source : List ℕ)
+        → ReadsAs source program
+        → IfErr result (Halts (RefusesSource source) ⊥) }
+{
+    match resolve(alloc, program) {
+        Ok(resolved) => Ok(resolved),
+        Err(RuleFault::Broken { rule, place }) => Err(Halt::Refused(Refusal::Rule { rule, place })),
+        Err(RuleFault::NoMemory) => Err(Halt::NoMemory),
+    }
 }
 
-/// The verdict on a program that breaks no rule.
-fn judge_checked(alloc: Global, program: Checked) -> Result<Verdict, NoMemory>
+/// A program whose rules on parallel loops are looked at too.
+fn checked(alloc: Global, program: Resolved) -> Result<Checked, Halt>
+    requires { IsResolved program }
+    ensures program { IfOk result (λ checked. checked ≡ program) }
+    ensures unbroken { IfOk result NoneBroken }
+    ensures halt { (source : List ℕ)
+        → ReadsAs source program
+        → IfErr result (Halts (RefusesSource source) ⊥) }
+{
+    match check(alloc, program) {
+        Ok(checked) => Ok(checked),
+        Err(RuleFault::Broken { rule, place }) => {
+            Err(Halt::Refused(Refusal::Parallel { rule, place }))
+        }
+        Err(RuleFault::NoMemory) => Err(Halt::NoMemory),
+    }
+}
+
+/// A program that breaks no rule, where its code has few enough blocks.
+fn fitting(program: Checked) -> Result<Checked, Halt>
     requires { NoneBroken program }
-    ensures { (source : List ℕ) → ReadsAs source program → IfOk result (IsVerdict source) }
+    ensures accepted { (source : List ℕ)
+        → ReadsAs source program
+        → IfOk result (AcceptsOnly source) }
+    ensures halt { (source : List ℕ)
+        → ReadsAs source program
+        → IfErr result (Halts (RefusesSource source) ⊥) }
 {
     let blocks = block_count(&program);
     if blocks <= MAX_BLOCKS as u64 {
-        return Ok(Verdict::Accepted(program));
+        return Ok(program);
     }
     // The count stands still there, and no memory holds such a program.
     if blocks == u64::MAX {
-        return Err(NoMemory);
+        return Err(Halt::NoMemory);
     }
-    Ok(Verdict::Refused(blocks_line(alloc, blocks)?))
+    Err(Halt::Refused(Refusal::Blocks(blocks)))
 }
 
-/// The verdict on a program that breaks no rule on names, limits, output and variables of loops.
-fn judge_resolved(alloc: Global, program: Resolved) -> Result<Verdict, NoMemory>
-    requires { IsResolved program }
-    ensures { (source : List ℕ) → ReadsAs source program → IfOk result (IsVerdict source) }
-{
-    match check(alloc, program) {
-        Ok(checked) => judge_checked(alloc, checked),
-        Err(RuleFault::Broken { rule, place }) => {
-            Ok(Verdict::Refused(parallel_line(alloc, rule, place)?))
-        }
-        Err(RuleFault::NoMemory) => Err(NoMemory),
-    }
-}
-
-/// The verdict on a program.
-fn judge_program(alloc: Global, program: Program) -> Result<Verdict, NoMemory>
-    ensures { (source : List ℕ) → ReadsAs source program → IfOk result (IsVerdict source) }
-{
-    match resolve(alloc, program) {
-        Ok(resolved) => judge_resolved(alloc, resolved),
-        Err(RuleFault::Broken { rule, place }) => {
-            Ok(Verdict::Refused(rule_line(alloc, rule, place)?))
-        }
-        Err(RuleFault::NoMemory) => Err(NoMemory),
-    }
-}
-
-/// The verdict on a source text of at most the greatest length.
-pub fn judge(alloc: Global, source: &[u8]) -> Result<Verdict, NoMemory>
+/// The program of a source text of at most the greatest length, which breaks no rule and whose code
+/// has few enough blocks.
+pub fn judge(alloc: Global, source: &[u8]) -> Result<Checked, Halt>
     requires { length source.now ≤ MAX_SOURCE_BYTES }
-    ensures { IfOk result (IsVerdict source.now) }
+    ensures accepted { IfOk result (AcceptsOnly source.now) }
+    ensures halt { IfErr result (Halts (RefusesSource source.now) ⊥) }
 {
-    match read_source(alloc, source)? {
-        Reading::Tree(program) => judge_program(alloc, program),
-        Reading::Fault(fault) => Ok(Verdict::Refused(fault_line(alloc, fault)?)),
-    }
+    let program = read_source(alloc, source)?;
+    let program = resolved(alloc, program)?;
+    let program = checked(alloc, program)?;
+    fitting(program)
 }

@@ -6,19 +6,21 @@
 //! `specs/Owed.antt` has the definitions that it cites.
 #![tactic(auto)]
 
+mod answer;
+mod fetching;
 mod files;
 mod inputs;
 mod judging;
 mod lines;
 mod outcome_text;
 mod reading;
+mod refusal;
 mod request;
 mod running;
 mod shelf;
 mod shelves;
 mod sink;
 mod sinks;
-mod solo;
 mod standard_output;
 mod status;
 mod tool;

@@ -2,25 +2,13 @@
 
 ghost use Rattle.std.specs.Prelude.{◌≡◌, ◌≢◌, IfOk};
 ghost use Rattle.tpal_tool.specs.Lines.{bad_words_line, blocks_line, fault_line, fault_of, line_at};
-ghost use Rattle.tpal_tool.specs.Lines.{line_at_byte, missing_line, parallel_line, rule_line};
-ghost use Rattle.tpal_tool.specs.Lines.{tables_line, too_long_line};
+ghost use Rattle.tpal_tool.specs.Lines.{line_at_byte, line_of, missing_line, parallel_line};
+ghost use Rattle.tpal_tool.specs.Lines.{rule_line, tables_line, too_long_line};
 
+use crate::refusal::{Refusal, SourceFault};
 use std::alloc::{AllocError, Global};
 use table_text::TableFault;
 use tp_value::{NoMemory, Place};
-
-/// The first fault of a source text, with its place.
-#[derive(Clone, Copy, PartialEq, Eq, Debug)]
-pub enum SourceFault {
-    /// A byte outside the alphabet.
-    Byte(Place),
-    /// A literal above the greatest number.
-    Range(Place),
-    /// The first token at which no form of the grammar continues, or the place behind the text.
-    Form(Place),
-    /// A block or an expression that is too deep.
-    Deep(Place),
-}
 
 fn line_at(alloc: Global, code: &str, place: Place) -> Result<Vec<u8>, AllocError>
     ensures { IfOk result (λ line. line.items ≡ line_at code.now place) }
@@ -32,7 +20,7 @@ fn line_at(alloc: Global, code: &str, place: Place) -> Result<Vec<u8>, AllocErro
 }
 
 /// The line of a refused text.
-pub fn fault_line(alloc: Global, fault: SourceFault) -> Result<Vec<u8>, AllocError>
+fn fault_line(alloc: Global, fault: SourceFault) -> Result<Vec<u8>, AllocError>
     ensures { IfOk result (λ line. line.items ≡ fault_line (fault_of fault)) }
 {
     match fault {
@@ -45,7 +33,7 @@ pub fn fault_line(alloc: Global, fault: SourceFault) -> Result<Vec<u8>, AllocErr
 
 /// The line of a program whose first broken rule on names, limits, output and variables of loops is
 /// that one.
-pub fn rule_line(alloc: Global, rule: u8, place: Place) -> Result<Vec<u8>, AllocError>
+fn rule_line(alloc: Global, rule: u8, place: Place) -> Result<Vec<u8>, AllocError>
     ensures { IfOk result (λ line. line.items ≡ rule_line rule place) }
 {
     let code = format!(in alloc; "E7 C{rule}")?;
@@ -53,7 +41,7 @@ pub fn rule_line(alloc: Global, rule: u8, place: Place) -> Result<Vec<u8>, Alloc
 }
 
 /// The line of a program whose first broken rule on parallel loops is that one.
-pub fn parallel_line(alloc: Global, rule: u8, place: Place) -> Result<Vec<u8>, AllocError>
+fn parallel_line(alloc: Global, rule: u8, place: Place) -> Result<Vec<u8>, AllocError>
     ensures { IfOk result (λ line. line.items ≡ parallel_line rule place) }
 {
     let code = format!(in alloc; "E8 C{rule}")?;
@@ -68,7 +56,7 @@ fn line_at_byte(alloc: Global, code: &str, at: u64) -> Result<Vec<u8>, AllocErro
 }
 
 /// The line of a refused tables text.
-pub fn tables_line(alloc: Global, fault: TableFault) -> Result<Vec<u8>, NoMemory>
+fn tables_line(alloc: Global, fault: TableFault) -> Result<Vec<u8>, NoMemory>
     ensures line { IfOk result (λ line. line.items ≡ tables_line fault) }
     ensures fault { IfOk result (λ line. fault ≢ TableFault.NoMemory) }
 {
@@ -81,7 +69,7 @@ pub fn tables_line(alloc: Global, fault: TableFault) -> Result<Vec<u8>, NoMemory
 }
 
 /// The line of a file above its limit.
-pub fn too_long_line(alloc: Global, name: &str) -> Result<Vec<u8>, AllocError>
+fn too_long_line(alloc: Global, name: &str) -> Result<Vec<u8>, AllocError>
     ensures { IfOk result (λ line. line.items ≡ too_long_line name.now) }
 {
     let text = format!(in alloc; "refused E15 file {name}\n")?;
@@ -89,7 +77,7 @@ pub fn too_long_line(alloc: Global, name: &str) -> Result<Vec<u8>, AllocError>
 }
 
 /// The line of a program whose code may have `blocks` blocks, which are too many.
-pub fn blocks_line(alloc: Global, blocks: u64) -> Result<Vec<u8>, AllocError>
+fn blocks_line(alloc: Global, blocks: u64) -> Result<Vec<u8>, AllocError>
     ensures { IfOk result (λ line. line.items ≡ blocks_line blocks) }
 {
     let text = format!(in alloc; "refused E12 blocks {blocks}\n")?;
@@ -97,7 +85,7 @@ pub fn blocks_line(alloc: Global, blocks: u64) -> Result<Vec<u8>, AllocError>
 }
 
 /// The line of a declared input of that name, which the tables text doesn't give.
-pub fn missing_line(alloc: Global, name: &[u8]) -> Result<Vec<u8>, AllocError>
+fn missing_line(alloc: Global, name: &[u8]) -> Result<Vec<u8>, AllocError>
     ensures { IfOk result (λ line. line.items ≡ missing_line name.now) }
 {
     let mut line = Vec::from_slice(alloc, b"refused E13 input ")?;
@@ -107,8 +95,24 @@ pub fn missing_line(alloc: Global, name: &[u8]) -> Result<Vec<u8>, AllocError>
 }
 
 /// The line of words that are not of the form.
-pub fn bad_words_line(alloc: Global) -> Result<Vec<u8>, AllocError>
+fn bad_words_line(alloc: Global) -> Result<Vec<u8>, AllocError>
     ensures { IfOk result (λ line. line.items ≡ bad_words_line) }
 {
     Vec::from_slice(alloc, b"bad words\n")
+}
+
+/// The line of what is refused.
+pub fn refusal_line(alloc: Global, refusal: Refusal) -> Result<Vec<u8>, NoMemory>
+    ensures { IfOk result (λ line. line.items ≡ line_of refusal) }
+{
+    match refusal {
+        Refusal::Words => Ok(bad_words_line(alloc)?),
+        Refusal::TooLong(name) => Ok(too_long_line(alloc, &name)?),
+        Refusal::Source(fault) => Ok(fault_line(alloc, fault)?),
+        Refusal::Rule { rule, place } => Ok(rule_line(alloc, rule, place)?),
+        Refusal::Parallel { rule, place } => Ok(parallel_line(alloc, rule, place)?),
+        Refusal::Blocks(blocks) => Ok(blocks_line(alloc, blocks)?),
+        Refusal::Tables(fault) => tables_line(alloc, fault),
+        Refusal::Missing(name) => Ok(missing_line(alloc, &name)?),
+    }
 }

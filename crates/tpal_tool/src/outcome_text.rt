@@ -1,8 +1,10 @@
-// The text that an outcome owes.
+// The text that an outcome owes, and the line of what a run counted.
 
 ghost use Rattle.std.specs.Prelude.{◌≡◌, IfOk, OnOk, ◌++◌};
 ghost use Rattle.loop_meaning.specs.Answers.{kind_name, stop_line, text_of};
+ghost use Rattle.tpal_tool.specs.Lines.{counts_line};
 
+use schedule_core::Tally;
 use std::alloc::{AllocError, Global};
 use tp_value::{Outcome, Place, Stop, TrapKind};
 
@@ -51,4 +53,20 @@ pub fn text_of(alloc: Global, outcome: Outcome) -> Result<Vec<u8>, AllocError>
     let line = stop_line(alloc, stop)?;
     text.extend_from_slice(&line)?;
     Ok(text)
+}
+
+/// The line of a run's counts, with the ticks of its outcome.
+pub fn counts_line(alloc: Global, tally: Tally, ticks: u64) -> Result<Vec<u8>, AllocError>
+    ensures { IfOk result (λ line. line.items ≡ counts_line tally ticks) }
+{
+    let Tally {
+        tasks,
+        beats,
+        skipped,
+        instructions,
+    } = tally;
+    let text = format!(in alloc;
+        "tasks {tasks} beats {beats} skipped {skipped} instructions {instructions} ticks {ticks}\n"
+    )?;
+    Ok(text.into_bytes())
 }

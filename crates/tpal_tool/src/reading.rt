@@ -1,48 +1,50 @@
 // From a source text to its tree, or its first fault.
 
-ghost use Rattle.std.specs.Prelude.{◌≡◌, ◌≤◌, IfOk, Some, length};
-ghost use Rattle.tpal_tool.specs.Reading.{lexing_of, IsReading, IsOnlyReading};
+ghost use Rattle.std.specs.Prelude.{◌≤◌, IfErr, IfOk, length};
+ghost use Rattle.loop_lex.specs.Lexical.{AreTokensOf};
+ghost use Rattle.tpal_tool.specs.Answering.{Halts, RefusesSource};
+ghost use Rattle.tpal_tool.specs.Reading.{ReadsAs};
 
-use crate::lines::SourceFault;
-use loop_lex::{LexFault, lex};
+use crate::refusal::{Halt, Refusal, SourceFault};
+use loop_lex::{LexFault, Token, lex};
 use loop_parse::{ParseFault, parse};
 use loop_syntax::Program;
 use std::alloc::Global;
-use tp_value::{MAX_SOURCE_BYTES, NoMemory};
+use tp_value::MAX_SOURCE_BYTES;
 
-/// What a source text comes to.
-#[derive(Drop)]
-pub enum Reading {
-    /// Its tree.
-    Tree(Program),
-    /// Its first fault.
-    Fault(SourceFault),
-}
-
-fn lexing_fault(fault: LexFault) -> Result<SourceFault, NoMemory>
-    ensures { IfOk result (λ found. lexing_of found ≡ Some fault) }
+/// The tokens of a source text.
+fn tokens_of(alloc: Global, source: &[u8]) -> Result<Vec<Token>, Halt>
+    requires { length source.now ≤ MAX_SOURCE_BYTES }
+    ensures tokens { IfOk result (λ tokens. AreTokensOf source.now tokens.items) }
+    ensures halt { IfErr result (Halts (RefusesSource source.now) ⊥) }
 {
-    match fault {
-        LexFault::Byte(place) => Ok(SourceFault::Byte(place)),
-        LexFault::Range(place) => Ok(SourceFault::Range(place)),
-        LexFault::NoMemory => Err(NoMemory),
+    match lex(alloc, source) {
+        Ok(tokens) => Ok(tokens),
+        Err(LexFault::Byte(place)) => {
+            Err(Halt::Refused(Refusal::Source(SourceFault::Byte(place))))
+        }
+        Err(LexFault::Range(place)) => {
+            Err(Halt::Refused(Refusal::Source(SourceFault::Range(place))))
+        }
+        Err(LexFault::NoMemory) => Err(Halt::NoMemory),
     }
 }
 
 /// Reads a source text: first its tokens, then their tree.
-pub fn read_source(alloc: Global, source: &[u8]) -> Result<Reading, NoMemory>
+pub fn read_source(alloc: Global, source: &[u8]) -> Result<Program, Halt>
     requires { length source.now ≤ MAX_SOURCE_BYTES }
-    ensures reading { IfOk result (IsReading source.now) }
-    ensures no_other { IfOk result (IsOnlyReading source.now) }
+    ensures reads { IfOk result (ReadsAs source.now) }
+    ensures halt { IfErr result (Halts (RefusesSource source.now) ⊥) }
 {
-    let tokens = match lex(alloc, source) {
-        Ok(tokens) => tokens,
-        Err(fault) => return Ok(Reading::Fault(lexing_fault(fault)?)),
-    };
+    let tokens = tokens_of(alloc, source)?;
     match parse(alloc, source, &tokens) {
-        Ok(program) => Ok(Reading::Tree(program)),
-        Err(ParseFault::Form(place)) => Ok(Reading::Fault(SourceFault::Form(place))),
-        Err(ParseFault::Deep(place)) => Ok(Reading::Fault(SourceFault::Deep(place))),
-        Err(ParseFault::NoMemory) => Err(NoMemory),
+        Ok(program) => Ok(program),
+        Err(ParseFault::Form(place)) => {
+            Err(Halt::Refused(Refusal::Source(SourceFault::Form(place))))
+        }
+        Err(ParseFault::Deep(place)) => {
+            Err(Halt::Refused(Refusal::Source(SourceFault::Deep(place))))
+        }
+        Err(ParseFault::NoMemory) => Err(Halt::NoMemory),
     }
 }

@@ -2,7 +2,23 @@
 
 ghost use Rattle.std.specs.Prelude.{◌≤◌};
 ghost use Rattle.std.specs.Option.{ForSome};
-ghost use Rattle.tp_value.specs.declared.limits.TheConstants.{MAX_FUEL};
+ghost use Rattle.tp_value.specs.declared.limits.TheConstants.{MAX_BEAT, MAX_FORKS, MAX_FUEL};
+
+/// How a run goes.
+#[derive(Clone, Copy)]
+pub struct RunOptions {
+    /// The heartbeat, in instructions.
+    pub beat: u64,
+    /// How often each worker may be diverted.
+    pub forks: u32,
+    /// The fuel, in ticks.
+    pub fuel: u64,
+    /// Whether the code stands before the output, and the counts behind it.
+    pub show: bool,
+    ghost beat_in_range: { (1 ≤ beat) × (beat ≤ MAX_BEAT) },
+    ghost forks_in_range: { forks ≤ MAX_FORKS },
+    ghost fuel_in_range: { fuel ≤ MAX_FUEL },
+}
 
 /// A run that the words of a call ask for.
 #[derive(Clone, Copy)]
@@ -11,9 +27,8 @@ pub struct RunRequest<'a> {
     pub program: &'a str,
     /// The name of the tables' text, or None for the empty text.
     pub tables: Option<&'a str>,
-    /// The fuel, in ticks.
-    pub fuel: u64,
-    ghost fuel_in_range: { fuel ≤ MAX_FUEL },
+    /// How the run goes.
+    pub options: RunOptions,
 }
 
 /// What the words of a call ask for.
@@ -25,6 +40,33 @@ pub enum Request<'a> {
     Compile(&'a str),
 }
 
+/// An option that has a value.
+#[derive(Clone, Copy)]
+pub enum Valued {
+    /// `--beat`, the heartbeat.
+    Beat,
+    /// `--forks`, how often each worker may be diverted.
+    Forks,
+    /// `--fuel`, the fuel.
+    Fuel,
+}
+
+/// The options so far.
+#[derive(Clone, Copy)]
+pub struct Chosen {
+    /// The value of `--beat`.
+    pub beat: Option<u64>,
+    /// The value of `--forks`.
+    pub forks: Option<u64>,
+    /// The value of `--fuel`.
+    pub fuel: Option<u64>,
+    /// Whether `--show` stood there.
+    pub show: bool,
+    ghost beat_in_range: { ForSome beat (λ n. (1 ≤ n) × (n ≤ MAX_BEAT)) },
+    ghost forks_in_range: { ForSome forks (λ n. n ≤ MAX_FORKS) },
+    ghost fuel_in_range: { ForSome fuel (λ n. n ≤ MAX_FUEL) },
+}
+
 /// The words behind the command, so far.
 #[derive(Clone, Copy)]
 pub struct Gathered<'a> {
@@ -32,7 +74,6 @@ pub struct Gathered<'a> {
     pub program: Option<&'a str>,
     /// The second one, which stands only behind the first.
     pub tables: Option<&'a str>,
-    /// The value of the option `--fuel`.
-    pub fuel: Option<u64>,
-    ghost fuel_in_range: { ForSome fuel (λ n. n ≤ MAX_FUEL) },
+    /// The options.
+    pub options: Chosen,
 }

@@ -2,13 +2,21 @@
 
 ghost use Rattle.std.specs.Prelude.{◌≡◌, ◌≤◌, IfSome, map, option_map, string_bytes};
 ghost use Rattle.tp_value.specs.declared.limits.TheConstants.{MAX_FUEL};
-ghost use Rattle.tpal_tool.specs.Words.{asked, compile_of, is_dashed, kind_of, number_up_to};
-ghost use Rattle.tpal_tool.specs.Words.{run_of, spelled, with_fuel, with_rest, with_word};
+ghost use Rattle.tpal_tool.specs.Words.{asked, compile_of, is_dashed, is_plain, kind_of, least_of};
+ghost use Rattle.tpal_tool.specs.Words.{most_of, number_up_to, options_of, run_of, spelled, value_of};
+ghost use Rattle.tpal_tool.specs.Words.{with_number, with_rest, with_show, with_value, with_word};
 ghost use Rattle.tpal_tool.specs.Words.{with_words};
-ghost use Rattle.tpal_tool.specs.Asking.{command_of, given_of, kind_seen, due_of};
+ghost use Rattle.tpal_tool.specs.Asking.{chosen_of, command_of, given_of, kind_seen, due_of};
+ghost use Rattle.tpal_tool.specs.Asking.{options_seen};
 
-use crate::request::{Gathered, Request, RunRequest};
-use tp_value::MAX_FUEL;
+use crate::request::{Chosen, Gathered, Request, RunOptions, RunRequest, Valued};
+use tp_value::{MAX_BEAT, MAX_FORKS, MAX_FUEL};
+
+/// The heartbeat of a run that names none, in instructions.
+pub const DEFAULT_BEAT: u64 = 10_000;
+
+/// How often a worker may be diverted where the run doesn't say it.
+pub const DEFAULT_FORKS: u64 = 1_000_000;
 
 /// The fuel of a run that names none, in ticks.
 pub const DEFAULT_FUEL: u64 = 1_000_000_000;
@@ -34,8 +42,9 @@ impl<'a> Request<'a> {
 enum WordKind<'a> {
     Positional,
     EndOfOptions,
-    FuelNext,
-    FuelIs(&'a [u8]),
+    Show,
+    ValueNext(Valued),
+    ValueIs(Valued, &'a [u8]),
     Unlisted,
 }
 
@@ -43,7 +52,7 @@ enum WordKind<'a> {
 #[derive(Clone, Copy)]
 enum NextWord {
     Any,
-    FuelValue,
+    ValueOf(Valued),
 }
 
 /// The number that digits spell behind those of `before`, where it is at most `most`.
@@ -78,6 +87,40 @@ fn number_up_to(word: &[u8], most: u64) -> Option<u64>
     number_behind(0, word, most)
 }
 
+/// The least value of an option.
+fn least_of(option: Valued) -> u64
+    ensures { result ≡ least_of option }
+{
+    match option {
+        Valued::Beat => 1,
+        Valued::Forks => 0,
+        Valued::Fuel => 0,
+    }
+}
+
+/// The greatest value of an option.
+fn most_of(option: Valued) -> u64
+    ensures { result ≡ most_of option }
+{
+    match option {
+        Valued::Beat => MAX_BEAT,
+        Valued::Forks => u64::from(MAX_FORKS),
+        Valued::Fuel => MAX_FUEL,
+    }
+}
+
+/// The value of an option: a number in its range.
+fn value_of(option: Valued, word: &[u8]) -> Option<u64>
+    ensures value { result ≡ value_of option word.now }
+    ensures within { IfSome result (λ n. (least_of option ≤ n) × (n ≤ most_of option)) }
+{
+    let number = number_up_to(word, most_of(option))?;
+    if number < least_of(option) {
+        return None;
+    }
+    Some(number)
+}
+
 fn is_dashed(word: &[u8]) -> bool
     ensures { result ≡ is_dashed word.now }
 {
@@ -90,19 +133,100 @@ fn is_dashed(word: &[u8]) -> bool
 fn kind_of(word: &str) -> WordKind<'_>
     ensures { kind_seen result ≡ kind_of word.now }
 {
-    if word == "--" {
-        return WordKind::EndOfOptions;
+    match word {
+        "--" => return WordKind::EndOfOptions,
+        "--show" => return WordKind::Show,
+        "--beat" => return WordKind::ValueNext(Valued::Beat),
+        "--forks" => return WordKind::ValueNext(Valued::Forks),
+        "--fuel" => return WordKind::ValueNext(Valued::Fuel),
+        _ => {}
     }
-    if word == "--fuel" {
-        return WordKind::FuelNext;
+    if let Some(value) = word.as_bytes().strip_prefix(b"--beat=") {
+        return WordKind::ValueIs(Valued::Beat, value);
+    }
+    if let Some(value) = word.as_bytes().strip_prefix(b"--forks=") {
+        return WordKind::ValueIs(Valued::Forks, value);
     }
     if let Some(value) = word.as_bytes().strip_prefix(b"--fuel=") {
-        return WordKind::FuelIs(value);
+        return WordKind::ValueIs(Valued::Fuel, value);
     }
     if is_dashed(word.as_bytes()) && word != "-" {
         return WordKind::Unlisted;
     }
     WordKind::Positional
+}
+
+/// The options with the value of one more, which is given once.
+fn with_number(option: Valued, number: u64, chosen: Chosen) -> Option<Chosen>
+    requires { (least_of option ≤ number) × (number ≤ most_of option) }
+    ensures { option_map chosen_of result ≡ with_number option number (chosen_of chosen) }
+{
+    let Chosen {
+        beat,
+        forks,
+        fuel,
+        show,
+    } = chosen;
+    let number = Some(number);
+    match (option, beat, forks, fuel) {
+        (Valued::Beat, None, _, _) => Some(Chosen {
+            beat: number,
+            forks,
+            fuel,
+            show,
+        }),
+        (Valued::Forks, _, None, _) => Some(Chosen {
+            beat,
+            forks: number,
+            fuel,
+            show,
+        }),
+        (Valued::Fuel, _, _, None) => Some(Chosen {
+            beat,
+            forks,
+            fuel: number,
+            show,
+        }),
+        _ => None,
+    }
+}
+
+/// The words so far with the value of an option.
+fn with_value<'a>(option: Valued, word: &[u8], given: Gathered<'a>) -> Option<Gathered<'a>>
+    ensures { option_map given_of result ≡ with_value option word.now (given_of given.entry) }
+{
+    let number = value_of(option, word)?;
+    let options = with_number(option, number, given.options)?;
+    Some(Gathered {
+        program: given.program,
+        tables: given.tables,
+        options,
+    })
+}
+
+/// The words so far with `--show`, which stands there once.
+fn with_show<'a>(given: Gathered<'a>) -> Option<Gathered<'a>>
+    ensures { option_map given_of result ≡ with_show (given_of given.entry) }
+{
+    let Chosen {
+        beat,
+        forks,
+        fuel,
+        show,
+    } = given.options;
+    if show {
+        return None;
+    }
+    Some(Gathered {
+        program: given.program,
+        tables: given.tables,
+        options: Chosen {
+            beat,
+            forks,
+            fuel,
+            show: true,
+        },
+    })
 }
 
 /// One positional word more: the program, then the tables, then none.
@@ -114,27 +238,12 @@ fn with_word<'a>(word: &'a str, given: Gathered<'a>) -> Option<Gathered<'a>>
         (Some(_), None) => Some(Gathered {
             program: given.program,
             tables: Some(word),
-            fuel: given.fuel,
+            options: given.options,
         }),
         (None, None) => Some(Gathered {
             program: Some(word),
             tables: None,
-            fuel: given.fuel,
-        }),
-    }
-}
-
-/// The fuel, which is given once.
-fn with_fuel<'a>(value: &[u8], given: Gathered<'a>) -> Option<Gathered<'a>>
-    ensures { option_map given_of result ≡ with_fuel value.now (given_of given.entry) }
-{
-    let fuel = number_up_to(value, MAX_FUEL)?;
-    match given.fuel {
-        Some(_) => None,
-        None => Some(Gathered {
-            program: given.program,
-            tables: given.tables,
-            fuel: Some(fuel),
+            options: given.options,
         }),
     }
 }
@@ -158,41 +267,66 @@ fn with_rest<'a>(next: NextWord, words: &'a [String], given: Gathered<'a>) -> Op
     let Some((word, rest)) = words.split_first() else {
         return match next {
             NextWord::Any => Some(given),
-            NextWord::FuelValue => None,
+            NextWord::ValueOf(_) => None,
         };
     };
     let word = word.as_str();
+    let any = NextWord::Any;
     match next {
-        NextWord::FuelValue => with_rest(NextWord::Any, rest, with_fuel(word.as_bytes(), given)?),
+        NextWord::ValueOf(option) => {
+            with_rest(any, rest, with_value(option, word.as_bytes(), given)?)
+        }
         NextWord::Any => match kind_of(word) {
-            WordKind::Positional => with_rest(NextWord::Any, rest, with_word(word, given)?),
+            WordKind::Positional => with_rest(any, rest, with_word(word, given)?),
             WordKind::EndOfOptions => with_words(rest, given),
-            WordKind::FuelNext => with_rest(NextWord::FuelValue, rest, given),
-            WordKind::FuelIs(value) => with_rest(NextWord::Any, rest, with_fuel(value, given)?),
+            WordKind::Show => with_rest(any, rest, with_show(given)?),
+            WordKind::ValueNext(option) => with_rest(NextWord::ValueOf(option), rest, given),
+            WordKind::ValueIs(option, value) => {
+                with_rest(any, rest, with_value(option, value, given)?)
+            }
             WordKind::Unlisted => None,
         },
     }
 }
 
-/// `run` takes a program, tables or none, and a fuel or none.
+/// The options of a run, with what is taken where one isn't given.
+fn options_of(chosen: Chosen) -> RunOptions
+    ensures { options_seen result ≡ options_of (chosen_of chosen) }
+{
+    RunOptions {
+        beat: chosen.beat.unwrap_or(DEFAULT_BEAT),
+        forks: chosen.forks.unwrap_or(DEFAULT_FORKS) as u32,
+        fuel: chosen.fuel.unwrap_or(DEFAULT_FUEL),
+        show: chosen.show,
+    }
+}
+
+/// `run` takes a program, tables or none, and options.
 fn run_of(given: Gathered) -> Option<Request>
     ensures { option_map command_of result ≡ run_of (given_of given.entry) }
 {
     Some(Request::Run(RunRequest {
         program: given.program?,
         tables: given.tables,
-        fuel: given.fuel.unwrap_or(DEFAULT_FUEL),
+        options: options_of(given.options),
     }))
+}
+
+/// Whether no option was given.
+fn is_plain(chosen: Chosen) -> bool
+    ensures { result ≡ is_plain (chosen_of chosen) }
+{
+    chosen.beat.is_none() && chosen.forks.is_none() && chosen.fuel.is_none() && !chosen.show
 }
 
 /// `compile` takes a program alone.
 fn compile_of(given: Gathered) -> Option<Request>
     ensures { option_map command_of result ≡ compile_of (given_of given.entry) }
 {
-    if given.tables.is_some() || given.fuel.is_some() {
-        return None;
+    if given.tables.is_none() && is_plain(given.options) {
+        return Some(Request::Compile(given.program?));
     }
-    Some(Request::Compile(given.program?))
+    None
 }
 
 /// What the words of a call ask for, or None where they are not of the form.
@@ -203,7 +337,12 @@ pub fn asked(words: &[String]) -> Option<Request<'_>>
     let given = Gathered {
         program: None,
         tables: None,
-        fuel: None,
+        options: Chosen {
+            beat: None,
+            forks: None,
+            fuel: None,
+            show: false,
+        },
     };
     match command.as_str() {
         "run" => run_of(with_rest(NextWord::Any, rest, given)?),

@@ -1,0 +1,53 @@
+-- Why a part of a call halts, and why the whole does.
+use Rattle.std.proofs.Common.{◌≡◌, ◌≤◌, ℕ, List, length, refl, sym, subst}
+use Rattle.std.specs.Prelude.{Option, Some, None, Result, Ok, Err, IfErr, IfSome}
+use Rattle.tp_value.specs.declared.limits.TheConstants.{MAX_SOURCE_BYTES}
+use Rattle.tp_value.specs.declared.values.Table.{Table}
+use Rattle.loop_syntax.specs.declared.program.Program.{Program}
+use Rattle.table_text.specs.TablesText.{TablesOf}
+use Rattle.tpal_tool.specs.declared.refusal.Halt.{Halt}
+use Rattle.tpal_tool.specs.declared.refusal.Halt.TheVariants.{Refused, ReadFailed, NoMemory}
+use Rattle.tpal_tool.specs.declared.refusal.Refusal.{Refusal}
+use Rattle.tpal_tool.specs.declared.status.Status.{Status}
+use Rattle.tpal_tool.specs.Answering.{Halts, OwesRefusal, RefusesLength, RefusesMissing, RefusesSource, RefusesTables, RefusesTablesLength, status_with}
+use Rattle.tpal_tool.specs.Lines.{line_of}
+use Rattle.tpal_tool.specs.Owed.{NamedRunOwes, long, Owed, RunOwes, faulty_tables, missing}
+use Rattle.tpal_tool.specs.Words.{Command, Options, program_name}
+use Rattle.tpal_tool.proofs.Endings.{refused-owed, too_long-owed}
+
+-- what halts a part halts the whole
+pub halts_more : {R S : Refusal → Type 0} {C D : Type 0} (h : Halt) → ((r : Refusal) → R r → S r) → (C → D) → Halts R C h → Halts S D h
+halts_more (Refused r) more cause halts = more r halts
+halts_more ReadFailed more cause halts = cause halts
+halts_more NoMemory more cause halts = tt
+
+-- what an error gives gives more
+pub err_map : {A E : Type 0} (r : Result A E) {P Q : E → Type 0} → ((e : E) → P e → Q e) → IfErr r P → IfErr r Q
+err_map (Ok a) more is = tt
+err_map (Err e) more is = more e is
+
+-- a tables text with a fault is what a run owes
+pub refuses_tables : (program : Program) (tables : List ℕ) (options : Options) (r : Refusal) → RefusesTables tables r → OwesRefusal (RunOwes program tables options) r
+refuses_tables program tables options r (fault, first, is) = faulty_tables fault first is.0 is.1
+
+-- and so is a missing input
+pub refuses_missing : (program : Program) (tables : List ℕ) (options : Options) (given : List Table) → TablesOf tables given → (r : Refusal) → RefusesMissing program.tables.items given r → OwesRefusal (RunOwes program tables options) r
+refuses_missing program tables options given are r (name, misses, is) = missing given name are misses is.0 is.1
+
+-- a tables text that is too long
+pub refuses_over : (program : Program) (told : List ℕ → Option (List ℕ)) (over : Option (List ℕ)) (options : Options) (r : Refusal) → RefusesTablesLength told over r → OwesRefusal (NamedRunOwes program told over options) r
+refuses_over program told None options r never = elim never [ ]
+refuses_over program told (Some name) options r (is, is_long) = long refl is_long is.0 is.1
+
+-- a source text that is too long
+pub refuses_long : (told : List ℕ → Option (List ℕ)) (command : Command) (r : Refusal) → RefusesLength (told (program_name command)) MAX_SOURCE_BYTES (program_name command) r → OwesRefusal (Owed (Some command) told) r
+refuses_long told command r (is, is_long) = too_long-owed told command (status_with r) (line_of r) is_long is.0 is.1
+
+-- a source text that is refused
+pub refuses_source : (told : List ℕ → Option (List ℕ)) (command : Command) (source : List ℕ) → IfSome (told (program_name command)) (λ t. source ≡ t) → length source ≤ MAX_SOURCE_BYTES → (r : Refusal) → RefusesSource source r → OwesRefusal (Owed (Some command) told) r
+refuses_source told command source is_source low r (is, only) = refused-owed told command source (status_with r) (line_of r) is_source low only is
+
+-- what is written of a refusal is what is owed
+pub refusal-owed : (wanted : Option Command) (told : List ℕ → Option (List ℕ)) (r : Refusal) (status : Status) (text : List ℕ) → status ≡ status_with r → text ≡ line_of r → OwesRefusal (Owed wanted told) r → Owed wanted told status text
+refusal-owed wanted told r status text is text_is owed =
+    subst (λ (s : Status). Owed wanted told s text) (sym is) (subst (λ (t : List ℕ). Owed wanted told (status_with r) t) (sym text_is) owed)

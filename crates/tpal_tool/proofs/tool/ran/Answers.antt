@@ -1,0 +1,31 @@
+use Rattle.std.proofs.Common.{rules, Bor, ℕ, List, length, ◌≤◌, sym, subst}
+use Rattle.std.specs.Prelude.{Option, option_map, IsSomeAnd}
+use Rattle.tp_value.specs.declared.limits.TheConstants.{MAX_TABLES_BYTES}
+use Rattle.tpal_tool.specs.Answering.{Halts, OwesRefusal}
+use Rattle.tpal_tool.specs.Asking.{options_seen}
+use Rattle.tpal_tool.specs.Owed.{IsTables, NamedRunOwes, fits}
+use Rattle.tpal_tool.specs.Shelf.{HasRisen}
+use Rattle.tpal_tool.proofs.Endings.{ok_map}
+use Rattle.tpal_tool.proofs.Halting.{err_map, halts_more, refuses_over}
+use Rattle.tpal_tool.proofs.tool.ran.Goals as goal
+
+pub returns-in_err-tables-clause-halt : goal.returns-in_err-tables-clause-halt
+returns-in_err-tables-clause-halt g c =
+    let over : Option (List ℕ) = option_map {T = Bor (List ℕ)} {U = List ℕ} (λ t. t.now) c.args.run.tables in
+    let halts : Halts (OwesRefusal (NamedRunOwes c.args.program.now (g.S.Shelf.text c.args.shelf.now) over (options_seen c.args.run.options))) (IsSomeAnd over (λ name. HasRisen (g.S.Shelf.faults c.args.shelf.now name) (g.S.Shelf.faults c.fetched_tables.new.shelf name))) c.in_err-tables.field-0.0 =
+    halts_more c.in_err-tables.field-0.0 (refuses_over c.args.program.now (g.S.Shelf.text c.args.shelf.now) over (options_seen c.args.run.options)) (λ risen. risen) c.in_err-tables.ensures.halt in
+    search rules
+
+pub returns-clause-answer : goal.returns-clause-answer
+returns-clause-answer g c =
+    let over : Option (List ℕ) = option_map {T = Bor (List ℕ)} {U = List ℕ} (λ t. t.now) c.args.run.tables in
+    let told : IsTables (g.S.Shelf.text c.args.shelf.now) over c.deref.result.now = subst (λ (t : List ℕ). IsTables (g.S.Shelf.text c.args.shelf.now) over t) (sym c.deref.ensures.value) c.in_ok-tables.ensures.told in
+    let within : length c.deref.result.now ≤ MAX_TABLES_BYTES = subst (λ (t : List ℕ). length t ≤ MAX_TABLES_BYTES) (sym c.deref.ensures.value) c.in_ok-tables.ensures.within in
+    ok_map c.ran_over.result (λ answer owes. fits c.deref.result.now told within owes) c.ran_over.ensures.answer
+
+pub returns-clause-halt : goal.returns-clause-halt
+returns-clause-halt g c =
+    let over : Option (List ℕ) = option_map {T = Bor (List ℕ)} {U = List ℕ} (λ t. t.now) c.args.run.tables in
+    let told : IsTables (g.S.Shelf.text c.args.shelf.now) over c.deref.result.now = subst (λ (t : List ℕ). IsTables (g.S.Shelf.text c.args.shelf.now) over t) (sym c.deref.ensures.value) c.in_ok-tables.ensures.told in
+    let within : length c.deref.result.now ≤ MAX_TABLES_BYTES = subst (λ (t : List ℕ). length t ≤ MAX_TABLES_BYTES) (sym c.deref.ensures.value) c.in_ok-tables.ensures.within in
+    err_map c.ran_over.result (λ h. halts_more h (λ r owes. fits c.deref.result.now told within owes) (λ never. absurd never)) c.ran_over.ensures.halt

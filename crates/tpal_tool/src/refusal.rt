@@ -1,0 +1,84 @@
+// What is refused, and why a call has nothing else to write.
+
+ghost use Rattle.std.specs.Prelude.{◌≡◌};
+
+use std::alloc::AllocError;
+use table_text::TableFault;
+use tp_value::{NoMemory, Place};
+
+/// The first fault of a source text, with its place.
+#[derive(Clone, Copy, PartialEq, Eq, Debug)]
+pub enum SourceFault {
+    /// A byte outside the alphabet.
+    Byte(Place),
+    /// A literal above the greatest number.
+    Range(Place),
+    /// The first token at which no form of the grammar continues, or the place behind the text.
+    Form(Place),
+    /// A block or an expression that is too deep.
+    Deep(Place),
+}
+
+/// What is refused.
+#[derive(Drop)]
+pub enum Refusal {
+    /// Words that are not of the form.
+    Words,
+    /// A file above its limit, with its name.
+    TooLong(String),
+    /// A source text, for its first fault.
+    Source(SourceFault),
+    /// A program, for its first broken rule on names, limits, output and variables of loops.
+    Rule {
+        /// The rule's number.
+        rule: u8,
+        /// Where it is broken.
+        place: Place,
+    },
+    /// A program that breaks none of these, for its first broken rule on parallel loops.
+    Parallel {
+        /// The rule's number.
+        rule: u8,
+        /// Where it is broken.
+        place: Place,
+    },
+    /// A program whose code may have so many blocks, which are too many.
+    Blocks(u64),
+    /// A tables text, for its first fault.
+    Tables(TableFault),
+    /// A tables text without a table for the declared input of that name.
+    Missing(Vec<u8>),
+}
+
+/// Why a call doesn't come to what its words ask for.
+#[derive(Drop)]
+pub enum Halt {
+    /// Something is refused.
+    Refused(Refusal),
+    /// A text could not be read, and the count of its name's faults rose.
+    ReadFailed,
+    /// There was no memory.
+    NoMemory,
+}
+
+impl From<NoMemory> for Halt {
+    ghost use Rattle.std.specs.Prelude.{◌≡◌};
+    ghost use Rattle.tpal_tool.specs.declared.refusal.Halt.TheVariants.{NoMemory};
+
+    ghost from_gives = { λ _ halt. halt ≡ NoMemory };
+
+    fn from(_error: NoMemory) -> Self {
+        Halt::NoMemory
+    }
+}
+
+impl From<AllocError> for Halt {
+    ghost use Rattle.std.specs.Prelude.{◌≡◌};
+    ghost use Rattle.tpal_tool.specs.declared.refusal.Halt.TheVariants.{NoMemory};
+
+    ghost from_gives = { λ _ halt. halt ≡ NoMemory };
+
+    fn from(_error: AllocError) -> Self {
+        Halt::NoMemory
+    }
+}
