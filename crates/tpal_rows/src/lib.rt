@@ -4,6 +4,8 @@
 #![tactic(auto)]
 
 #[cfg(test)]
+mod beats;
+#[cfg(test)]
 mod calls;
 #[cfg(test)]
 mod compiling;
@@ -23,6 +25,8 @@ mod outside;
 mod rules;
 #[cfg(test)]
 mod running;
+#[cfg(test)]
+mod shown;
 #[cfg(test)]
 mod tables;
 #[cfg(test)]

@@ -20,26 +20,62 @@ fn runs(
     Ok(called.status == status && called.text.as_slice() == text.as_bytes())
 }
 
-const SUM: &str = "input a;
+/// The sum of a column.
+pub const SUM: &str = "input a;
 main {
   let s = 0;
   par i in 0..rows(a) reduce s by add { fold s with a[i][0]; }
   print s;
 }";
 
-const AFFINE: &str = "input a;
+/// Maps that are composed in order.
+pub const AFFINE: &str = "input a;
 main {
   let s = 4294967296;
   par i in 0..rows(a) reduce s by affine { fold s with a[i][0]; }
   print s;
 }";
 
-const PRODUCTS: &str = "table t[3][3];
+/// A table of products.
+pub const PRODUCTS: &str = "table t[3][3];
 main {
   par i in 0..3 carry t[i] {
     par j in 0..3 carry t[i][j] { t[i][j] = (i + 1) * (j + 1); }
   }
   emit t;
+}";
+
+/// The tenth number of Fibonacci, by two calls at once.
+pub const FIB: &str = "fn fib(n) {
+  let r = n;
+  if 1 < n {
+    let a = 0;
+    let b = 0;
+    both a = fib(n - 1), b = fib(n - 2);
+    r = a + b;
+  }
+  return r;
+}
+main { let x = 0; call x = fib(10); print x; }";
+
+/// A loop whose last iteration traps.
+pub const LATE_TRAP: &str = "main {
+  let z = 0;
+  par i in 0..4 {
+    let q = 1;
+    if i == 3 { q = 1 / z; }
+  }
+}";
+
+/// A loop with two traps.
+pub const TWO_TRAPS: &str = "table t[2][1];
+main {
+  let s = 0;
+  par i in 0..4 reduce s by add {
+    if i == 1 { fold s with t[9][0]; }
+    if i == 3 { fold s with 1 / 0; }
+  }
+  print s;
 }";
 
 #[test]
@@ -93,24 +129,6 @@ fn programs_without_tables_print(rt: HostRuntime) -> Result<(), Fail> {
 
 #[test]
 fn fuel_runs_out_in_order(rt: HostRuntime) -> Result<(), Fail> {
-    let fib = "fn fib(n) {
-  let r = n;
-  if 1 < n {
-    let a = 0;
-    let b = 0;
-    both a = fib(n - 1), b = fib(n - 2);
-    r = a + b;
-  }
-  return r;
-}
-main { let x = 0; call x = fib(10); print x; }";
-    let trap = "main {
-  let z = 0;
-  par i in 0..4 {
-    let q = 1;
-    if i == 3 { q = 1 / z; }
-  }
-}";
     let cases: [(&str, &str, &str, Status); 8] = [
         ("main { loop i in 0..3 { } }", "3", "", Status::Done),
         (
@@ -131,10 +149,10 @@ main { let x = 0; call x = fib(10); print x; }";
             "out of fuel\n",
             Status::OutOfFuel,
         ),
-        (fib, "177", "55\n", Status::Done),
-        (fib, "176", "out of fuel\n", Status::OutOfFuel),
-        (trap, "4", "trap Divide at 5:23\n", Status::Trap),
-        (trap, "3", "out of fuel\n", Status::OutOfFuel),
+        (FIB, "177", "55\n", Status::Done),
+        (FIB, "176", "out of fuel\n", Status::OutOfFuel),
+        (LATE_TRAP, "4", "trap Divide at 5:23\n", Status::Trap),
+        (LATE_TRAP, "3", "out of fuel\n", Status::OutOfFuel),
     ];
     for (source, fuel, text, status) in cases {
         assert!(&rt;
@@ -147,17 +165,8 @@ main { let x = 0; call x = fib(10); print x; }";
 
 #[test]
 fn the_serially_first_trap_stops_the_run(rt: HostRuntime) -> Result<(), Fail> {
-    let first = "table t[2][1];
-main {
-  let s = 0;
-  par i in 0..4 reduce s by add {
-    if i == 1 { fold s with t[9][0]; }
-    if i == 3 { fold s with 1 / 0; }
-  }
-  print s;
-}";
     let cases: [(&str, &str); 8] = [
-        (first, "trap Index at 5:29\n"),
+        (TWO_TRAPS, "trap Index at 5:29\n"),
         (
             "main { par i in 5..5 { } par i in 7..2 { } par i in 0..1099511627777 { } }",
             "trap Wide at 1:44\n",

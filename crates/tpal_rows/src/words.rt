@@ -64,6 +64,88 @@ fn a_fuel_that_is_not_of_the_form_is_bad(rt: HostRuntime) -> Result<(), Fail> {
 }
 
 #[test]
+fn a_heartbeat_that_is_not_of_the_form_is_bad(rt: HostRuntime) -> Result<(), Fail> {
+    let cases: [&[&str]; 13] = [
+        &["run", "p", "--beat"],
+        &["run", "--beat", "p"],
+        &["run", "p", "--beat="],
+        &["run", "p", "--beat", "0"],
+        &["run", "p", "--beat=00000000000000000000"],
+        &["run", "p", "--beat=-1"],
+        &["run", "p", "--beat=1000000001"],
+        &["run", "p", "--beat=99999999999999999999"],
+        &["run", "p", "--beat", "000000000000000000001"],
+        &["run", "p", "--beat=1", "--beat=1"],
+        &["run", "--beat", "1", "p", "--beat=2"],
+        &["run", "p", "--beats=1"],
+        &["run", "p", "--beat=1", "t", "u"],
+    ];
+    for words in cases {
+        assert!(&rt; writes(rt.alloc(), words, "bad words\n", Status::BadWords)?);
+    }
+    Ok(())
+}
+
+#[test]
+fn forks_that_are_not_of_the_form_are_bad(rt: HostRuntime) -> Result<(), Fail> {
+    let cases: [&[&str]; 9] = [
+        &["run", "p", "--forks"],
+        &["run", "--forks", "p"],
+        &["run", "p", "--forks="],
+        &["run", "p", "--forks=x"],
+        &["run", "p", "--forks=1000001"],
+        &["run", "p", "--forks", "000000000000000000001"],
+        &["run", "p", "--forks=1", "--forks=1"],
+        &["run", "--forks", "1", "p", "--forks=2"],
+        &["run", "p", "--fork=1"],
+    ];
+    for words in cases {
+        assert!(&rt; writes(rt.alloc(), words, "bad words\n", Status::BadWords)?);
+    }
+    Ok(())
+}
+
+#[test]
+fn other_options_are_bad(rt: HostRuntime) -> Result<(), Fail> {
+    let cases: [&[&str]; 11] = [
+        &["run", "p", "--show=1"],
+        &["run", "p", "--show="],
+        &["run", "--show", "p", "--show"],
+        &["run", "p", "--shows"],
+        &["run", "p", "--beat", "--show"],
+        &["run", "p", "--workers", "1"],
+        &["run", "p", "--workers=1"],
+        &["--show", "run", "p"],
+        &["compile", "p", "--show"],
+        &["compile", "--beat=1", "p"],
+        &["compile", "p", "--forks", "1"],
+    ];
+    for words in cases {
+        assert!(&rt; writes(rt.alloc(), words, "bad words\n", Status::BadWords)?);
+    }
+    Ok(())
+}
+
+#[test]
+fn options_of_the_form_run_the_program(rt: HostRuntime) -> Result<(), Fail> {
+    let cases: [&[&str]; 9] = [
+        &["run", "--beat=1", "--", "p"],
+        &["run", "--beat", "1", "p"],
+        &["run", "p", "--beat=1000000000"],
+        &["run", "p", "--beat", "00000000000000000001"],
+        &["run", "p", "--forks=0"],
+        &["run", "--forks", "1000000", "p"],
+        &["run", "p", "--forks=00000000000001000000"],
+        &["run", "--fuel=1", "--forks=3", "--beat=2", "p"],
+        &["run", "--beat", "7", "p", "--fuel", "1", "--forks", "0"],
+    ];
+    for words in cases {
+        assert!(&rt; writes(rt.alloc(), words, "5\n", Status::Done)?);
+    }
+    Ok(())
+}
+
+#[test]
 fn words_of_the_form_run_the_program(rt: HostRuntime) -> Result<(), Fail> {
     let cases: [&[&str]; 10] = [
         &["run", "p"],
@@ -85,7 +167,7 @@ fn words_of_the_form_run_the_program(rt: HostRuntime) -> Result<(), Fail> {
 
 #[test]
 fn words_of_the_form_name_texts_that_are_absent(rt: HostRuntime) -> Result<(), Fail> {
-    let cases: [&[&str]; 9] = [
+    let cases: [&[&str]; 11] = [
         &["run", "q"],
         &["run", "-"],
         &["run", ""],
@@ -94,6 +176,8 @@ fn words_of_the_form_name_texts_that_are_absent(rt: HostRuntime) -> Result<(), F
         &["run", "--", "--"],
         &["run", "p", "t"],
         &["run", "p", "--fuel=1", "--", "--fuel=1"],
+        &["run", "p", "--", "--show"],
+        &["run", "p", "-", "--show", "--beat=1"],
         &["compile", "--", "-"],
     ];
     for words in cases {
