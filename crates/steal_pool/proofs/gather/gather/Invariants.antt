@@ -1,0 +1,21 @@
+use Rattle.std.proofs.Common.{◌≡◌, ℕ, ◌+◌, All, length, vec_len}
+use Rattle.join_records.specs.Passes.{view, IsPassOf, ArePassesOf, parts_in}
+use Rattle.join_records.specs.Views.{total}
+use Rattle.steal_pool.specs.Has.{Has, IsRooted}
+use Rattle.steal_pool.specs.Together.{Adds, Gathered}
+use Rattle.steal_pool.proofs.gather.gather.Given as goal
+
+abbrev pub invariant-loop-worker : goal.invariant-loop-worker
+invariant-loop-worker g l =
+    All (λ w. IsPassOf l.plan.records.now w.seat.pass
+    × Has g.S.Setting.terms (view w.seat.pass) w.seat.taken w.seat.counts w.seat.work
+    × IsRooted g.S.Setting.terms (view w.seat.pass)) l.workers.items
+    × ArePassesOf l.plan.records.now l.sum.passes.items
+    × (parts_in l.sum.passes.items + total (λ w. (view w.seat.pass).parts) l.workers.items
+    ≡ total (λ w. (view w.seat.pass).parts) l.fn.workers.items)
+    × (length l.sum.passes.items + length l.workers.items ≡ length l.fn.workers.items)
+    × Gathered g.S.Setting.terms l.sum.outcome l.sum.passes.items
+    × Adds g.S.Setting.terms l.sum.beats l.sum.skipped l.sum.instructions l.sum.passes.items
+
+abbrev pub decreases-loop-worker : goal.decreases-loop-worker
+decreases-loop-worker g l = vec_len l.workers

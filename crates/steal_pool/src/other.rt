@@ -1,0 +1,37 @@
+// Another worker's deque.
+
+ghost use Rattle.std.specs.Prelude.{◌≡◌, ◌⊎◌, ◌<◌};
+ghost use Rattle.crossbeam_deque.specs.Handles.{IsPassOf, stealer_deque, stealer_flavor, taken};
+ghost use Rattle.crossbeam_deque.specs.Steals.{MatchSteal};
+ghost use Rattle.crossbeam_deque.specs.Tasks.{Finds};
+
+use crate::deques::{Emptied, Look, Numbers, Thief, ThiefPass};
+use crate::load::Setting;
+use crossbeam_deque::Steal;
+use crossbeam_deque::protocol::Protocol;
+
+/// Another worker's deque.
+#[derive(Drop)]
+pub(crate) struct Other<S: Setting>
+where
+    Numbers<S>: Protocol<u32, ()>,
+{
+    pub(crate) thief: Thief<S>,
+    pub(crate) pass: ThiefPass,
+    pub ghost fits: { IsPassOf (stealer_deque thief) pass },
+    pub ghost fifo: { stealer_flavor thief ≡ 0 },
+}
+
+impl<S: Setting> Other<S> {
+    /// Takes the first number. Another taker was faster where others have taken more than this end
+    /// knew of, or the deque was empty.
+    pub(crate) fn steal<E: Emptied>(&mut self) -> Steal<u32>
+        requires finds { Finds S.deque self.old.pass.id tt E.empty }
+        ensures told { MatchSteal result E.empty
+            ((taken self.old.pass < taken self.new.pass) ⊎ E.empty)
+            (λ x. x < S.terms.records) }
+        ensures pass { self.new.pass.id ≡ self.old.pass.id }
+    {
+        self.thief.steal_as::<Look<S, E>>(&mut self.pass)
+    }
+}

@@ -1,0 +1,162 @@
+// A worker's turn.
+
+ghost use Rattle.std.specs.Prelude.{◌≡◌, ◌⊎◌, ◌<◌, [], All};
+ghost use Rattle.crossbeam_deque.specs.Handles.{stealer_deque, worker_deque, worker_port};
+ghost use Rattle.crossbeam_deque.specs.Tasks.{Finds};
+ghost use Rattle.join_records.specs.Passes.{IsPassOf, view};
+ghost use Rattle.steal_pool.specs.declared.seat.Work.TheVariants.{Nothing};
+ghost use Rattle.steal_pool.specs.Stepped.{ClaimsNone, SeesUnset, WhereAgain, WhereIdle};
+ghost use Rattle.steal_pool.specs.Found.{FindsAll, HasLost};
+ghost use Rattle.steal_pool.specs.Has.{Has, HasNothing, Runs, Stays};
+
+use crate::deques::{EachEmptied, Numbers};
+use crate::gate::{Gate, GateEvent};
+use crate::load::{Machine, Setting};
+use crate::plan::Plan;
+use crate::seat::{Seat, Work};
+use crate::source::{Found, Source};
+use crossbeam_deque::protocol::Protocol;
+use join_records::Load;
+use std::mem::replace;
+use tpal_machine::Task;
+
+/// A worker: its number, its seat, and where it gets numbers of records.
+#[derive(Drop)]
+pub(crate) struct Worker<S: Setting>
+where
+    Machine<S>: Load,
+    Numbers<S>: Protocol<u32, ()>,
+{
+    pub(crate) number: u32,
+    pub(crate) seat: Seat<S>,
+    pub(crate) source: Source<S>,
+}
+
+/// What a turn came to.
+#[derive(Clone, Copy, PartialEq, Eq, Debug)]
+pub(crate) enum Step {
+    /// It did something.
+    Worked,
+    /// There was nothing to do, and the run isn't over.
+    Idle,
+    /// It lost a number to another worker, or the record of a number to another claim.
+    Again,
+    /// The worker has ended.
+    Over,
+}
+
+impl<S: Setting> Worker<S> {
+    // Hands on the number of a record that was opened. Without room for it the worker is lost.
+    fn hand_on(&mut self, number: u32)
+        requires number { number < S.terms.records }
+        requires has { Has S.terms (view self.old.seat.pass) self.old.seat.taken
+            self.old.seat.counts self.old.seat.work }
+        ensures pass { self.new.seat.pass ≡ self.old.seat.pass }
+        ensures has { Has S.terms (view self.new.seat.pass) self.new.seat.taken
+            self.new.seat.counts self.new.seat.work }
+    {
+        if !self.source.put(number) {
+            self.seat.work = Work::Lost;
+        }
+    }
+
+    // Runs its task, and hands on the number of a record that was opened.
+    fn run<G: Gate>(&mut self, plan: &Plan<S>, gate: &G, task: Task)
+        requires table { IsPassOf plan.now.records.now self.old.seat.pass }
+        requires runs { Runs S.terms (view self.old.seat.pass) self.old.seat.taken
+            self.old.seat.counts task }
+        ensures pass { IsPassOf plan.now.records.now self.new.seat.pass
+            × Stays (view self.old.seat.pass) (view self.new.seat.pass) }
+        ensures has { Has S.terms (view self.new.seat.pass) self.new.seat.taken
+            self.new.seat.counts self.new.seat.work }
+    {
+        if let Some(number) = self.seat.run(plan, task) {
+            self.hand_on(number);
+            gate.at(self.number, GateEvent::Opened);
+        }
+    }
+
+    // Looks for a child to claim, and where there is none whether the finish was made.
+    fn look<E: EachEmptied, G: Gate>(&mut self, plan: &Plan<S>, gate: &G) -> Step
+        requires table { IsPassOf plan.now.records.now self.old.seat.pass }
+        requires nothing { self.old.seat.work ≡ Nothing }
+        requires has { HasNothing S.terms (view self.old.seat.pass) self.old.seat.taken
+            self.old.seat.counts }
+        requires own { Finds S.deque (worker_port self.old.source.owner) tt
+            (E.each (worker_deque self.old.source.owner)) }
+        requires others { FindsAll S.deque E.each self.old.source.others.items }
+        ensures pass { IsPassOf plan.now.records.now self.new.seat.pass
+            × Stays (view self.old.seat.pass) (view self.new.seat.pass) }
+        ensures has { Has S.terms (view self.new.seat.pass) self.new.seat.taken
+            self.new.seat.counts self.new.seat.work }
+        ensures empty { WhereIdle result (self.old.source.list.items ≡ []) }
+        ensures own { WhereIdle result (E.each (worker_deque self.old.source.owner)) }
+        ensures others { WhereIdle result
+            (All (λ o. E.each (stealer_deque o.thief)) self.old.source.others.items) }
+        ensures unset { WhereIdle result
+            (SeesUnset (view self.old.seat.pass) (view self.new.seat.pass)) }
+        ensures again { WhereAgain result
+            (HasLost E.each self.old.source.others.items self.new.source.others.items
+            ⊎ ClaimsNone (view self.old.seat.pass) (view self.new.seat.pass)) }
+    {
+        match self.source.find::<E>() {
+            Found::Number(number) => {
+                if !self.seat.claim(plan, number) {
+                    return Step::Again;
+                }
+                gate.at(self.number, GateEvent::Claimed);
+                Step::Worked
+            }
+            Found::Lost => Step::Again,
+            Found::Nothing => {
+                if self.seat.look(plan) {
+                    Step::Over
+                } else {
+                    Step::Idle
+                }
+            }
+        }
+    }
+
+    /// One turn: runs the task that the worker has, or settles what it ended with, or looks for
+    /// another. `Idle` comes only where its list was empty, its own deque and each other one was
+    /// found empty at a moment of this turn, and the finish word was read unset. `Again` comes only
+    /// where a steal lost to another taker, or a claim found its child gone.
+    pub(crate) fn turn<E: EachEmptied, G: Gate>(&mut self, plan: &Plan<S>, gate: &G) -> Step
+        requires table { IsPassOf plan.now.records.now self.old.seat.pass }
+        requires has { Has S.terms (view self.old.seat.pass) self.old.seat.taken
+            self.old.seat.counts self.old.seat.work }
+        requires own { Finds S.deque (worker_port self.old.source.owner) tt
+            (E.each (worker_deque self.old.source.owner)) }
+        requires others { FindsAll S.deque E.each self.old.source.others.items }
+        ensures pass { IsPassOf plan.now.records.now self.new.seat.pass
+            × Stays (view self.old.seat.pass) (view self.new.seat.pass) }
+        ensures has { Has S.terms (view self.new.seat.pass) self.new.seat.taken
+            self.new.seat.counts self.new.seat.work }
+        ensures empty { WhereIdle result (self.old.source.list.items ≡ []) }
+        ensures own { WhereIdle result (E.each (worker_deque self.old.source.owner)) }
+        ensures others { WhereIdle result
+            (All (λ o. E.each (stealer_deque o.thief)) self.old.source.others.items) }
+        ensures unset { WhereIdle result
+            (SeesUnset (view self.old.seat.pass) (view self.new.seat.pass)) }
+        ensures again { WhereAgain result
+            (HasLost E.each self.old.source.others.items self.new.source.others.items
+            ⊎ ClaimsNone (view self.old.seat.pass) (view self.new.seat.pass)) }
+    {
+        match replace(&mut self.seat.work, Work::Nothing) {
+            Work::Runs(task) => {
+                self.run(plan, gate, task);
+                Step::Worked
+            }
+            Work::Ended(ending) => {
+                self.seat.settle(plan, ending);
+                Step::Worked
+            }
+            Work::Nothing => self.look::<E, G>(plan, gate),
+            over @ (Work::Finished(_) | Work::Saw | Work::Lost) => {
+                self.seat.work = over;
+                Step::Over
+            }
+        }
+    }
+}
