@@ -1,14 +1,12 @@
 -- What the law of statements asks of a scene, in one record.
-use Rattle.std.proofs.Common.{◌≡◌, ◌≢◌, ℕ, suc, ◌<◌, ◌≤◌, false, List, [], ◌∷◌, ◌++◌, length, Option, arith}
+use Rattle.std.proofs.Common.{◌≡◌, ◌≢◌, ℕ, suc, ◌<◌, ◌≤◌, List, [], ◌∷◌, ◌++◌, length, Option, arith}
 use Rattle.std.specs.Prelude.{ℤ}
 use Rattle.std.specs.List.{AllByRecursion}
 use Rattle.std.proofs.lemmas.List.{length-append}
 use Rattle.tp_value.specs.declared.limits.TheConstants.{MAX_PAR_NESTING}
-use Rattle.loop_syntax.specs.declared.Reduce.{Reduce}
 use Rattle.tpal_syntax.specs.Listing.{Listing}
 use Rattle.block_lower.specs.Layout.{bound_cell, cursor_cell, rec_cell, value_cell}
-use Rattle.block_lower.specs.Round.{Round, loop_round, unreduced, par_round}
-use Rattle.block_lower.proofs.Lists.{all_behind}
+use Rattle.block_lower.specs.Round.{Round, loop_round}
 use Rattle.block_lower.proofs.Loops.{inside, MayIn}
 use Rattle.block_lower.proofs.Scene.{Scene}
 use Rattle.block_lower.proofs.Ticks.{later_in}
@@ -25,8 +23,6 @@ module _ (code : Listing) (heartbeat z room : ℕ) where
     -- the cells of the `par` loops inside may change
     pub controls : (d : ℕ) → round.depth ≤ d → d < MAX_PAR_NESTING
         → S.may (cursor_cell d) × S.may (rec_cell d)
-    -- no chance is counted
-    pub uncounted : S.counts ≡ false
 
   module _ {S : Scene code heartbeat z} {round : Round} {names : List (List ℕ)}
       (admits : Admits S round names) where
@@ -37,7 +33,6 @@ module _ (code : Listing) (heartbeat z room : ℕ) where
       lowest = omega (arith, admits.lowest, longer);
       allows = admits.allows;
       controls = admits.controls;
-      uncounted = admits.uncounted;
     }
 
     -- with more ticks
@@ -47,7 +42,6 @@ module _ (code : Listing) (heartbeat z room : ℕ) where
       lowest = admits.lowest;
       allows = admits.allows;
       controls = admits.controls;
-      uncounted = admits.uncounted;
     }
 
     -- the cells of a loop don't change in its body; those of another variable may
@@ -87,16 +81,4 @@ module _ (code : Listing) (heartbeat z room : ℕ) where
         lowest = deeper;
         allows = λ y free. other_cell y free.0 (admits.allows y free.1);
         controls = inner_controls;
-        uncounted = admits.uncounted;
-      }
-
-      pub admits_par : (reduces : List Reduce)
-          → Admits body (par_round round names reduces) (names ++ x ∷ [])
-      admits_par reduces = record {
-        levels = admits.levels;
-        lowest = deeper;
-        allows = λ y free. other_cell y free.0
-            (admits.allows y (all_behind _ (unreduced names 0 reduces) round.fixed free.1));
-        controls = λ d from. inner_controls d (omega (arith, from));
-        uncounted = admits.uncounted;
       }

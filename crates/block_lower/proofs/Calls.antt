@@ -1,5 +1,7 @@
 -- The law of a call: from the tick on, where the arguments stand in the new activation.
-use Rattle.std.proofs.Common.{◌≡◌, ◌≢◌, ℕ, zero, suc, ◌+◌, ◌-◌, ◌<◌, ◌≤◌, ◌^◌, false, List, [], ◌∷◌, length, Option, Some, Ok, refl, sym, ap, subst, ◌∙◌, arith, ◌⊎◌, inl, inr}
+use Rattle.std.proofs.Common.{◌≡◌, ◌≢◌, ℕ, zero, suc, ◌+◌, ◌-◌, ◌<◌, ◌≤◌, ◌^◌, false, List, [], ◌∷◌}
+use Rattle.std.proofs.Common.{length, Option, Some, Ok, refl, sym, ap, subst, ◌∙◌, arith, ◌⊎◌, inl}
+use Rattle.std.proofs.Common.{inr}
 use Rattle.std.specs.Prelude.{ℤ, pos, ◌-ℤ◌, ◌+ℤ◌, slice_set}
 use Rattle.std.specs.Int.{w64}
 use Rattle.std.specs.List.{AllByRecursion}
@@ -18,6 +20,8 @@ use Rattle.tp_value.specs.declared.limits.TheConstants.{MAX_CALL_DEPTH}
 use Rattle.tp_value.specs.declared.Place.{Place}
 use Rattle.tp_value.specs.declared.TrapKind.TheVariants.{Deep}
 use Rattle.tp_value.specs.declared.Stop.TheVariants.{Trap}
+use Rattle.loop_syntax.specs.declared.Stmt.{Stmt}
+use Rattle.loop_syntax.specs.declared.Program.{Program}
 use Rattle.loop_syntax.specs.declared.Func.{Func}
 use Rattle.loop_syntax.specs.declared.Name.{Name}
 use Rattle.loop_rules.specs.Names.{texts}
@@ -46,21 +50,26 @@ use Rattle.tpal_machine.proofs.Kit.{Back, on_calc, on_load, on_sfree, on_if, on_
 use Rattle.expr_lower.specs.Standing.{Remains}
 use Rattle.expr_lower.proofs.Registers.{register_set, register_other}
 use Rattle.expr_lower.proofs.Standing.{next, behind, regrouped}
-use Rattle.block_lower.specs.Code.{Opens, Calls, call_test, call_entry, call_exit, parameter_cell, store, to}
-use Rattle.block_lower.specs.Layout.{return_cell, levels_cell, value_cell, Entry, entry_of, Activation}
+use Rattle.block_lower.specs.Code.{Opens, Calls, call_test, call_entry, call_exit, parameter_cell}
+use Rattle.block_lower.specs.Code.{store, to}
+use Rattle.block_lower.specs.Layout.{return_cell, levels_cell, value_cell, Entry, entry_of}
+use Rattle.block_lower.specs.Layout.{Activation}
 use Rattle.block_lower.specs.Main.{HasRoom, FunctionAt, bare}
 use Rattle.block_lower.specs.Quiet.{list_is_quiet}
 use Rattle.block_lower.proofs.Activations.{word_popped, popped_length, clear_above, marks_from}
 use Rattle.block_lower.proofs.Arguments.{AreIn, are_in_same, held_bound, names_bound, wider}
-use Rattle.block_lower.proofs.Called.{with_value, value_then, back_with, going_back, body_set, entered_with, enter_is, deep_call, open_call}
+use Rattle.block_lower.proofs.Called.{with_value, value_then, back_with, going_back, body_set}
+use Rattle.block_lower.proofs.Called.{entered_with, enter_is, deep_call, open_call}
 use Rattle.block_lower.proofs.Callees.{Returns, HasPlace, CallsOwe}
 use Rattle.block_lower.proofs.Choices.{above_zero}
 use Rattle.block_lower.proofs.Moves.{opened, calm, jumps, traps}
-use Rattle.block_lower.proofs.Loops.{Passes}
-use Rattle.block_lower.proofs.Permitting.{Permits, loud_calls}
+use Rattle.block_lower.proofs.Occurring.{Called}
+use Rattle.block_lower.proofs.Serving.{Served, served_call}
+use Rattle.block_lower.proofs.Permitting.{PermitsCall, PermitsOne, loud_calls}
 use Rattle.block_lower.proofs.Promises.{following}
 use Rattle.block_lower.proofs.Regions.{Covers, all_front}
-use Rattle.block_lower.proofs.Results.{Result, fin, noting_then, notes_behind, notes_then, out, result, then}
+use Rattle.block_lower.proofs.Results.{Result, fin, noting_then, notes_behind, notes_then, out}
+use Rattle.block_lower.proofs.Results.{result, then}
 use Rattle.block_lower.proofs.Scene.{Scene, Near, Shows, ShowsIn, header, runs_kept}
 use Rattle.block_lower.proofs.Showing.{as_many, shows_words, shows_ticked}
 use Rattle.block_lower.proofs.Simple.{stores_in}
@@ -70,15 +79,15 @@ use Rattle.block_lower.proofs.Words.{word_same, word_other, words_as_many}
 
 -- ---- numbers
 
-level_less : (room : ℕ) → room ≤ MAX_CALL_DEPTH → wrapped (pos (suc room) -ℤ pos 1) ≡ pos room
+pub level_less : (room : ℕ) → room ≤ MAX_CALL_DEPTH → wrapped (pos (suc room) -ℤ pos 1) ≡ pos room
 level_less room few =
     let same : pos (suc room) -ℤ pos 1 ≡ pos room = omega (arith, ints) in
     rw same (int_wrap_fits w64 (pos room) (omega (arith, ints, few)))
 
-base_more : (z size : ℕ) → z + size ≤ 2 ^ 62 → wrapped (pos z +ℤ pos size) ≡ pos (z + size)
+pub base_more : (z size : ℕ) → z + size ≤ 2 ^ 62 → wrapped (pos z +ℤ pos size) ≡ pos (z + size)
 base_more z size low = int_wrap_fits w64 (pos (z + size)) (omega (arith, ints, low))
 
-base_less : (z size : ℕ) → z + size ≤ 2 ^ 62 → wrapped (pos (z + size) -ℤ pos size) ≡ pos z
+pub base_less : (z size : ℕ) → z + size ≤ 2 ^ 62 → wrapped (pos (z + size) -ℤ pos size) ≡ pos z
 base_less z size low =
     let same : pos (z + size) -ℤ pos size ≡ pos z = omega (arith, ints) in
     rw same (int_wrap_fits w64 (pos z) (omega (arith, ints, low)))
@@ -87,22 +96,51 @@ base_less z size low =
 
 -- the levels that are left and the label to return to, in the first cells of an activation
 abbrev pub entered_stack : ℕ → ℕ → ℕ → ℕ → StackValue → StackValue
-entered_stack z size room back s = with_word (with_word s (pos (z + (size + levels_cell))) (word.Int (pos room))) (pos (z + (size + return_cell))) (word.Label back)
+entered_stack z size room back s = with_word (with_word s (pos (z + (size + levels_cell))) (word.Int
+    (pos room))) (pos (z + (size + return_cell))) (word.Label back)
 
 module _ (code : Listing) (heartbeat z : ℕ) (act : Activation) (fuel room back : ℕ) where
   -- a task enters a function, where the number of levels that were left is in register 0
-  entering : (K : Back code heartbeat) (state : machine.State) (label : ℕ) (instrs : List Instr) (end : Term) → Opens code label instrs end → Remains code state.block state.at (call_entry act.size back) (to label)
-      → length state.registers ≡ 32 → register state.registers 31 ≡ word.Int (pos z) → register state.registers 0 ≡ word.Int (pos (suc room)) → room ≤ MAX_CALL_DEPTH → z + act.size ≤ 2 ^ 62 → state.stack.base ≤ z → z + (act.size + levels_cell) < state.stack.base + length state.stack.cells
-      → ((words : List Word) (beat : BeatState) → length words ≡ 32 → register words 31 ≡ word.Int (pos (z + act.size)) → K.Holds (record state { registers = words; stack = entered_stack z act.size room back state.stack; beat = beat; block = label; at = 0 }))
+  pub entering : (K : Back code heartbeat) (state : machine.State) (label : ℕ) (instrs : List Instr)
+      (end : Term) → Opens code label instrs end → Remains code state.block state.at (call_entry
+      act.size back) (to label)
+      → length state.registers ≡ 32 → register state.registers 31 ≡ word.Int (pos z) → register
+      state.registers 0 ≡ word.Int (pos (suc room)) → room ≤ MAX_CALL_DEPTH → z + act.size ≤ 2 ^
+      62 → state.stack.base ≤ z → z + (act.size + levels_cell) < state.stack.base + length
+      state.stack.cells
+      → ((words : List Word) (beat : BeatState) → length words ≡ 32 → register words 31 ≡ word.Int
+      (pos (z + act.size)) → K.Holds (record state {
+        registers = words;
+        stack = entered_stack z
+            act.size room back state.stack;
+        beat = beat;
+        block = label;
+        at = 0;
+      }))
       → K.Holds state
   entering K state label instrs end begins stands many base left few high low inside go =
-      on_calc code heartbeat K state 0 0 alu.Sub (value.Int (pos 1)) (word.Int (pos room)) (next code state _ _ (to label) stands) (rw left (ap (λ n. Ok (word.Int n)) (level_less room few)))
-      (stores_in code heartbeat z act fuel K one (act.size + levels_cell) (value.Reg 0) _ (to label) second base_one low inside
-      (subst (λ (w : Word). K.Holds (effect.with_stack (advanced one) (with_word state.stack (pos (z + (act.size + levels_cell))) w))) (sym is_one)
-      (stores_in code heartbeat z act fuel K two (act.size + return_cell) (value.Label back) _ (to label) third base_one low (omega (arith, inside, words_as_many state.stack (z + (act.size + levels_cell)) (word.Int (pos room))))
-      (on_calc code heartbeat K three 31 31 alu.Add (value.Int (pos act.size)) (word.Int (pos (z + act.size))) (next code three _ _ (to label) fourth) (rw base_one (ap (λ n. Ok (word.Int n)) (base_more z act.size high)))
-      (jumps code heartbeat K four label instrs end (behind code state.block (state.at + 1 + 1 + 1) _ _ (to label) fourth) begins
-      (go (slice_set words 31 (word.Int (pos (z + act.size)))) (counted (counted (counted (counted (counted state.beat))))) (length-set words 31 (word.Int (pos (z + act.size))) ∙ many_one) (register_set words 31 (word.Int (pos (z + act.size))) (omega (arith, many_one)))))))))
+      on_calc code heartbeat K state 0 0 alu.Sub (value.Int (pos 1)) (word.Int (pos room)) (next
+      code state _ _ (to label) stands) (rw left (ap (λ n. Ok (word.Int n)) (level_less room
+      few)))
+      (stores_in code heartbeat z act fuel K one (act.size + levels_cell) (value.Reg 0) _ (to label)
+      second base_one low inside
+      (subst (λ (w : Word). K.Holds (effect.with_stack (advanced one) (with_word state.stack (pos (z
+      + (act.size + levels_cell))) w))) (sym is_one)
+      (stores_in code heartbeat z act fuel K two (act.size + return_cell) (value.Label back) _ (to
+      label) third base_one low (omega (
+        arith,
+        inside,
+        words_as_many state.stack (z + (act.size
+            + levels_cell)) (word.Int (pos room)),
+      ))
+      (on_calc code heartbeat K three 31 31 alu.Add (value.Int (pos act.size)) (word.Int (pos (z +
+      act.size))) (next code three _ _ (to label) fourth) (rw base_one (ap (λ n. Ok (word.Int
+      n)) (base_more z act.size high)))
+      (jumps code heartbeat K four label instrs end (behind code state.block (state.at + 1 + 1 + 1)
+      _ _ (to label) fourth) begins
+      (go (slice_set words 31 (word.Int (pos (z + act.size)))) (counted (counted (counted (counted
+      (counted state.beat))))) (length-set words 31 (word.Int (pos (z + act.size))) ∙ many_one)
+      (register_set words 31 (word.Int (pos (z + act.size))) (omega (arith, many_one)))))))))
     where
       words : List Word
       words = slice_set state.registers 0 (word.Int (pos room))
@@ -111,7 +149,8 @@ module _ (code : Listing) (heartbeat z : ℕ) (act : Activation) (fuel room back
       many_one = length-set state.registers 0 (word.Int (pos room)) ∙ many
 
       base_one : register words 31 ≡ word.Int (pos z)
-      base_one = register_other state.registers 0 31 (word.Int (pos room)) (λ (q : 31 ≡ 0). absurd (omega (arith, q))) ∙ base
+      base_one = register_other state.registers 0 31 (word.Int (pos room)) (λ (q : 31 ≡ 0). absurd
+          (omega (arith, q))) ∙ base
 
       is_one : register words 0 ≡ word.Int (pos room)
       is_one = register_set state.registers 0 (word.Int (pos room)) (omega (arith, many))
@@ -120,7 +159,8 @@ module _ (code : Listing) (heartbeat z : ℕ) (act : Activation) (fuel room back
       one = with_register (advanced state) 0 (word.Int (pos room))
 
       two : machine.State
-      two = effect.with_stack (advanced one) (with_word state.stack (pos (z + (act.size + levels_cell))) (word.Int (pos room)))
+      two = effect.with_stack (advanced one) (with_word state.stack (pos (z + (act.size +
+          levels_cell))) (word.Int (pos room)))
 
       three : machine.State
       three = effect.with_stack (advanced two) (entered_stack z act.size room back state.stack)
@@ -128,18 +168,23 @@ module _ (code : Listing) (heartbeat z : ℕ) (act : Activation) (fuel room back
       four : machine.State
       four = with_register (advanced three) 31 (word.Int (pos (z + act.size)))
 
-      second : Remains code state.block (state.at + 1) (store (act.size + levels_cell) (value.Reg 0) ∷ store (act.size + return_cell) (value.Label back) ∷ instr.Calc 31 31 alu.Add (value.Int (pos act.size)) ∷ []) (to label)
+      second : Remains code state.block (state.at + 1) (store (act.size + levels_cell) (value.Reg 0)
+          ∷ store (act.size + return_cell) (value.Label back) ∷ instr.Calc 31 31 alu.Add (value.Int
+          (pos act.size)) ∷ []) (to label)
       second = behind code state.block state.at _ _ (to label) stands
 
-      third : Remains code state.block (state.at + 1 + 1) (store (act.size + return_cell) (value.Label back) ∷ instr.Calc 31 31 alu.Add (value.Int (pos act.size)) ∷ []) (to label)
+      third : Remains code state.block (state.at + 1 + 1) (store (act.size + return_cell)
+          (value.Label back) ∷ instr.Calc 31 31 alu.Add (value.Int (pos act.size)) ∷ []) (to label)
       third = behind code state.block (state.at + 1) _ _ (to label) second
 
-      fourth : Remains code state.block (state.at + 1 + 1 + 1) (instr.Calc 31 31 alu.Add (value.Int (pos act.size)) ∷ []) (to label)
+      fourth : Remains code state.block (state.at + 1 + 1 + 1) (instr.Calc 31 31 alu.Add (value.Int
+          (pos act.size)) ∷ []) (to label)
       fourth = behind code state.block (state.at + 1 + 1) _ _ (to label) third
 
 -- ---- callers
 
-module _ (code : Listing) (heartbeat z : ℕ) (act : Activation) (fuel : ℕ) (S : Scene code heartbeat z) (names : List (List ℕ)) where
+module _ (code : Listing) (heartbeat z : ℕ) (act : Activation) (fuel : ℕ) (S : Scene code heartbeat
+    z) (names : List (List ℕ)) where
   -- who goes on behind a call: its world, its state, and a value that its activation keeps
   pub record Caller (A : Type 0) : Type 0 where
     pub world : S.World
@@ -152,7 +197,9 @@ module _ (code : Listing) (heartbeat z : ℕ) (act : Activation) (fuel : ℕ) (S
   -- how an activation keeps a value, in cells behind those of the variables
   pub record Keeping (A : Type 0) : Type 1 where
     pub Holds : A → StackValue → Type 0
-    pub same : length names ≤ act.most → (a : A) (s t : StackValue) → ((c : ℕ) → z + value_cell (length names) ≤ c → c < z + act.size → word_at t (pos c) ≡ word_at s (pos c)) → Holds a s → Holds a t
+    pub same : length names ≤ act.most → (a : A) (s t : StackValue) → ((c : ℕ) → z + value_cell
+        (length names) ≤ c → c < z + act.size → word_at t (pos c) ≡ word_at s (pos c)) → Holds a s →
+        Holds a t
 
   -- a task that is about to call: the arguments are in the function's activation, above its own
   pub record Calling {A : Type 0} (kept : Keeping A) (entry : Entry) (w : Caller A) : Type 0 where
@@ -165,12 +212,15 @@ module _ (code : Listing) (heartbeat z : ℕ) (act : Activation) (fuel : ℕ) (S
 
 -- ---- the scene of a function
 
-module _ (code : Listing) (heartbeat z : ℕ) (act : Activation) (fuel : ℕ) (S : Scene code heartbeat z) (names : List (List ℕ)) (lowest : S.lowest ≤ length names) (has_room : HasRoom act) (A : Type 0) (kept : Keeping code heartbeat z act fuel S names A)
+module _ (code : Listing) (heartbeat z : ℕ) (act : Activation) (fuel : ℕ) (S : Scene code heartbeat
+    z) (names : List (List ℕ)) (lowest : S.lowest ≤ length names) (has_room : HasRoom act) (A : Type
+    0) (kept : Keeping code heartbeat z act fuel S names A)
     (next_in : A → ℤ → meaning.State → Ran) (k : meaning.State → Result) (room back : ℕ) where
   abbrev Behind : Type 0
   Behind = Caller code heartbeat z act fuel S names A
 
-  -- what is kept of the caller, below the function's activation, whose first cell has the label to return to
+  -- what is kept of the caller, below the function's activation, whose first cell has the label to
+  -- return to
   pub record Kept (w : Behind) (s : StackValue) : Type 0 where
     pub keeps : S.kept w.world s
     pub low : s.base ≤ z
@@ -179,33 +229,50 @@ module _ (code : Listing) (heartbeat z : ℕ) (act : Activation) (fuel : ℕ) (S
     pub label : word_at s (pos (z + act.size + return_cell)) ≡ Some (word.Label back)
     pub also : kept.Holds w.value s
 
-  pub kept_same : (w : Behind) (s t : StackValue) → t.base ≡ s.base → ((a : ℕ) → a < z + act.size + header → word_at t (pos a) ≡ word_at s (pos a)) → Kept w s → Kept w t
+  pub kept_same : (w : Behind) (s t : StackValue) → t.base ≡ s.base → ((a : ℕ) → a < z + act.size +
+      header → word_at t (pos a) ≡ word_at s (pos a)) → Kept w s → Kept w t
   kept_same w s t base at h = record {
-    keeps = S.stable w.world (length names) s t lowest (record { base = base; at = λ a lt others. at a (omega (arith, lt, w.few, has_room.room)) }) h.keeps;
+    keeps = S.stable w.world (length names) s t lowest (record {
+      base = base;
+      at = λ a lt others. at
+          a (omega (arith, lt, w.few, has_room.room));
+    }) h.keeps;
     low = omega (arith, base, h.low);
-    vars = held_same s t z 0 w.state.vars (λ x from below. at (z + value_cell x) (omega (arith, below, as_many w.state.vars names w.named, w.few, has_room.room))) h.vars;
+    vars = held_same s t z 0 w.state.vars (λ x from below. at (z + value_cell x) (omega (
+      arith,
+      below,
+      as_many w.state.vars names w.named,
+      w.few,
+      has_room.room,
+    ))) h.vars;
     levels = at (z + levels_cell) (omega (arith, has_room.room)) ∙ h.levels;
     label = at (z + act.size + return_cell) (omega arith) ∙ h.label;
     also = kept.same w.few w.value s t (λ c from below. at c (omega (arith, below))) h.also;
   }
 
   -- the same behind a cut of the caller's world
-  pub kept_near : (w : Behind) (cut : S.World) (s t : StackValue) → Near z S.may S.lowest s t → S.kept cut t → Kept w s → Kept (record w { world = cut }) t
+  pub kept_near : (w : Behind) (cut : S.World) (s t : StackValue) → Near z S.may S.lowest s t →
+      S.kept cut t → Kept w s → Kept (record w { world = cut }) t
   kept_near w cut s t near keeps h = record {
     keeps = keeps;
     low = near.low;
-    vars = held_same s t z 0 w.state.vars (λ x from below. near_cell x (cases_lt x S.lowest)) h.vars;
+    vars = held_same s t z 0 w.state.vars (λ x from below. near_cell x (cases_lt x S.lowest))
+        h.vars;
     levels = near.levels ∙ h.levels;
-    label = near.above (z + act.size + return_cell) (omega (arith, lowest, w.few, has_room.room)) ∙ h.label;
-    also = kept.same w.few w.value s t (λ c from below. near.above c (omega (arith, from, lowest))) h.also;
+    label = near.above (z + act.size + return_cell) (omega (arith, lowest, w.few, has_room.room)) ∙
+        h.label;
+    also = kept.same w.few w.value s t (λ c from below. near.above c (omega (arith, from, lowest)))
+        h.also;
   }
     where
-      near_cell : (x : ℕ) → (x < S.lowest) ⊎ (S.lowest ≤ x) → word_at t (pos (z + value_cell x)) ≡ word_at s (pos (z + value_cell x))
+      near_cell : (x : ℕ) → (x < S.lowest) ⊎ (S.lowest ≤ x) → word_at t (pos (z + value_cell x)) ≡
+          word_at s (pos (z + value_cell x))
       near_cell x (inl below) = near.vars x below
       near_cell x (inr above) = near.above (z + value_cell x) (omega (arith, above))
 
   -- such a cut changes nothing of the function's activation
-  pub near_up : (w : Behind) (s t : StackValue) → Near z S.may S.lowest s t → Near (z + act.size) (λ c. header ≤ c) 0 s t
+  pub near_up : (w : Behind) (s t : StackValue) → Near z S.may S.lowest s t → Near (z + act.size) (λ
+      c. header ≤ c) 0 s t
   near_up w s t near = record {
     low = omega (arith, near.low);
     top = near.top;
@@ -217,7 +284,13 @@ module _ (code : Listing) (heartbeat z : ℕ) (act : Activation) (fuel : ℕ) (S
 
   -- no mark of the caller's world stands in it or above
   pub clear : (w : Behind) (a : ℕ) → z + act.size ≤ a → is_marked_from (S.marks w.world) a ≡ false
-  clear w a from = clear_above (S.marks w.world) (z + value_cell S.lowest) a (omega (arith, from, lowest, w.few, has_room.room)) (S.below w.world)
+  clear w a from = clear_above (S.marks w.world) (z + value_cell S.lowest) a (omega (
+    arith,
+    from,
+    lowest,
+    w.few,
+    has_room.room,
+  )) (S.below w.world)
 
   -- what follows the function
   abbrev pub follows : Behind → meaning.State → Result
@@ -244,19 +317,34 @@ module _ (code : Listing) (heartbeat z : ℕ) (act : Activation) (fuel : ℕ) (S
     lowest = 0;
     may = λ c. header ≤ c;
     cut = λ w n printed. record w { world = S.cut w.world n printed };
-    stable = λ w level s t low same h. kept_same w s t same.base (λ a lt. same.at a (omega (arith, lt)) (λ c m q. absurd (omega (arith, lt, q, m)))) h;
+    stable = λ w level s t low same h. kept_same w s t same.base (λ a lt. same.at a (omega (
+      arith,
+      lt,
+    )) (λ c m q. absurd (omega (arith, lt, q, m)))) h;
     below = λ w. clear w (z + act.size + value_cell 0) (omega arith);
     stops = λ w. S.stops w.world;
     stopped = λ w. S.stopped w.world;
-    covers = λ w r given. all_front (Covers (S.region w.world)) r.notes (notes_behind r (follows w)) (subst (AllByRecursion (Covers (S.region w.world))) (notes_then r (follows w)) (S.covers w.world (then r (follows w)) given));
-    allows = λ w t a b n ts r given. S.allows w.world t a b n ts (then r (follows w)) (subst (S.given w.world) (noting_then (Writes t a b ∷ []) r (follows w)) given);
+    covers = λ w r given. all_front (Covers (S.region w.world)) r.notes (notes_behind r (follows w))
+        (subst (AllByRecursion (Covers (S.region w.world))) (notes_then r (follows w)) (S.covers
+        w.world (then r (follows w)) given));
+    allows = λ w t a b n ts r has given. S.allows w.world t a b n ts (then r (follows w)) has (subst
+        (S.given w.world) (noting_then (Writes t a b ∷ []) r (follows w)) given);
     is_open = S.is_open;
     handles = λ opened w more r st state marked from diverted runs goes_back cut.
-        S.handles opened w.world more (then r (follows w)) st state marked (marks_from more (z + value_cell S.lowest) (z + act.size + value_cell 0) (omega (arith, lowest, w.few, has_room.room)) from) diverted
-        (runs_kept runs z S.size (S.kept w.world) runs.keeps.low (omega (arith, runs.tall, w.tall)) runs.keeps.keeps) goes_back
+        S.handles opened w.world more (then r (follows w)) st state marked (marks_from more (z +
+        value_cell S.lowest) (z + act.size + value_cell 0) (omega (
+          arith,
+          lowest,
+          w.few,
+          has_room.room,
+        )) from) diverted
+        (runs_kept runs z S.size (S.kept w.world) runs.keeps.low (omega (arith, runs.tall, w.tall))
+        runs.keeps.keeps) goes_back
         (λ n u gone near runs_u. cut n u gone (near_up w state.stack u.stack near)
-        (runs_kept runs_u (z + act.size) 0 (Kept (record w { world = S.cut w.world n st.output })) (omega (arith, runs_u.low)) (omega (arith, runs.tall, near.top))
-        (kept_near w (S.cut w.world n st.output) state.stack u.stack near runs_u.keeps runs.keeps)));
+        (runs_kept runs_u (z + act.size) 0 (Kept (record w { world = S.cut w.world n st.output }))
+        (omega (arith, runs_u.low)) (omega (arith, runs.tall, near.top))
+        (kept_near w (S.cut w.world n st.output) state.stack u.stack near runs_u.keeps
+        runs.keeps)));
   }
 
   -- the activation of the function, with room for so many variables
@@ -265,101 +353,149 @@ module _ (code : Listing) (heartbeat z : ℕ) (act : Activation) (fuel : ℕ) (S
 
   -- ---- into the function
 
-  module _ (entry : Entry) (w : Behind) (c : Calling code heartbeat z act fuel S names kept entry w) where
-    low : c.task.stack.base ≤ z
-    low = c.shows.low
+  module _ (entry : Entry) (w : Behind) (c : Calling code heartbeat z act fuel S names kept entry w)
+    where
+      low : c.task.stack.base ≤ z
+      low = c.shows.low
 
-    top : c.task.stack.base + length c.task.stack.cells ≡ z + (act.size + entry.size)
-    top = c.shows.top
+      top : c.task.stack.base + length c.task.stack.cells ≡ z + (act.size + entry.size)
+      top = c.shows.top
 
-    abbrev first_stack : StackValue
-    first_stack = with_word c.task.stack (pos (z + (act.size + levels_cell))) (word.Int (pos room))
+      abbrev first_stack : StackValue
+      first_stack = with_word c.task.stack (pos (z + (act.size + levels_cell))) (word.Int (pos room))
 
-    abbrev stack : StackValue
-    stack = entered_stack z act.size room back c.task.stack
+      abbrev stack : StackValue
+      stack = entered_stack z act.size room back c.task.stack
 
-    as_long : length stack.cells ≡ length c.task.stack.cells
-    as_long = words_as_many first_stack (z + (act.size + return_cell)) (word.Label back) ∙ words_as_many c.task.stack (z + (act.size + levels_cell)) (word.Int (pos room))
+      pub as_long : length stack.cells ≡ length c.task.stack.cells
+      as_long = words_as_many first_stack (z + (act.size + return_cell)) (word.Label back) ∙
+          words_as_many c.task.stack (z + (act.size + levels_cell)) (word.Int (pos room))
 
-    -- all other cells are as before
-    others : (a : ℕ) → a ≢ z + (act.size + levels_cell) → a ≢ z + (act.size + return_cell) → word_at stack (pos a) ≡ word_at c.task.stack (pos a)
-    others a ne nf = word_other first_stack (z + (act.size + return_cell)) a (word.Label back) (omega (arith, low)) nf ∙ word_other c.task.stack (z + (act.size + levels_cell)) a (word.Int (pos room)) (omega (arith, low)) ne
+      -- all other cells are as before
+      others : (a : ℕ) → a ≢ z + (act.size + levels_cell) → a ≢ z + (act.size + return_cell) → word_at
+          stack (pos a) ≡ word_at c.task.stack (pos a)
+      others a ne nf = word_other first_stack (z + (act.size + return_cell)) a (word.Label back)
+          (omega (arith, low)) nf ∙ word_other c.task.stack (z + (act.size + levels_cell)) a (word.Int
+          (pos room)) (omega (arith, low)) ne
 
-    -- so are those of the caller
-    lower : (a : ℕ) → a < z + act.size → word_at stack (pos a) ≡ word_at c.task.stack (pos a)
-    lower a lt = others a (λ q. absurd (omega (arith, q, lt))) (λ q. absurd (omega (arith, q, lt)))
+      -- so are those of the caller
+      lower : (a : ℕ) → a < z + act.size → word_at stack (pos a) ≡ word_at c.task.stack (pos a)
+      lower a lt = others a (λ q. absurd (omega (arith, q, lt))) (λ q. absurd (omega (arith, q, lt)))
 
-    stored_there : AreIn stack z (parameter_cell code act) 0 c.numbers
-    stored_there = are_in_same c.task.stack stack z (parameter_cell code act) 0 c.numbers (λ j from to_it. others (z + parameter_cell code act j) (λ q. absurd (omega (arith, q))) (λ q. absurd (omega (arith, q)))) c.stored
+      pub stored_there : AreIn stack z (parameter_cell code act) 0 c.numbers
+      stored_there = are_in_same c.task.stack stack z (parameter_cell code act) 0 c.numbers (λ j from
+          to_it. others (z + parameter_cell code act j) (λ q. absurd (omega (arith, q))) (λ q. absurd
+          (omega (arith, q)))) c.stored
 
-    levels_there : value_cell 0 ≤ entry.size → word_at stack (pos (z + act.size + levels_cell)) ≡ Some (word.Int (pos room))
-    levels_there room_in =
-        let same : z + act.size + levels_cell ≡ z + (act.size + levels_cell) = omega arith in
-        ap (λ a. word_at stack (pos a)) same
-        ∙ (word_other first_stack (z + (act.size + return_cell)) (z + (act.size + levels_cell)) (word.Label back) (omega (arith, low)) (λ q. absurd (omega (arith, q)))
-        ∙ word_same c.task.stack (z + (act.size + levels_cell)) (word.Int (pos room)) (omega (arith, low)) (omega (arith, top, room_in)))
+      pub levels_there : value_cell 0 ≤ entry.size → word_at stack (pos (z + act.size + levels_cell))
+          ≡ Some (word.Int (pos room))
+      levels_there room_in =
+          let same : z + act.size + levels_cell ≡ z + (act.size + levels_cell) = omega arith in
+          ap (λ a. word_at stack (pos a)) same
+          ∙ (word_other first_stack (z + (act.size + return_cell)) (z + (act.size + levels_cell))
+          (word.Label back) (omega (arith, low)) (λ q. absurd (omega (arith, q)))
+          ∙ word_same c.task.stack (z + (act.size + levels_cell)) (word.Int (pos room)) (omega (
+            arith,
+            low,
+          )) (omega (arith, top, room_in)))
 
-    kept_there : value_cell 0 ≤ entry.size → Kept w stack
-    kept_there room_in =
-        let same : z + act.size + return_cell ≡ z + (act.size + return_cell) = omega arith in
-        record {
-          keeps = S.stable w.world (length names) c.task.stack stack lowest (record { base = refl; at = λ a lt others_it. lower a (omega (arith, lt, w.few, has_room.room)) }) c.shows.keeps;
-          low = low;
-          vars = held_same c.task.stack stack z 0 w.state.vars (λ x from below. lower (z + value_cell x) (omega (arith, below, as_many w.state.vars names w.named, w.few, has_room.room))) c.shows.vars;
-          levels = lower (z + levels_cell) (omega (arith, has_room.room)) ∙ c.shows.levels;
-          label = ap (λ a. word_at stack (pos a)) same ∙ word_same first_stack (z + (act.size + return_cell)) (word.Label back) (omega (arith, low)) (omega (arith, top, room_in, words_as_many c.task.stack (z + (act.size + levels_cell)) (word.Int (pos room))));
-          also = kept.same w.few w.value c.task.stack stack (λ a from below. lower a below) c.also;
-        }
+      pub kept_there : value_cell 0 ≤ entry.size → Kept w stack
+      kept_there room_in =
+          let same : z + act.size + return_cell ≡ z + (act.size + return_cell) = omega arith in
+          record {
+            keeps = S.stable w.world (length names) c.task.stack stack lowest (record {
+              base = refl;
+              at = λ a lt others_it. lower a (omega (arith, lt, w.few, has_room.room));
+            })
+                c.shows.keeps;
+            low = low;
+            vars = held_same c.task.stack stack z 0 w.state.vars (λ x from below. lower (z +
+                value_cell x) (omega (
+                  arith,
+                  below,
+                  as_many w.state.vars names w.named,
+                  w.few,
+                  has_room.room,
+                ))) c.shows.vars;
+            levels = lower (z + levels_cell) (omega (arith, has_room.room)) ∙ c.shows.levels;
+            label = ap (λ a. word_at stack (pos a)) same ∙ word_same first_stack (z + (act.size +
+                return_cell)) (word.Label back) (omega (arith, low)) (omega (
+                  arith,
+                  top,
+                  room_in,
+                  words_as_many c.task.stack (z + (act.size + levels_cell)) (word.Int (pos room)),
+                ));
+            also = kept.same w.few w.value c.task.stack stack (λ a from below. lower a below) c.also;
+          }
 
-    -- a task in the function's first block shows its parameters
-    shows_callee : (most : ℕ) (func : Func) (words : List Word) (spent : FuelState) (st : meaning.State) → length func.params.items ≡ entry.parameters → length (texts func.params.items) ≤ most → HasRoom (inner entry most)
-        → Shows code heartbeat z (wider act entry.size) fuel S w.world names st c.task.registers c.task.stack c.task.tables spent c.task.output c.task.goal (c.task.pending, c.task.met)
-        → length words ≡ 32 → register words 31 ≡ word.Int (pos (z + act.size))
-        → Shows code heartbeat (z + act.size) (inner entry most) fuel callee w (texts func.params.items) (entered_with func c.numbers st) words stack c.task.tables spent c.task.output c.task.goal (c.task.pending, c.task.met)
-    shows_callee most func words spent st arity few room_in h many base = record {
-      size = many;
-      base = base;
-      limit = h.limit;
-      limited = h.limited;
-      tall = omega arith;
-      ticks = h.ticks;
-      within = h.within;
-      begun = h.begun;
-      printed = h.printed;
-      ends = h.ends;
-      free = h.free;
-      unmet = h.unmet;
-      marked = h.marked;
-      named = names_bound func.params.items c.numbers (c.many ∙ sym arity);
-      few = few;
-      tabled = h.tabled;
-      held = h.held;
-      can = h.can;
-      ranged = h.ranged;
-      levels = levels_there (omega (arith, room_in.room));
-      unmarked = subst (λ (a : ℕ). is_marked_from c.task.stack.marks a ≡ false) (omega arith) h.unmarked;
-      top = omega (arith, h.top, as_long);
-      low = omega (arith, low);
-      room = omega (arith, h.top, as_long, room_in.room);
-      vars = held_bound stack z act.size 0 func.params.items c.numbers stored_there;
-      keeps = kept_there (omega (arith, room_in.room));
-    }
+      -- a task in the function's first block shows its parameters
+      pub shows_callee : (most : ℕ) (func : Func) (words : List Word) (spent : FuelState) (st :
+          meaning.State) → length func.params.items ≡ entry.parameters → length (texts
+          func.params.items) ≤ most → HasRoom (inner entry most)
+          → Shows code heartbeat z (wider act entry.size) fuel S w.world names st c.task.registers
+          c.task.stack c.task.tables spent c.task.output c.task.goal (c.task.pending, c.task.met)
+          → length words ≡ 32 → register words 31 ≡ word.Int (pos (z + act.size))
+          → Shows code heartbeat (z + act.size) (inner entry most) fuel callee w (texts
+          func.params.items) (entered_with func c.numbers st) words stack c.task.tables spent
+          c.task.output c.task.goal (c.task.pending, c.task.met)
+      shows_callee most func words spent st arity few room_in h many base = record {
+        size = many;
+        base = base;
+        limit = h.limit;
+        limited = h.limited;
+        tall = omega arith;
+        ticks = h.ticks;
+        within = h.within;
+        begun = h.begun;
+        printed = h.printed;
+        ends = h.ends;
+        free = h.free;
+        unmet = h.unmet;
+        marked = h.marked;
+        named = names_bound func.params.items c.numbers (c.many ∙ sym arity);
+        few = few;
+        tabled = h.tabled;
+        held = h.held;
+        can = h.can;
+        ranged = h.ranged;
+        levels = levels_there (omega (arith, room_in.room));
+        unmarked = subst (λ (a : ℕ). is_marked_from c.task.stack.marks a ≡ false) (omega arith)
+            h.unmarked;
+        top = omega (arith, h.top, as_long);
+        low = omega (arith, low);
+        room = omega (arith, h.top, as_long, room_in.room);
+        vars = held_bound stack z act.size 0 func.params.items c.numbers stored_there;
+        keeps = kept_there (omega (arith, room_in.room));
+      }
 
   -- ---- and back
 
-  module _ (entry : Entry) (w : Behind) (t : StackValue) (same : Kept w t) (is_top : t.base + length t.cells ≡ z + act.size + entry.size) where
-    caller_cells : (a : ℕ) → a < z + act.size → word_at (popped t entry.size) (pos a) ≡ word_at t (pos a)
+  module _ (entry : Entry) (w : Behind) (t : StackValue) (same : Kept w t) (is_top : t.base + length
+      t.cells ≡ z + act.size + entry.size) where
+    caller_cells : (a : ℕ) → a < z + act.size → word_at (popped t entry.size) (pos a) ≡ word_at t
+        (pos a)
     caller_cells a lt = word_popped t entry.size a (omega (arith, is_top, lt, same.low))
 
     pub also_back : kept.Holds w.value (popped t entry.size)
-    also_back = kept.same w.few w.value t (popped t entry.size) (λ a from below. caller_cells a below) same.also
+    also_back = kept.same w.few w.value t (popped t entry.size) (λ a from below. caller_cells a
+        below) same.also
 
     -- a task that returned shows the caller's variables
-    pub shows_back : (most : ℕ) (names_in : List (List ℕ)) (u : meaning.State) (words other : List Word) (holdings : List Holding) (spent : FuelState) (output : List ℕ) (goal : Goal) (ties : Option Tie × Option Tie)
-        → Shows code heartbeat (z + act.size) (inner entry most) fuel callee w names_in u words t holdings spent output goal ties → length other ≡ 32 → register other 31 ≡ word.Int (pos z)
-        → Shows code heartbeat z act fuel S w.world names (back_with w.state.vars u) other (popped t entry.size) holdings spent output goal ties
+    pub shows_back : (most : ℕ) (names_in : List (List ℕ)) (u : meaning.State) (words other : List
+        Word) (holdings : List Holding) (spent : FuelState) (output : List ℕ) (goal : Goal) (ties :
+        Option Tie × Option Tie)
+        → Shows code heartbeat (z + act.size) (inner entry most) fuel callee w names_in u words t
+        holdings spent output goal ties → length other ≡ 32 → register other 31 ≡ word.Int (pos
+        z)
+        → Shows code heartbeat z act fuel S w.world names (back_with w.state.vars u) other (popped t
+        entry.size) holdings spent output goal ties
     shows_back most names_in u words other holdings spent output goal ties h many base =
-        let long : t.base + length (popped t entry.size).cells ≡ z + act.size = omega (arith, is_top, popped_length t entry.size, same.low) in
+        let long : t.base + length (popped t entry.size).cells ≡ z + act.size = omega (
+          arith,
+          is_top,
+          popped_length t entry.size,
+          same.low,
+        ) in
         record {
           size = many;
           base = base;
@@ -381,70 +517,125 @@ module _ (code : Listing) (heartbeat z : ℕ) (act : Activation) (fuel : ℕ) (S
           can = h.can;
           ranged = h.ranged;
           levels = caller_cells (z + levels_cell) (omega (arith, has_room.room)) ∙ same.levels;
-          unmarked = subst (λ (ms : List Mark). is_marked_from ms (z + act.size) ≡ false) (sym h.marked) (clear w (z + act.size) (omega arith));
+          unmarked = subst (λ (ms : List Mark). is_marked_from ms (z + act.size) ≡ false) (sym
+              h.marked) (clear w (z + act.size) (omega arith));
           top = long;
           low = same.low;
           room = omega (arith, long, has_room.room);
-          vars = held_same t (popped t entry.size) z 0 w.state.vars (λ x from below. caller_cells (z + value_cell x) (omega (arith, has_room.room, w.few, below, as_many w.state.vars names w.named))) same.vars;
-          keeps = S.stable w.world (length names) t (popped t entry.size) lowest (record { base = refl; at = λ a lt others. caller_cells a (omega (arith, lt, w.few, has_room.room)) }) same.keeps;
+          vars = held_same t (popped t entry.size) z 0 w.state.vars (λ x from below. caller_cells (z
+              + value_cell x) (omega (
+                arith,
+                has_room.room,
+                w.few,
+                below,
+                as_many w.state.vars names
+                    w.named,
+              ))) same.vars;
+          keeps = S.stable w.world (length names) t (popped t entry.size) lowest (record {
+            base =
+                refl;
+            at = λ a lt others. caller_cells a (omega (arith, lt, w.few, has_room.room));
+          })
+              same.keeps;
         }
 
 -- ---- the law
 
-module _ (code : Listing) (heartbeat z : ℕ) (act : Activation) (fuel : ℕ) (S : Scene code heartbeat z) (names : List (List ℕ)) (entry : Entry) (A : Type 0) (kept : Keeping code heartbeat z act fuel S names A) (next_in : A → ℤ → meaning.State → Ran) (k : meaning.State → Result) where
+module _ (code : Listing) (heartbeat z : ℕ) (act : Activation) (fuel : ℕ) (S : Scene code heartbeat
+    z) (names : List (List ℕ)) (entry : Entry) (A : Type 0) (kept : Keeping code heartbeat z act
+    fuel S names A) (next_in : A → ℤ → meaning.State → Ran) (k : meaning.State → Result) where
   abbrev Waiting : Type 0
   Waiting = Caller code heartbeat z act fuel S names A
 
   abbrev Making : Waiting → Type 0
   Making w = Calling code heartbeat z act fuel S names kept entry w
 
-  -- what a task owes behind the call that shows the caller's variables, with the value in register 0
+  -- what a task owes behind the call that shows the caller's variables, with the value in register
+  -- 0
   abbrev pub GoesOn : List Instr → Term → Type 0
   GoesOn more last =
-      (w : Waiting) (v : ℤ) (u : meaning.State) (task : machine.State) → InRange v → ShowsIn code heartbeat z act fuel S w.world names (back_with w.state.vars u) task → kept.Holds w.value task.stack
-      → register task.registers 0 ≡ word.Int v → Remains code task.block task.at more last → (S.owing w.world (then (result (next_in w.value v (back_with w.state.vars u))) k)).Holds task
+      (w : Waiting) (v : ℤ) (u : meaning.State) (task : machine.State) → InRange v → ShowsIn code
+      heartbeat z act fuel S w.world names (back_with w.state.vars u) task → kept.Holds w.value
+      task.stack
+      → register task.registers 0 ≡ word.Int v → Remains code task.block task.at more last →
+      (S.owing w.world (then (result (next_in w.value v (back_with w.state.vars u))) k)).Holds
+      task
 
   abbrev later : meaning.State → meaning.State
   later st = record st { ticks = ticked fuel st.ticks }
 
   -- the tick, and the levels that are left in register 0
-  at_test : (w : Waiting) (c : Making w) (g : meaning.State → Ran) (go : ℕ) (place : Place) → Remains code c.task.block c.task.at (call_test go place) term.Halt
-      → ((words : List Word) (spent : FuelState) (beat : BeatState) (at : ℕ) → Shows code heartbeat z (wider act entry.size) fuel S w.world names (later w.state) words c.task.stack c.task.tables spent c.task.output c.task.goal (c.task.pending, c.task.met)
-      → register words 0 ≡ word.Int (pos S.levels) → Remains code c.task.block at (instr.IfJump 0 go ∷ instr.Trap Deep place ∷ []) term.Halt → (S.owing w.world (then (result (g (later w.state))) k)).Holds (record c.task { registers = words; fuel = spent; beat = beat; at = at }))
+  at_test : (w : Waiting) (c : Making w) (g : meaning.State → Ran) (go : ℕ) (place : Place) →
+      Remains code c.task.block c.task.at (call_test go place) term.Halt
+      → ((words : List Word) (spent : FuelState) (beat : BeatState) (at : ℕ) → Shows code heartbeat
+      z (wider act entry.size) fuel S w.world names (later w.state) words c.task.stack
+      c.task.tables spent c.task.output c.task.goal (c.task.pending, c.task.met)
+      → register words 0 ≡ word.Int (pos S.levels) → Remains code c.task.block at (instr.IfJump 0 go
+      ∷ instr.Trap Deep place ∷ []) term.Halt → (S.owing w.world (then (result (g (later
+      w.state))) k)).Holds (record c.task {
+        registers = words;
+        fuel = spent;
+        beat = beat;
+        at =
+            at;
+      }))
       → (S.owing w.world (then (result (after (tick fuel w.state) g)) k)).Holds c.task
   at_test w c g go place stands goes =
-      ticks code heartbeat z (wider act entry.size) fuel S w.world names w.state c.task c.shows _ term.Halt g k stands
+      ticks code heartbeat z (wider act entry.size) fuel S w.world names w.state c.task c.shows _
+      term.Halt g k stands
       (λ below.
       let one : machine.State = effect.with_tick (advanced c.task) in
-      let shows_one : ShowsIn code heartbeat z (wider act entry.size) fuel S w.world names (later w.state) one = shows_ticked code heartbeat z (wider act entry.size) fuel S w.world c.shows below in
-      let second : Remains code c.task.block (c.task.at + 1) _ term.Halt = behind code c.task.block c.task.at _ _ term.Halt stands in
+      let shows_one : ShowsIn code heartbeat z (wider act entry.size) fuel S w.world names (later
+      w.state) one = shows_ticked code heartbeat z (wider act entry.size) fuel S w.world c.shows
+      below in
+      let second : Remains code c.task.block (c.task.at + 1) _ term.Halt = behind code c.task.block
+      c.task.at _ _ term.Halt stands in
       let words : List Word = slice_set c.task.registers 0 (word.Int (pos S.levels)) in
-      on_load code heartbeat (S.owing w.world (then (result (g (later w.state))) k)) one 0 31 levels_cell (pos z) (word.Int (pos S.levels)) (next code one _ _ term.Halt second) shows_one.base shows_one.levels
+      on_load code heartbeat (S.owing w.world (then (result (g (later w.state))) k)) one 0 31
+      levels_cell (pos z) (word.Int (pos S.levels)) (next code one _ _ term.Halt second)
+      shows_one.base shows_one.levels
       (goes words one.fuel (counted (counted c.task.beat)) (c.task.at + 1 + 1)
-      (shows_words code heartbeat z (wider act entry.size) fuel S w.world shows_one words (length-set c.task.registers 0 (word.Int (pos S.levels))) (register_other c.task.registers 0 31 (word.Int (pos S.levels)) (λ (q : 31 ≡ 0). absurd (omega (arith, q)))))
+      (shows_words code heartbeat z (wider act entry.size) fuel S w.world shows_one words
+      (length-set c.task.registers 0 (word.Int (pos S.levels))) (register_other c.task.registers
+      0 31 (word.Int (pos S.levels)) (λ (q : 31 ≡ 0). absurd (omega (arith, q)))))
       (register_set c.task.registers 0 (word.Int (pos S.levels)) (omega (arith, c.shows.size)))
       (behind code c.task.block (c.task.at + 1) _ _ term.Halt second)))
 
   -- where no level is left the call traps
-  too_deep : (w : Waiting) (c : Making w) (go : ℕ) (place : Place) → S.levels ≡ 0 → Remains code c.task.block c.task.at (call_test go place) term.Halt → (S.owing w.world (then (result (after (tick fuel w.state) (trapped Deep place))) k)).Holds c.task
+  too_deep : (w : Waiting) (c : Making w) (go : ℕ) (place : Place) → S.levels ≡ 0 → Remains code
+      c.task.block c.task.at (call_test go place) term.Halt → (S.owing w.world (then (result (after
+      (tick fuel w.state) (trapped Deep place))) k)).Holds c.task
   too_deep w c go place none stands =
       at_test w c (trapped Deep place) go place stands
       (λ words spent beat at shows left here.
-      let one : machine.State = record c.task { registers = words; fuel = spent; beat = beat; at = at } in
+      let one : machine.State = record c.task {
+        registers = words;
+        fuel = spent;
+        beat = beat;
+        at =
+            at;
+      } in
       let two : machine.State = advanced one in
-      let last : Remains code c.task.block (at + 1) (instr.Trap Deep place ∷ []) term.Halt = behind code c.task.block at _ _ term.Halt here in
-      on_if_not code heartbeat (S.owing w.world (out (Trap Deep place) (later w.state))) one 0 go (next code one _ _ term.Halt here) (left ∙ ap (λ n. word.Int (pos n)) none)
-      (S.stops w.world (Trap Deep place) (later w.state) two (advanced two) tt shows.ticks shows.printed shows.ends (traps code heartbeat two Deep place (next code two _ _ term.Halt last) shows.free)))
+      let last : Remains code c.task.block (at + 1) (instr.Trap Deep place ∷ []) term.Halt = behind
+      code c.task.block at _ _ term.Halt here in
+      on_if_not code heartbeat (S.owing w.world (out (Trap Deep place) (later w.state))) one 0 go
+      (next code one _ _ term.Halt here) (left ∙ ap (λ n. word.Int (pos n)) none)
+      (S.stops w.world (Trap Deep place) (later w.state) two (advanced two) tt shows.ticks
+      shows.printed shows.ends (traps code heartbeat two Deep place (next code two _ _ term.Halt
+      last) shows.free)))
 
-  module _ (lowest : S.lowest ≤ length names) (has_room : HasRoom act) (low : z + act.size ≤ 2 ^ 62) (room back : ℕ) (most : ℕ) (more : List Instr) (last : Term) (behind_it : Opens code back (call_exit entry.size act.size more) last) (goes : GoesOn more last) where
+  module _ (lowest : S.lowest ≤ length names) (has_room : HasRoom act) (low : z + act.size ≤ 2 ^ 62)
+      (room back : ℕ) (most : ℕ) (more : List Instr) (last : Term) (behind_it : Opens code back
+      (call_exit entry.size act.size more) last) (goes : GoesOn more last) where
     abbrev scene : Scene code heartbeat (z + act.size)
     scene = callee code heartbeat z act fuel S names lowest has_room A kept next_in k room back
 
     abbrev act_in : Activation
-    act_in = inner code heartbeat z act fuel S names lowest has_room A kept next_in k room back entry most
+    act_in = inner code heartbeat z act fuel S names lowest has_room A kept next_in k room back
+        entry most
 
     -- the caller's activation runs again
-    returns : Returns code heartbeat fuel (z + act.size) act_in scene
+    pub returns : Returns code heartbeat fuel (z + act.size) act_in scene
     returns = record {
       label = λ w. back;
       calm = λ w. calm code back (call_exit entry.size act.size more) last behind_it;
@@ -452,54 +643,126 @@ module _ (code : Listing) (heartbeat z : ℕ) (act : Activation) (fuel : ℕ) (S
       goes_on = again;
     }
       where
-        again : (w : Waiting) (names_in : List (List ℕ)) (st : meaning.State) (state : machine.State) (n : ℤ) (beat : BeatState) → ShowsIn code heartbeat (z + act.size) act_in fuel scene w names_in st state → InRange n → register state.registers 0 ≡ word.Int n
-            → (scene.owing w (fin (with_value n st))).Holds (record state { beat = beat; block = back; at = 0 })
+        again : (w : Waiting) (names_in : List (List ℕ)) (st : meaning.State) (state :
+            machine.State) (n : ℤ) (beat : BeatState) → ShowsIn code heartbeat (z + act.size) act_in
+            fuel scene w names_in st state → InRange n → register state.registers 0 ≡ word.Int n
+            → (scene.owing w (fin (with_value n st))).Holds (record state {
+              beat = beat;
+              block =
+                  back;
+              at = 0;
+            })
         again w names_in st state n beat shows fits is =
             let one : machine.State = record state { beat = beat; block = back; at = 0 } in
-            let two : machine.State = effect.with_stack (advanced one) (popped state.stack entry.size) in
-            let here : Remains code back 0 (call_exit entry.size act.size more) last = opened code back (call_exit entry.size act.size more) last behind_it in
-            let second : Remains code back 1 (instr.Calc 31 31 alu.Sub (value.Int (pos act.size)) ∷ more) last = behind code back 0 _ _ last here in
-            let top : z + act.size ≡ state.stack.base + (length state.stack.cells - entry.size) = omega (arith, shows.top, shows.low) in
+            let two : machine.State = effect.with_stack (advanced one) (popped state.stack
+            entry.size) in
+            let here : Remains code back 0 (call_exit entry.size act.size more) last = opened code
+            back (call_exit entry.size act.size more) last behind_it in
+            let second : Remains code back 1 (instr.Calc 31 31 alu.Sub (value.Int (pos act.size)) ∷
+            more) last = behind code back 0 _ _ last here in
+            let top : z + act.size ≡ state.stack.base + (length state.stack.cells - entry.size) =
+            omega (arith, shows.top, shows.low) in
             let unmarked : is_marked_from state.stack.marks (z + act.size) ≡ false =
-            subst (λ (ms : List Mark). is_marked_from ms (z + act.size) ≡ false) (sym shows.marked) (clear code heartbeat z act fuel S names lowest has_room A kept next_in k room back w (z + act.size) (omega arith)) in
+            subst (λ (ms : List Mark). is_marked_from ms (z + act.size) ≡ false) (sym shows.marked)
+            (clear code heartbeat z act fuel S names lowest has_room A kept next_in k room back
+            w (z + act.size) (omega arith)) in
             let words : List Word = slice_set state.registers 31 (word.Int (pos z)) in
-            on_sfree code heartbeat (scene.owing w (fin (with_value n st))) one entry.size (next code one _ _ last here) (omega (arith, shows.top, shows.low))
+            on_sfree code heartbeat (scene.owing w (fin (with_value n st))) one entry.size (next
+            code one _ _ last here) (omega (arith, shows.top, shows.low))
             (subst (λ (a : ℕ). is_marked_from state.stack.marks a ≡ false) top unmarked)
-            (on_calc code heartbeat (scene.owing w (fin (with_value n st))) two 31 31 alu.Sub (value.Int (pos act.size)) (word.Int (pos z)) (next code two _ more last second) (rw shows.base (ap (λ m. Ok (word.Int m)) (base_less z act.size low)))
+            (on_calc code heartbeat (scene.owing w (fin (with_value n st))) two 31 31 alu.Sub
+            (value.Int (pos act.size)) (word.Int (pos z)) (next code two _ more last second) (rw
+            shows.base (ap (λ m. Ok (word.Int m)) (base_less z act.size low)))
             (goes w n st (with_register (advanced two) 31 (word.Int (pos z))) fits
-            (shows_back code heartbeat z act fuel S names lowest has_room A kept next_in k room back entry w state.stack shows.keeps shows.top most names_in st state.registers words state.tables state.fuel state.output state.goal (state.pending, state.met) shows
-            (length-set state.registers 31 (word.Int (pos z)) ∙ shows.size) (register_set state.registers 31 (word.Int (pos z)) (omega (arith, shows.size))))
-            (also_back code heartbeat z act fuel S names lowest has_room A kept next_in k room back entry w state.stack shows.keeps shows.top)
-            (register_other state.registers 31 0 (word.Int (pos z)) (λ (q : 0 ≡ 31). absurd (omega (arith, q))) ∙ is)
+            (shows_back code heartbeat z act fuel S names lowest has_room A kept next_in k room back
+            entry w state.stack shows.keeps shows.top most names_in st state.registers words
+            state.tables state.fuel state.output state.goal (state.pending, state.met) shows
+            (length-set state.registers 31 (word.Int (pos z)) ∙ shows.size) (register_set
+            state.registers 31 (word.Int (pos z)) (omega (arith, shows.size))))
+            (also_back code heartbeat z act fuel S names lowest has_room A kept next_in k room back
+            entry w state.stack shows.keeps shows.top)
+            (register_other state.registers 31 0 (word.Int (pos z)) (λ (q : 0 ≡ 31). absurd (omega
+            (arith, q))) ∙ is)
             (behind code back 1 _ more last second)))
 
-  module _ (lowest : S.lowest ≤ length names) (uncounted : S.counts ≡ false) (permits : act.calls ≡ false → Permits code heartbeat z act.dispatch S) (fs : List Func) (f : Name) (is_entry : entry_of act.functions f.text.items ≡ Some entry) (begin : List Note) (begin_passes : Passes code heartbeat z S begin) (instrs more : List Instr) (end last : Term) (call : Calls code act f.place entry instrs end more last) (goes : GoesOn more last) where
+  module _ (lowest : S.lowest ≤ length names) (stmt : Stmt) (p : Program) (permits : act.calls ≡
+      false → PermitsOne code heartbeat z p act.dispatch S names stmt) (f : Name) (is_called :
+      Called f.text.items stmt) (is_entry : entry_of act.functions f.text.items ≡ Some entry)
+      (instrs more : List Instr) (end last : Term) (call : Calls code act f.place entry instrs end
+      more last) (goes : GoesOn more last) where
+    abbrev fs : List Func
+    fs = p.funcs.items
+
     -- what a task owes at the tick, where calls have so many levels left
     abbrev Owing : ℕ → (w : Waiting) → Making w → Type 0
-    Owing room w c = (S.owing w.world (then (result (with_call (call_at fs fuel room f.text.items f.place c.numbers begin w.state) (next_in w.value))) k)).Holds c.task
+    Owing room w c = (S.owing w.world (then (result (with_call (call_at fs fuel room f.text.items
+        f.place c.numbers [] w.state) (next_in w.value))) k)).Holds c.task
 
-    tested : (w : Waiting) (c : Making w) → Remains code c.task.block c.task.at instrs end → Remains code c.task.block c.task.at (call_test call.go f.place) term.Halt
-    tested w c stands = regrouped code c.task.block c.task.at instrs (call_test call.go f.place) term.Halt call.test (subst (λ (t : Term). Remains code c.task.block c.task.at instrs t) call.stops stands)
+    tested : (w : Waiting) (c : Making w) → Remains code c.task.block c.task.at instrs end → Remains
+        code c.task.block c.task.at (call_test call.go f.place) term.Halt
+    tested w c stands = regrouped code c.task.block c.task.at instrs (call_test call.go f.place)
+        term.Halt call.test (subst (λ (t : Term). Remains code c.task.block c.task.at instrs t)
+        call.stops stands)
 
-    goes_in : (room : ℕ) → S.levels ≡ suc room → CallsOwe code heartbeat fuel (bare act) fs (suc room) → HasPlace z act (suc room) → (w : Waiting) (c : Making w) → Remains code c.task.block c.task.at instrs end → Owing (suc room) w c
+    goes_in : (room : ℕ) → S.levels ≡ suc room → CallsOwe code heartbeat fuel (bare act) p (suc
+        room) → HasPlace z act (suc room) → (w : Waiting) (c : Making w) → Remains code c.task.block
+        c.task.at instrs end → Owing (suc room) w c
     goes_in room levels calls place w c stands =
-        subst (λ (r : Result). (S.owing w.world r).Holds c.task) (sym (open_call fs fuel f.text.items f.place c.numbers begin w.state (next_in w.value) k room there.func there.named))
-        (at_test w c (λ u. with_call (enter (body_set fs fuel room) (Some there.func) c.numbers begin u) (next_in w.value)) call.go f.place (tested w c stands)
+        subst (λ (r : Result). (S.owing w.world r).Holds c.task) (sym (open_call fs fuel
+        f.text.items f.place c.numbers [] w.state (next_in w.value) k room there.func
+        there.named))
+        (at_test w c (λ u. with_call (enter (body_set fs fuel room) (Some there.func) c.numbers []
+        u) (next_in w.value)) call.go f.place (tested w c stands)
         (λ words spent beat at shows left here.
-        let one : machine.State = record c.task { registers = words; fuel = spent; beat = beat; at = at } in
+        let one : machine.State = record c.task {
+          registers = words;
+          fuel = spent;
+          beat = beat;
+          at =
+              at;
+        } in
         let two : machine.State = at_block call.go (advanced one) in
-        let is_left : register words 0 ≡ word.Int (pos (suc room)) = left ∙ ap (λ n. word.Int (pos n)) levels in
-        let given : Result = then (result (run_list (body_set fs fuel room) there.func.body.items (entered_with there.func c.numbers (later w.state)))) (value_then there.func.result) in
-        let K : Back code heartbeat = (callee code heartbeat z act fuel S names lowest place.has_room A kept next_in k room call.return).owing w given in
-        subst (λ (r : Result). (S.owing w.world r).Holds one) (sym (enter_is (body_set fs fuel room) there.func c.numbers begin (later w.state) (next_in w.value) k))
-        (begin_passes w.world (then given (going_back w.state.vars (next_in w.value) k)) one
-        (on_if code heartbeat K one 0 call.go (pos (suc room)) (next code one _ _ term.Halt here) is_left (above_zero room) (calm code call.go _ _ call.enters)
-        (entering code heartbeat z act fuel room call.return K two entry.label there.is.instrs there.is.end there.is.begins (opened code call.go _ _ call.enters) shows.size shows.base is_left (omega (arith, calls.few)) low shows.low (omega (arith, shows.top, there.is.has_room.room))
+        let is_left : register words 0 ≡ word.Int (pos (suc room)) = left ∙ ap (λ n. word.Int (pos
+        n)) levels in
+        let given : Result = then (result (run_list (body_set fs fuel room) there.func.body.items
+        (entered_with there.func c.numbers (later w.state)))) (value_then there.func.result) in
+        let K : Back code heartbeat = (callee code heartbeat z act fuel S names lowest
+        place.has_room A kept next_in k room call.return).owing w given in
+        subst (λ (r : Result). (S.owing w.world r).Holds one) (sym (enter_is (body_set fs fuel room)
+        there.func c.numbers [] (later w.state) (next_in w.value) k))
+        (on_if code heartbeat K one 0 call.go (pos (suc room)) (next code one _ _ term.Halt here)
+        is_left (above_zero room) (calm code call.go _ _ call.enters)
+        (entering code heartbeat z act fuel room call.return K two entry.label there.is.instrs
+        there.is.end there.is.begins (opened code call.go _ _ call.enters) shows.size shows.base
+        is_left (omega (arith, calls.few)) low shows.low (omega (
+          arith,
+          shows.top,
+          there.is.has_room.room,
+        ))
         (λ words_in beat_in many base.
-        calls.owe f.text.items entry is_entry (z + act.size) place_in (callee code heartbeat z act fuel S names lowest place.has_room A kept next_in k room call.return) refl refl (λ c from. from) uncounted permits_in (returns lowest place.has_room low room call.return there.most more last call.behind goes) w (entered_with there.func c.numbers (later w.state))
-        (record two { registers = words_in; stack = entered_stack z act.size room call.return c.task.stack; beat = beat_in; block = entry.label; at = 0 })
-        (shows_callee code heartbeat z act fuel S names lowest place.has_room A kept next_in k room call.return entry w c there.most there.func words_in spent (later w.state) there.arity (omega (arith, there.is.params, length-map there.func.params.items (λ (x : Name). x.text.items))) there.is.has_room
-        (shows_words code heartbeat z (wider act entry.size) fuel S w.world shows c.task.registers (c.shows.size ∙ sym shows.size) (c.shows.base ∙ sym shows.base)) many base) refl refl))))))
+        calls.owe f.text.items entry is_entry (z + act.size) place_in (callee code heartbeat z act
+        fuel S names lowest place.has_room A kept next_in k room call.return) refl refl (λ c
+        from. from) permits_in (returns lowest place.has_room low room call.return there.most
+        more last call.behind goes) w (entered_with there.func c.numbers (later w.state))
+        (record two {
+          registers = words_in;
+          stack = entered_stack z act.size room call.return
+              c.task.stack;
+          beat = beat_in;
+          block = entry.label;
+          at = 0;
+        })
+        (shows_callee code heartbeat z act fuel S names lowest place.has_room A kept next_in k room
+        call.return entry w c there.most there.func words_in spent (later w.state) there.arity
+        (omega (
+          arith,
+          there.is.params,
+          length-map there.func.params.items (λ (x : Name).
+              x.text.items),
+        )) there.is.has_room
+        (shows_words code heartbeat z (wider act entry.size) fuel S w.world shows c.task.registers
+        (c.shows.size ∙ sym shows.size) (c.shows.base ∙ sym shows.base)) many base) refl
+        refl)))))
       where
         there : FunctionAt code (bare act) fs f.text.items entry
         there = calls.are f.text.items entry is_entry
@@ -509,23 +772,45 @@ module _ (code : Listing) (heartbeat z : ℕ) (act : Activation) (fuel : ℕ) (S
 
         -- where a point of promotion can be reached in the function, one can in the call
         permits_in : list_is_quiet act.calls there.func.body.items ≡ false
-            → Permits code heartbeat (z + act.size) act.dispatch
-            (callee code heartbeat z act fuel S names lowest place.has_room A kept next_in k room call.return)
+            → PermitsCall code heartbeat (z + act.size) p act.dispatch
+            (callee code heartbeat z act fuel S names lowest place.has_room A kept next_in k room
+            call.return)
+            (texts there.func.params.items) f.text.items
         permits_in loud =
-            let outside : Permits code heartbeat z act.dispatch S =
-            permits (loud_calls fs f.text.items there.func there.named act.calls calls.quiet loud) in
+            let outside : PermitsOne code heartbeat z p act.dispatch S names stmt =
+            permits (loud_calls fs f.text.items there.func there.named act.calls calls.quiet loud)
+            in
+            let served : Served code heartbeat z S outside.around names = outside.served in
             record {
               opened = outside.opened;
               diverts = outside.diverts;
-              wholly = λ v t. outside.wholly v.world t;
-              met = λ v ts. outside.met v.world ts;
+              around = outside.around;
+              callable = outside.calls f.text.items is_called;
+              served = served_call code heartbeat (z + act.size)
+                  (callee code heartbeat z act fuel S names lowest place.has_room A kept next_in k
+                  room call.return)
+                  outside.around (texts there.func.params.items)
+                  (λ v s kept_in t is. served.whole v.world s kept_in.keeps t is)
+                  (λ v. served.early v.world);
             }
 
-        place_in : HasPlace (z + act.size) (inner code heartbeat z act fuel S names lowest place.has_room A kept next_in k room call.return entry there.most) room
-        place_in = record { has_room = there.is.has_room; deep = omega (arith, place.deep, place.has_room.fits) }
+        place_in : HasPlace (z + act.size) (inner code heartbeat z act fuel S names lowest
+            place.has_room A kept next_in k room call.return entry there.most) room
+        place_in = record {
+          has_room = there.is.has_room;
+          deep = omega (
+            arith,
+            place.deep,
+            place.has_room.fits,
+          );
+        }
 
     -- a call, with what follows it
-    pub calls_law : (room : ℕ) → S.levels ≡ room → CallsOwe code heartbeat fuel (bare act) fs room → HasPlace z act room → (w : Waiting) (c : Making w) → Remains code c.task.block c.task.at instrs end → Owing room w c
+    pub calls_law : (room : ℕ) → S.levels ≡ room → CallsOwe code heartbeat fuel (bare act) p room →
+        HasPlace z act room → (w : Waiting) (c : Making w) → Remains code c.task.block c.task.at
+        instrs end → Owing room w c
     calls_law zero levels calls place w c stands =
-        subst (λ (r : Result). (S.owing w.world r).Holds c.task) (sym (deep_call fs fuel f.text.items f.place c.numbers begin w.state (next_in w.value) k)) (too_deep w c call.go f.place levels (tested w c stands))
+        subst (λ (r : Result). (S.owing w.world r).Holds c.task) (sym (deep_call fs fuel
+        f.text.items f.place c.numbers [] w.state (next_in w.value) k)) (too_deep w c call.go
+        f.place levels (tested w c stands))
     calls_law (suc room) levels calls place w c stands = goes_in room levels calls place w c stands

@@ -38,14 +38,14 @@ use Rattle.block_lower.proofs.Values.{ExprLaw, computes}
 
 -- ---- the variables that were visible before a list of statements are the first ones after it
 
-record Longer (names longer : List (List ℕ)) : Type 0 where
-  more : List (List ℕ)
-  is : longer ≡ names ++ more
+pub record Longer (names longer : List (List ℕ)) : Type 0 where
+  pub more : List (List ℕ)
+  pub is : longer ≡ names ++ more
 
-same_names : (names : List (List ℕ)) → Longer names names
+pub same_names : (names : List (List ℕ)) → Longer names names
 same_names names = record { more = []; is = sym (append-nil names) }
 
-longer_one : (names : List (List ℕ)) (s : Stmt) → Longer names (names_after names s)
+pub longer_one : (names : List (List ℕ)) (s : Stmt) → Longer names (names_after names s)
 longer_one names (Let x e) = record { more = x.text.items ∷ []; is = refl }
 longer_one names (Set x e) = same_names names
 longer_one names (Put t a b e) = same_names names
@@ -59,7 +59,7 @@ longer_one names (Both x f y g) = same_names names
 longer_one names (Print place e) = same_names names
 longer_one names (Emit place t) = same_names names
 
-longer_list : (names : List (List ℕ)) (ss : List Stmt) → Longer names (names_after_list names ss)
+pub longer_list : (names : List (List ℕ)) (ss : List Stmt) → Longer names (names_after_list names ss)
 longer_list names [] = same_names names
 longer_list names (s ∷ ss) =
     let one : Longer names (names_after names s) = longer_one names s in

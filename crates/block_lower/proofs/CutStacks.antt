@@ -59,11 +59,11 @@ marks_left c = cond (has_iteration c) (loop_mark c.site c.z ∷ []) []
 -- ---- stores
 
 -- units leave the base of a stack and the number of its cells
-units_base : (accs : List (ℕ × Op)) (s : StackValue) (z : ℕ) → (with_units accs z s).base ≡ s.base
+pub units_base : (accs : List (ℕ × Op)) (s : StackValue) (z : ℕ) → (with_units accs z s).base ≡ s.base
 units_base [] s z = refl
 units_base (a ∷ accs) s z = units_base accs (with_word s (pos (z + a.0)) (Int (unit a.1))) z
 
-units_many : (accs : List (ℕ × Op)) (s : StackValue) (z : ℕ)
+pub units_many : (accs : List (ℕ × Op)) (s : StackValue) (z : ℕ)
     → length (with_units accs z s).cells ≡ length s.cells
 units_many [] s z = refl
 units_many (a ∷ accs) s z =
@@ -71,7 +71,7 @@ units_many (a ∷ accs) s z =
     ∙ words_as_many s (z + a.0) (Int (unit a.1))
 
 -- the child before its units are stored
-begun_word : (site : LoopSite) (z k : ℕ) (place : ℤ) (s : StackValue) (held : Holds s z site.cells)
+pub begun_word : (site : LoopSite) (z k : ℕ) (place : ℤ) (s : StackValue) (held : Holds s z site.cells)
     (off : ℕ) → off < site.cells → off ≢ site.rec → off ≢ site.cursor
     → word_at (child_2 site z k place s held) (pos (z + off)) ≡ word_at s (pos (z + off))
 begun_word site z k place s held off inside not_rec not_cursor =

@@ -1,4 +1,4 @@
--- A jump on a test into a promotion-ready block, and a task that goes back to one.
+-- A jump into a promotion-ready block, on a test or without one, and a task that goes back to one.
 use Rattle.std.proofs.Common.{◌≡◌, ◌⊎◌, inl, inr, ℕ, Bool, true, false, cond, List, refl, ap, ◌∙◌}
 use Rattle.std.specs.Prelude.{ℤ, not, nat_le, pos, ◌&&◌}
 use Rattle.std.specs.Ordering.{int_eq}
@@ -20,6 +20,7 @@ use Rattle.tpal_machine.specs.Step.{Beats, Goes, Step, advanced, at_block, enter
 use Rattle.tpal_machine.specs.Step.{entered_ready, enters, if_jump, step}
 use Rattle.tpal_machine.proofs.Kit.{Back, IsAtEnd, IsNext}
 use Rattle.tpal_machine.proofs.Steps.{step_of_instr}
+use Rattle.handler_gen.proofs.Marks.{term_step}
 use Rattle.handler_gen.proofs.Ready.{diverted_to, goes_allowed, goes_in, goes_undiverted}
 use Rattle.loop_meaning.specs.State as meaning
 use Rattle.block_lower.proofs.Promises.{Promise}
@@ -36,6 +37,18 @@ undiverted heartbeat marked beat = go (not beat.quiet) (nat_le heartbeat beat.co
     go true true false = refl
     go true false c = refl
     go false b c = refl
+
+-- where no mark stands there is none either
+unmarked_undiverted : (heartbeat : ℕ) (marked : Bool) (beat : BeatState) → marked ≡ false
+    → is_diverted heartbeat marked true beat ≡ false
+unmarked_undiverted heartbeat marked beat none =
+    ap (λ (b : Bool). is_diverted heartbeat b true beat) none
+    ∙ go (not beat.quiet) (nat_le heartbeat beat.count)
+  where
+    go : (a b : Bool) → (a && (b && (false && true))) ≡ false
+    go true true = refl
+    go true false = refl
+    go false b = refl
 
 module _ (code : Listing) (heartbeat : ℕ) (state : State) (l handler : ℕ)
     (enters_it : (allowed : Bool)
@@ -69,6 +82,18 @@ module _ (code : Listing) (heartbeat : ℕ) (state : State) (l handler : ℕ)
             rw calm
             (rw (undiverted heartbeat (has_mark state.stack) (advanced state).beat) refl)
 
+    -- where no mark stands it goes on in the block
+    pub on_unmarked : (K : Back code heartbeat) → has_mark state.stack ≡ false
+        → K.Holds (goes_in heartbeat l state) → K.Holds state
+    on_unmarked K none holds = K.back state (goes_in heartbeat l state) steps holds
+      where
+        steps : (allowed : Bool)
+            → step code heartbeat allowed state ≡ Goes (goes_in heartbeat l state)
+        steps true =
+            goes_as_calmly
+            (unmarked_undiverted heartbeat (has_mark state.stack) (advanced state).beat none)
+        steps false = calmly
+
     -- what is promised at the entry, by what is behind it and where it is diverted
     pub on_entry : {World : Type 0} (P : Promise code heartbeat World) (i : World)
         (ns : List meaning.Note) (r : Result) → AtMostAChance ns
@@ -92,6 +117,16 @@ module _ (code : Listing) (heartbeat : ℕ) (state : State) (l handler : ℕ)
               turned beats,
             )
         by_beat false calm = inl (goes_as_calmly calm)
+
+-- a jump
+pub jumps_in : (code : Listing) (heartbeat : ℕ) (state : State) (l handler : ℕ)
+    → IsAtEnd code state (term.Jump (value.Label l)) →
+    note_of (block_at code l) ≡ note.Ready handler
+    → (allowed : Bool)
+    → step code heartbeat allowed state ≡ entered_ready heartbeat allowed l handler (advanced state)
+jumps_in code heartbeat state l handler at ready allowed =
+    term_step code heartbeat state (term.Jump (value.Label l)) at allowed
+    ∙ ap (λ (m : Note). entered_by m heartbeat allowed l (advanced state)) ready
 
 -- a jump where the number in a register isn't 0
 pub branches_in : (code : Listing) (heartbeat : ℕ) (state : State) (test l handler : ℕ) (n : ℤ)

@@ -267,7 +267,7 @@ module _ (code : Listing) (p : Program) (outer : Modes) (l : ParLoop) (fuel : �
       (output_kept p fuel c.room l c.again c.begin c.below c.first c.state outer rules)
       ∙ drop-length c.state.output)
 
-  child_output : child_end.output ≡ []
+  pub child_output : child_end.output ≡ []
   child_output =
       side_output scope l child up.state up.stop
       ∙ output_kept p fuel c.room l c.upper_again c.upper_begin c.above (middle_of c)

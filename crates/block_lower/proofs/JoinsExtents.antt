@@ -38,7 +38,7 @@ shown_where Unknown A h t u agree inside shown = record {
 
 module _ (vs : List Variable) (middle : ℤ) where
   -- no iteration writes what the rest has of a table
-  rest_spared : {b : Bool} {md : Mode} {cut : TableCut} → CutAs vs middle b md cut → (e : Extent)
+  pub rest_spared : {b : Bool} {md : Mode} {cut : TableCut} → CutAs vs middle b md cut → (e : Extent)
       (i j : ℤ) → HasCell (rest_extent cut e) i j → (P : ℤ → Type 0) → WrittenAt P vs md i j → ⊥
   rest_spared is_read e i j has P written = written
   rest_spared is_closed e i j has P written = written

@@ -1,14 +1,13 @@
 -- The code of calls is written where that of its parts is.
-use Rattle.std.proofs.Common.{◌≡◌, ℕ, zero, suc, ◌+◌, ◌*◌, ◌≤◌, List, [], ◌∷◌, ◌++◌, length, Some, refl, sym, ap, subst, ◌∙◌, arith}
+use Rattle.std.proofs.Common.{◌≡◌, ℕ, zero, suc, ◌+◌, ◌*◌, List, [], ◌∷◌, ◌++◌, length, Some, refl, sym, ap, subst, ◌∙◌, arith}
 use Rattle.std.specs.Prelude.{pos}
-use Rattle.tp_value.specs.declared.limits.TheConstants.{MAX_PARAMETERS}
 use Rattle.loop_syntax.specs.declared.App.{App}
 use Rattle.loop_syntax.specs.declared.Name.{Name}
 use Rattle.loop_syntax.specs.declared.Expr.{Expr}
-use Rattle.loop_syntax.specs.declared.Stmt.TheVariants.{Call, Both}
+use Rattle.loop_syntax.specs.declared.Stmt.TheVariants.{Call}
 use Rattle.tp_value.specs.declared.Place.{Place}
 use Rattle.tp_value.specs.declared.TrapKind.TheVariants.{Deep}
-use Rattle.tpal_syntax.specs.declared.instructions.Alu.TheVariants.{Add, Sub}
+use Rattle.tpal_syntax.specs.declared.instructions.Alu.TheVariants.{Add}
 use Rattle.tpal_syntax.specs.declared.instructions.Instr.{Instr}
 use Rattle.tpal_syntax.specs.declared.instructions.Instr.TheVariants as instr
 use Rattle.tpal_syntax.specs.declared.instructions.Term.{Term}
@@ -21,14 +20,15 @@ use Rattle.expr_lower.specs.Scopes.{offset_of}
 use Rattle.block_lower.specs.declared.body.Body.{Body}
 use Rattle.block_lower.specs.declared.output.Output.{Output}
 use Rattle.block_lower.specs.declared.round.Round as told
-use Rattle.block_lower.specs.Bodies.{entries, activation, HasRoomFor}
-use Rattle.block_lower.specs.Code.{Operand, Arguments, no_argument, one_argument, parameter_cell, passed, Calls, Code, call_code, both_code, to, store, load, call_test, call_entry}
+use Rattle.block_lower.specs.Bodies.{entries, activation}
+use Rattle.block_lower.specs.Code.{Operand, Arguments, no_argument, one_argument, parameter_cell, passed, Calls, Code, call_code, Opens, to, store, load, call_test, call_entry, call_exit}
 use Rattle.block_lower.specs.Fitting.{IsVisible, AreVisible}
-use Rattle.block_lower.specs.Layout.{return_cell, levels_cell, value_cell, kept_cell, Entry, entry_of, Activation, kept_by_both, kept_value}
-use Rattle.block_lower.specs.Lowering.{WritesOperand, WritesArguments, AreBothArguments, WritesBothArguments, WritesPassed, WritesCall, Lowers}
-use Rattle.block_lower.specs.Writing.{Pushes, Closes, Stands, Continues, Leads}
+use Rattle.block_lower.specs.Layout.{levels_cell, value_cell, kept_cell, Entry, entry_of, Activation}
+use Rattle.block_lower.specs.Lowering.{WritesOperand, WritesArguments, WritesBothArguments, WritesPassed, WritesCall, Lowers}
+use Rattle.block_lower.specs.Pairs.{call_given}
+use Rattle.block_lower.specs.Writing.{label, IsFresh, Pushes, Closes, Stands, Continues, Leads}
 use Rattle.block_lower.proofs.Lowered.{cell_is}
-use Rattle.block_lower.proofs.Writing.{pushed, closed_block}
+use Rattle.block_lower.proofs.Writing.{pushed, closed_block, fresh_opens}
 
 -- ---- arguments
 
@@ -119,22 +119,60 @@ more_passed on n old middle loads new all push_load push_store code tables more 
 
 -- ---- a call
 
-pub call_test_written : (go : ℕ) (place : Place) (old ticks loads jumps traps new : Output) → Pushes (instr.Tick ∷ []) old ticks → Pushes (load 0 levels_cell ∷ []) ticks loads
-    → Pushes (instr.IfJump 0 go ∷ []) loads jumps → Pushes (instr.Trap Deep place ∷ []) jumps traps → Closes Halt traps new → (code : Listing) → Stands code new → Continues code old (call_test go place) Halt
-call_test_written go place old ticks loads jumps traps new one two three four close code stands =
-    pushed code old ticks (instr.Tick ∷ []) _ Halt one
-    (pushed code ticks loads (load 0 levels_cell ∷ []) _ Halt two
-    (pushed code loads jumps (instr.IfJump 0 go ∷ []) _ Halt three
-    (pushed code jumps traps (instr.Trap Deep place ∷ []) [] Halt four (closed_block code traps new Halt close stands))))
+pub deep_test_written : (go : ℕ) (place : Place) (old jumps traps new : Output)
+    → Pushes (instr.IfJump 0 go ∷ []) old jumps → Pushes (instr.Trap Deep place ∷ []) jumps traps
+    → Closes Halt traps new → (code : Listing) → Stands code new
+    → Continues code old (instr.IfJump 0 go ∷ instr.Trap Deep place ∷ []) Halt
+deep_test_written go place old jumps traps new one two close code stands =
+    pushed code old jumps (instr.IfJump 0 go ∷ []) _ Halt one
+    (pushed code jumps traps (instr.Trap Deep place ∷ []) [] Halt two
+    (closed_block code traps new Halt close stands))
 
-pub entry_written : (size at back : ℕ) (old calc levels returns moves new : Output) → Pushes (instr.Calc 0 0 Sub (value.Int (pos 1)) ∷ []) old calc → Pushes (store (size + levels_cell) (value.Reg 0) ∷ []) calc levels
-    → Pushes (store (size + return_cell) (value.Label back) ∷ []) levels returns → Pushes (instr.Calc 31 31 Add (value.Int (pos size)) ∷ []) returns moves → Closes (to at) moves new
+pub entry_written : (size at back : ℕ) (old given moves new : Output)
+    → Pushes (call_given 0 size back []) old given
+    → Pushes (instr.Calc 31 31 Add (value.Int (pos size)) ∷ []) given moves
+    → Closes (to at) moves new
     → (code : Listing) → Stands code new → Continues code old (call_entry size back) (to at)
-entry_written size at back old calc levels returns moves new one two three four close code stands =
-    pushed code old calc (instr.Calc 0 0 Sub (value.Int (pos 1)) ∷ []) _ (to at) one
-    (pushed code calc levels (store (size + levels_cell) (value.Reg 0) ∷ []) _ (to at) two
-    (pushed code levels returns (store (size + return_cell) (value.Label back) ∷ []) _ (to at) three
-    (pushed code returns moves (instr.Calc 31 31 Add (value.Int (pos size)) ∷ []) [] (to at) four (closed_block code moves new (to at) close stands))))
+entry_written size at back old given moves new one two close code stands =
+    pushed code old given (call_given 0 size back []) _ (to at) one
+    (pushed code given moves (instr.Calc 31 31 Add (value.Int (pos size)) ∷ []) [] (to at) two
+    (closed_block code moves new (to at) close stands))
+
+pub call_written : (on : Body) (place : Place) (at size go : ℕ)
+    (old ticked tested entered new : Output)
+    → Pushes (instr.Tick ∷ load 0 levels_cell ∷ []) old ticked
+    → ((code : Listing) → Stands code tested
+    → Continues code ticked (instr.IfJump 0 go ∷ instr.Trap Deep place ∷ []) Halt)
+    → go ≡ label tested → IsFresh tested
+    → ((code : Listing) → Stands code entered
+    → Continues code tested (call_entry on.size (go + 1)) (to at))
+    → go + 1 ≡ label entered → IsFresh entered
+    → Pushes (call_exit size on.size []) entered new → WritesCall on place at size old new
+call_written on place at size go old ticked tested entered new tick tests go_is fresh enters
+    return_is fresh_entered exits code tables entry more last at_is size_is c =
+    let x : Continues code entered (call_exit size on.size more) last =
+    pushed code entered new (call_exit size on.size []) more last exits c in
+    let e : Continues code tested (call_entry on.size (go + 1)) (to at) = enters code x.closed in
+    let behind : List Instr = instr.IfJump 0 go ∷ instr.Trap Deep place ∷ [] in
+    record {
+      instrs = call_test go place;
+      end = Halt;
+      continues = pushed code old ticked (instr.Tick ∷ load 0 levels_cell ∷ []) behind Halt tick
+          (tests code e.closed);
+      told = record {
+        go = go;
+        return = go + 1;
+        test = refl;
+        stops = refl;
+        enters = subst (λ (l : ℕ). Opens code go (call_entry on.size (go + 1)) (to l)) (sym at_is)
+            (subst (λ (k : ℕ). Opens code k (call_entry on.size (go + 1)) (to at)) (sym go_is)
+            (fresh_opens code tested (call_entry on.size (go + 1)) (to at) fresh e));
+        behind = subst (λ (n : ℕ). Opens code (go + 1) (call_exit n on.size more) last)
+            (sym size_is)
+            (subst (λ (k : ℕ). Opens code k (call_exit size on.size more) last) (sym return_is)
+            (fresh_opens code entered (call_exit size on.size more) last fresh_entered x));
+      };
+    }
 
 -- ---- statements
 
@@ -164,40 +202,4 @@ module _ (on : Body) (as_told : told.Round) (scope : Scope) where
         continues = pushed code old allocs (instr.Salloc size ∷ []) v.instrs v.end alloc v.continues;
         told = subst (λ (n : ℕ). Code code act round names (Call x f) (instr.Salloc n ∷ v.instrs) v.end more last) (sym (target.size_is fits.1.entry fits.1.is_entry))
             (subst (λ (t : Term). Code code act round names (Call x f) (instr.Salloc fits.1.entry.size ∷ v.instrs) t more last) (sym v.told.0) is);
-      }
-
-  pub both_written : (x y : Name) (f g : App) (first_at first_size second_at second_size : ℕ) (old allocs stored called kept again passes calls loads stores new : Output)
-      → IsTarget f.callee.text.items first_at first_size → IsTarget g.callee.text.items second_at second_size → HasRoomFor on kept_by_both → length g.args.items ≤ MAX_PARAMETERS
-      → Pushes (instr.Salloc first_size ∷ []) old allocs → WritesBothArguments on scope f.args.items g.args.items allocs stored → WritesCall on f.callee.place first_at first_size stored called
-      → Pushes (store (value_cell on.most + kept_value) (value.Reg 0) ∷ []) called kept → Pushes (instr.Salloc second_size ∷ []) kept again → WritesPassed on (length g.args.items) again passes
-      → WritesCall on g.callee.place second_at second_size passes calls → Pushes (load 1 (value_cell on.most + kept_value) ∷ []) calls loads → Pushes (store (offset_of scope x.text.items) (value.Reg 1) ∷ []) loads stores
-      → Pushes (store (offset_of scope y.text.items) (value.Reg 0) ∷ []) stores new → Lowers on as_told scope (Both x f y g) old new
-  both_written x y f g first_at first_size second_at second_size old allocs stored called kept again passes calls loads stores new first second room few
-      alloc arguments call_first keep realloc pass call_second push_load store_x store_y code tables names round more last same sees fits c =
-      let act : Activation = activation on tables in
-      let own : List Instr = load 1 (kept_cell act kept_value) ∷ store (offset_of scope x.text.items) (value.Reg 1) ∷ store (offset_of scope y.text.items) (value.Reg 0) ∷ more in
-      let ends : Continues code calls own last =
-      pushed code calls loads (load 1 (kept_cell act kept_value) ∷ []) _ last push_load
-      (pushed code loads stores (store (offset_of scope x.text.items) (value.Reg 1) ∷ []) _ last store_x (pushed code stores new (store (offset_of scope y.text.items) (value.Reg 0) ∷ []) more last store_y c)) in
-      let u : Leads code passes (λ instrs end. Calls code act g.callee.place fits.3.entry instrs end own last) =
-      call_second code tables fits.3.entry own last (sym (second.at_is fits.3.entry fits.3.is_entry)) (sym (second.size_is fits.3.entry fits.3.is_entry)) ends in
-      let passing : List Instr = passed code act (length g.args.items) 0 u.instrs in
-      let half : ℕ → List Instr = λ n. store (kept_cell act kept_value) (value.Reg 0) ∷ instr.Salloc n ∷ passing in
-      let middle : Continues code called (half second_size) u.end =
-      pushed code called kept (store (kept_cell act kept_value) (value.Reg 0) ∷ []) _ u.end keep (pushed code kept again (instr.Salloc second_size ∷ []) passing u.end realloc (pass code tables u.instrs u.end u.continues)) in
-      let w : Leads code stored (λ instrs end. Calls code act f.callee.place fits.2.entry instrs end (half second_size) u.end) =
-      call_first code tables fits.2.entry (half second_size) u.end (sym (first.at_is fits.2.entry fits.2.is_entry)) (sym (first.size_is fits.2.entry fits.2.is_entry)) middle in
-      let calls_first : Calls code act f.callee.place fits.2.entry w.instrs w.end (half fits.3.entry.size) u.end =
-      subst (λ (n : ℕ). Calls code act f.callee.place fits.2.entry w.instrs w.end (half n) u.end) (second.size_is fits.3.entry fits.3.is_entry) w.told in
-      let v : Leads code allocs (λ instrs end. (end ≡ w.end) × AreBothArguments code act names f.args.items g.args.items instrs w.instrs) =
-      arguments code tables names w.instrs w.end sees fits.2.seen fits.3.seen w.continues in
-      let is : Code code act round names (Both x f y g) (instr.Salloc fits.2.entry.size ∷ v.instrs) w.end more last =
-      both_code room.room fits.2.is_entry fits.2.arity fits.3.is_entry fits.3.arity (cell_is on as_told scope tables names round.fixed x.text.items code sees fits.0)
-      (cell_is on as_told scope tables names round.fixed y.text.items code sees fits.1) few v.told.1.first v.told.1.second calls_first u.told in
-      record {
-        instrs = instr.Salloc first_size ∷ v.instrs;
-        end = v.end;
-        continues = pushed code old allocs (instr.Salloc first_size ∷ []) v.instrs v.end alloc v.continues;
-        told = subst (λ (n : ℕ). Code code act round names (Both x f y g) (instr.Salloc n ∷ v.instrs) v.end more last) (sym (first.size_is fits.2.entry fits.2.is_entry))
-            (subst (λ (t : Term). Code code act round names (Both x f y g) (instr.Salloc fits.2.entry.size ∷ v.instrs) t more last) (sym v.told.0) is);
       }

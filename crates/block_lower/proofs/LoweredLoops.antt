@@ -1,17 +1,14 @@
 -- The code of a `loop` is written where that of its parts is.
-use Rattle.std.proofs.Common.{◌≡◌, ℕ, ◌+◌, List, [], ◌∷◌, ◌++◌, length, Some, Vec, refl, sym, ap, subst, ◌∙◌, arith}
-use Rattle.std.specs.Prelude.{ℤ, pos, false}
+use Rattle.std.proofs.Common.{◌≡◌, ℕ, ◌+◌, List, [], ◌∷◌, ◌++◌, length, Some, Vec, sym, subst, ◌∙◌, arith}
+use Rattle.std.specs.Prelude.{ℤ}
 use Rattle.std.specs.declared.alloc.Global.{Global}
 use Rattle.loop_syntax.specs.declared.Name.{Name}
 use Rattle.loop_syntax.specs.declared.Expr.{Expr}
 use Rattle.loop_syntax.specs.declared.ParLoop.{ParLoop}
 use Rattle.loop_syntax.specs.declared.Stmt.{Stmt}
-use Rattle.tp_value.specs.declared.limits.TheConstants.{MAX_PAR_LENGTH}
-use Rattle.tp_value.specs.declared.Place.{Place}
-use Rattle.tp_value.specs.declared.TrapKind.TheVariants.{Wide}
-use Rattle.loop_syntax.specs.declared.Stmt.TheVariants.{Loop, Par}
+use Rattle.loop_syntax.specs.declared.Stmt.TheVariants.{Loop}
 use Rattle.loop_meaning.specs.InRange.{InRange}
-use Rattle.tpal_syntax.specs.declared.instructions.Alu.TheVariants.{Lt, Le, Sub}
+use Rattle.tpal_syntax.specs.declared.instructions.Alu.TheVariants.{Lt}
 use Rattle.tpal_syntax.specs.declared.instructions.Instr.{Instr}
 use Rattle.tpal_syntax.specs.declared.instructions.Instr.TheVariants as instr
 use Rattle.tpal_syntax.specs.declared.instructions.Term.{Term}
@@ -20,27 +17,25 @@ use Rattle.tpal_syntax.specs.declared.notes.Note.{Note}
 use Rattle.tpal_syntax.specs.declared.notes.Note.TheVariants as note
 use Rattle.tpal_syntax.specs.Listing.{Listing}
 use Rattle.expr_lower.specs.declared.scope.Scope.{Scope}
-use Rattle.expr_lower.specs.Bodies.{literal, trap_block}
-use Rattle.expr_lower.specs.Standing.{AreAt}
+use Rattle.expr_lower.specs.Bodies.{literal}
 use Rattle.block_lower.specs.declared.body.Body.{Body}
 use Rattle.block_lower.specs.declared.output.Output.{Output}
 use Rattle.block_lower.specs.declared.round.Round as told
 use Rattle.block_lower.specs.Bodies.{entries, activation}
-use Rattle.block_lower.specs.Code.{OpensAs, Opens, Computes, Code, loop_code, loop_to_code, par_code, Codes, to, store, load, below_test, step_up, next_turn, wide_test}
-use Rattle.block_lower.specs.Quiet.{list_is_quiet}
+use Rattle.block_lower.specs.Code.{OpensAs, Opens, Computes, Code, loop_code, loop_to_code, Codes, to, store, load, below_test, step_up}
 use Rattle.block_lower.specs.Fitting.{AllFit}
 use Rattle.block_lower.specs.Layout.{value_cell, bound_cell}
 use Rattle.block_lower.specs.declared.repeat.Bound.{Bound}
 use Rattle.block_lower.specs.declared.repeat.Bound.TheVariants as bound
 use Rattle.block_lower.specs.Lowering.{IsRound, WritesValue, WritesBelow, WritesStart, AreBounds, WritesBounds}
-use Rattle.block_lower.specs.Lowering.{WritesBoundedStart, BeginsLoop, turn, WritesSome, WritesWide}
+use Rattle.block_lower.specs.Lowering.{WritesBoundedStart, BeginsLoop, turn, WritesSome}
 use Rattle.block_lower.specs.Lowering.{Lowers, WithBody, IsBodyAt, LowersBody}
 use Rattle.block_lower.specs.Names.{Sees}
 use Rattle.block_lower.specs.Round.{Round, loop_round, par_round}
-use Rattle.block_lower.specs.Writing.{label, next_label, IsFresh, Pushes, Traps, Closes, Stands, Continues, Leads}
+use Rattle.block_lower.specs.Writing.{label, IsFresh, Pushes, Closes, Stands, Continues, Leads}
 use Rattle.block_lower.proofs.Fitting.{fit_of_vec}
 use Rattle.block_lower.proofs.Seeing.{as_long}
-use Rattle.block_lower.proofs.Writing.{pushed, trapped, closed_block, fresh_opens}
+use Rattle.block_lower.proofs.Writing.{pushed, closed_block, fresh_opens}
 
 -- ---- before the body
 
@@ -198,49 +193,3 @@ pub some_written : (check exit : ℕ) (old calc jumps new : Output) → Pushes (
 some_written check exit old calc jumps new first second close code stands =
     pushed code old calc _ (instr.IfJump 2 check ∷ []) (to exit) first
     (pushed code calc jumps (instr.IfJump 2 check ∷ []) [] (to exit) second (closed_block code jumps new (to exit) close stands))
-
-pub wide_written : (place : Place) (again : ℕ) (old calc first second traps new : Output) → IsFresh old → Pushes (instr.Calc 2 0 Sub (value.Reg 1) ∷ []) old calc
-    → Pushes (instr.Calc 3 2 Lt (value.Int (pos 0)) ∷ instr.IfJump 3 (next_label old) ∷ []) calc first
-    → Pushes (instr.Calc 3 2 Le (value.Int (pos MAX_PAR_LENGTH)) ∷ instr.IfJump 3 again ∷ []) first second
-    → Traps Wide place second traps → Closes (to (next_label old)) traps new → WritesWide place again old new
-wide_written place again old calc first second traps new fresh push_calc push_first push_second trap close code stands =
-    let wide : ℕ = next_label old in
-    let t : Continues code second [] (to wide) × AreAt code (next_label second) (trap_block (next_label second) Wide place ∷ []) =
-    trapped code second traps Wide place [] (to wide) trap (closed_block code traps new (to wide) close stands) in
-    let c : Continues code old (wide_test wide again) (to wide) =
-    pushed code old calc (instr.Calc 2 0 Sub (value.Reg 1) ∷ []) _ (to wide) push_calc
-    (pushed code calc first (instr.Calc 3 2 Lt (value.Int (pos 0)) ∷ instr.IfJump 3 wide ∷ []) _ (to wide) push_first
-    (pushed code first second (instr.Calc 3 2 Le (value.Int (pos MAX_PAR_LENGTH)) ∷ instr.IfJump 3 again ∷ []) [] (to wide) push_second t.0)) in
-    let here : wide ≡ label old + 1 = omega (arith, ap length fresh.traps) in
-    let there : next_label second ≡ label old + 1 =
-    omega (arith, ap length fresh.traps, ap length push_calc.blocks, ap length push_calc.traps, ap length push_first.blocks, ap length push_first.traps, ap length push_second.blocks, ap length push_second.traps) in (
-      c.closed,
-      subst (λ (l : ℕ). Opens code (label old) (wide_test l again) (to l)) here (fresh_opens code old (wide_test wide again) (to wide) fresh c),
-      subst (λ (l : ℕ). AreAt code l (trap_block l Wide place ∷ [])) there t.1,
-    )
-
-pub par_written : (on : Body) (as_told inside : told.Round) (scope : Scope) (l : ParLoop) (level check again exit : ℕ) (old bounds start wide inner new : Output)
-    → list_is_quiet on.quiet_calls l.body.items ≡ false → inside.reduces.now ≡ l.reduces.items → inside.depth ≡ as_told.depth + 1
-    → level ≡ length scope.cells.items → WritesBounds scope l.from l.to old bounds → WritesSome check exit bounds start → check ≡ label start → WritesWide l.place again start wide
-    → IsFresh wide → again ≡ label wide → LowersBody on inside scope l.var.text.items l.body.items wide inner
-    → ((code : Listing) → Stands code new → Continues code inner (next_turn level again) (to exit)) → IsFresh new → exit ≡ label new → Lowers on as_told scope (Par l) old new
-par_written on as_told inside scope l level check again exit old bounds start wide inner new deep reduces depth long starts test check_is length_test fresh_wide again_is lowers turn fresh exit_is code tables names round more last same sees fits c =
-    let behind : ℕ → List Instr = λ n. next_turn n again in
-    let within : Round = par_round round names l.reduces.items in
-    let q : Looped on inside scope l.var l.body.items level again exit wide inner new behind long fresh_wide again_is lowers turn fresh exit_is code tables names within l.body more last =
-    looped on inside scope l.var l.body.items level again exit wide inner new behind long fresh_wide again_is lowers turn fresh exit_is code tables names within l.body more last
-    (par_is_round round as_told inside names l reduces depth same) refl sees
-    (fit_of_vec tables (entries on.callees.items) on.most within (names ++ l.var.text.items ∷ []) l.body fits.4) c in
-    let t : Stands code start × Opens code (label start) (wide_test (label start + 1) again) (to (label start + 1)) × AreAt code (label start + 1) (trap_block (label start + 1) Wide l.place ∷ []) = length_test code q.before in
-    let some : List Instr = instr.Calc 2 1 Lt (value.Reg 0) ∷ instr.IfJump 2 check ∷ [] in
-    let w : Leads code old (λ instrs end. (end ≡ to exit) × AreBounds code (activation on tables) names l.from l.to instrs some) =
-    starts code (activation on tables) names some (to exit) sees fits.2 fits.3 (test code t.0) in
-    record {
-      instrs = w.instrs;
-      end = w.end;
-      continues = w.continues;
-      told = subst (λ (e : Term). Code code (activation on tables) round names (Par l) w.instrs e more last) (sym w.told.0)
-          (par_code l fits.0 fits.1 deep w.told.1.from w.told.1.to
-          (subst (λ (n : ℕ). Opens code n (wide_test (label start + 1) again) (to (label start + 1))) (sym check_is) t.1)
-          t.2 q.begins q.codes q.ends);
-    }

@@ -42,7 +42,7 @@ use Rattle.block_lower.specs.declared.round.Round as told
 use Rattle.block_lower.specs.Bodies.{entries, activation}
 use Rattle.block_lower.specs.Code.{OpensAs, Opens, IsFreeCell, Code, Codes, quiet_par_code, to}
 use Rattle.block_lower.specs.Code.{store, load, next_turn}
-use Rattle.block_lower.specs.Fitting.{IsFree}
+use Rattle.block_lower.specs.Fitting.{CanBeCut, IsFree}
 use Rattle.block_lower.specs.Layout.{value_cell, Activation, Entry}
 use Rattle.block_lower.specs.Lowering.{AreBounds, WritesBounds, WritesSome, WritesLength}
 use Rattle.block_lower.specs.Lowering.{WritesBegin, WritesPrep, IsRoundQuiet, WritesSite}
@@ -102,20 +102,29 @@ begin_written place site first old stores marks jumps traps new one two three tr
 
 -- ---- the blocks round the iterations
 
-pub over_written : (site : LoopSite) (exit : ℕ) (old pops loads calc jumps new : Output)
-    → Pushes (unmark site ∷ []) old pops → Pushes (load 24 site.rec ∷ []) pops loads
+pub end_written : (site : LoopSite) (exit : ℕ) (old loads calc jumps new : Output)
+    → Pushes (load 24 site.rec ∷ []) old loads
     → Pushes (instr.Calc 27 24 Eq value.Nil ∷ []) loads calc
     → Pushes (instr.IfJump 27 exit ∷ []) calc jumps
     → Closes (to (side_label site.label)) jumps new
     → (code : Listing) → Stands code new
-    → Continues code old (unmark site ∷ side_test site exit) (to (side_label site.label))
-over_written site exit old pops loads calc jumps new one two three four close code stands =
+    → Continues code old (side_test site exit) (to (side_label site.label))
+end_written site exit old loads calc jumps new one two three close code stands =
     let end : Term = to (side_label site.label) in
-    pushed code old pops (unmark site ∷ []) _ end one
-    (pushed code pops loads (load 24 site.rec ∷ []) _ end two
-    (pushed code loads calc (instr.Calc 27 24 Eq value.Nil ∷ []) _ end three
-    (pushed code calc jumps (instr.IfJump 27 exit ∷ []) [] end four
-    (closed_block code jumps new end close stands))))
+    pushed code old loads (load 24 site.rec ∷ []) _ end one
+    (pushed code loads calc (instr.Calc 27 24 Eq value.Nil ∷ []) _ end two
+    (pushed code calc jumps (instr.IfJump 27 exit ∷ []) [] end three
+    (closed_block code jumps new end close stands)))
+
+pub over_written : (site : LoopSite) (exit : ℕ) (old pops new : Output)
+    → Pushes (unmark site ∷ []) old pops
+    → ((code : Listing) → Stands code new
+    → Continues code pops (side_test site exit) (to (side_label site.label)))
+    → (code : Listing) → Stands code new
+    → Continues code old (unmark site ∷ side_test site exit) (to (side_label site.label))
+over_written site exit old pops new push ends code stands =
+    pushed code old pops (unmark site ∷ []) (side_test site exit) (to (side_label site.label)) push
+    (ends code stands)
 
 pub prep_written : (scope : Scope) (l : ParLoop) (at : ℕ) (old rows new : Output) → IsFresh old
     → Pushes (rows_from scope 0 l.carries.items) old rows → Closes (to at) rows new
@@ -222,7 +231,7 @@ module _ (on : Body) (as_told : told.Round) (scope : Scope) (tables names : List
     reduced_there rs seen.1,
   )
 
-  reduced_free_cells : (code : Listing) (fixed : List ℕ) (rs : List Reduce)
+  pub reduced_free_cells : (code : Listing) (fixed : List ℕ) (rs : List Reduce)
       → AllByRecursion (λ r. IsFree tables (entries on.callees.items) on.most names fixed
       r.target.text.items) rs
       → AllByRecursion (λ (r : Reduce). IsFreeCell code (activation on tables) names fixed
@@ -246,6 +255,36 @@ carried_there scope names tables sees (c ∷ cs) seen = (
   carried_there scope names tables
       sees cs seen.1,
 )
+
+-- the site of a `par` that fits, with its blocks
+module _ (on : Body) (as_told : told.Round) (scope : Scope) (tables names : List (List ℕ))
+    (sees : Sees scope names tables) where
+  pub site_there : (code : Listing) (l : ParLoop) (round : Round) (cursor : ℕ) (site : LoopSite)
+      → CanBeCut tables (entries on.callees.items) on.most names round.fixed l.reduces.items
+      l.carries.items
+      → site ≡ loop_site scope l on.size round.depth (length names) cursor site.label
+      → IsLoopSite site → AreAt code site.label (loop_handler_blocks site)
+      → AreAt code (target_label site.label) (loop_join_blocks site)
+      → (list_any has_row l.carries.items ≡ true
+      → Opens code (prep_label site.label) (rows_from scope 0 l.carries.items) (to site.label))
+      → IsSite code (activation on tables) names l round.depth cursor site
+  site_there code l round cursor site cut here right handler join loads =
+      let rows : list_any is_of_cells site.carries ≡ list_any has_row l.carries.items =
+      ap (λ (q : LoopSite). list_any is_of_cells q.carries) here
+      ∙ any_rows scope 0 l.carries.items in
+      record {
+        scope = scope;
+        sees = sees;
+        reduced = reduced_there on as_told scope tables names sees l.reduces.items
+            (targets_seen tables (entries on.callees.items) on.most names round.fixed
+            l.reduces.items cut.reduced);
+        carried = carried_there scope names tables sees l.carries.items cut.carried_seen;
+        is = here;
+        right = right;
+        handler = handler;
+        join = join;
+        rows = λ has. loads (sym rows ∙ has);
+      }
 
 pub quiet_begun : (on : Body) (as_told : told.Round) (scope : Scope) (l : ParLoop) (site : LoopSite)
     (turns : Turns) (check first exit : ℕ) (old bounds start tested begun new : Output)
@@ -278,24 +317,6 @@ quiet_begun on as_told scope l site turns check first exit old bounds start test
     (value_cell (length scope.cells.items)) site.label) (sym same.depth)
     ∙ ap (λ (n : ℕ). loop_site scope l on.size round.depth n (value_cell n) site.label)
     (as_long scope names tables sees) in
-    let rows : list_any is_of_cells site.carries
-    ≡ list_any has_row l.carries.items = ap (λ (q : LoopSite). list_any is_of_cells q.carries)
-    is ∙ any_rows scope 0 l.carries.items in
-    let own : IsSite code (activation on tables) names l round.depth (value_cell (length names))
-    site =
-    record {
-      scope = scope;
-      sees = sees;
-      reduced = reduced_there on as_told scope tables names sees l.reduces.items
-          (targets_seen tables (entries on.callees.items) on.most names round.fixed l.reduces.items
-          fits.5.reduced);
-      carried = carried_there scope names tables sees l.carries.items fits.5.carried_seen;
-      is = here;
-      right = right;
-      handler = s.1.handler;
-      join = s.1.join;
-      rows = λ has. s.1.rows (sym rows ∙ has);
-    } in
     record {
       instrs = w.instrs;
       end = w.end;
@@ -308,7 +329,8 @@ quiet_begun on as_told scope l site turns check first exit old bounds start test
           bounds = w.told.1;
           is_site = subst (λ (k : ℕ). IsQuietSite code (activation on tables) names l round.depth
               check k exit site) first_is (record {
-                is_site = own;
+                is_site = site_there on as_told scope tables names sees code l round
+                    (value_cell (length names)) site fits.5 here right s.1.handler s.1.join s.1.rows;
                 wide = wide;
                 begins = subst (λ (k : ℕ). Opens code k (length_test wide (marked_begin site first))
                     (to wide)) (sym check_is)
@@ -335,7 +357,7 @@ pub body_same : (on : Body) (as_told : told.Round) (scope later : Scope) (x : Li
 body_same on as_told scope later x body old new keeps lowers code tables names round more last same
     sees fits c = lowers code tables names round more last same (keeps names tables sees) fits c
 
-readied : (code : Listing) (dispatch : ℕ) (old new : Output) → Readies dispatch old new
+pub readied : (code : Listing) (dispatch : ℕ) (old new : Output) → Readies dispatch old new
     → Stands code new → Stands code old
 readied code dispatch old new r stands = subst (λ (bs : List Block). AreAt code 0 bs) r.blocks
     stands

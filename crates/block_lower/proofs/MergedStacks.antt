@@ -48,16 +48,16 @@ pub record HasMerged (c : OwnCut) (us : List Variable) (s t : StackValue) : Type
 
 module _ (s : StackValue) (z cells : ℕ) (held : Holds s z cells) where
   -- the rest's stack ends with the activation
-  rest_many : length (rest_of s z cells).cells ≡ z + cells - s.base
+  pub rest_many : length (rest_of s z cells).cells ≡ z + cells - s.base
   rest_many = length-take-le (z + cells - s.base) s.cells (omega (arith, held.0, held.1))
 
   pub rest_holds : Holds (rest_of s z cells) z cells
   rest_holds = (held.0, omega (arith, held.0, rest_many))
 
-  rest_has : Has (rest_of s z cells) z cells
+  pub rest_has : Has (rest_of s z cells) z cells
   rest_has = record { low = rest_holds.0; high = rest_holds.1 }
 
-  rest_word : (a : ℕ) → a < z + cells
+  pub rest_word : (a : ℕ) → a < z + cells
       → word_at (rest_of s z cells) (pos a) ≡ word_at s (pos a)
   rest_word a below =
       ap (λ (n : ℕ). word_at (record { base = s.base; cells = take n s.cells; marks = [] })

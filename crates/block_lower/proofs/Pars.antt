@@ -1,5 +1,5 @@
 -- The law of `par`: a loop, behind a test of its length.
-use Rattle.std.proofs.Common.{◌≡◌, ℕ, zero, suc, ◌+◌, ◌<◌, ◌≤◌, ◌%◌, Bool, true, false, List, [], ◌∷◌, ◌++◌, length, take, Some, Ok, refl, sym, ap, subst, ◌∙◌, arith}
+use Rattle.std.proofs.Common.{◌≡◌, ℕ, zero, suc, ◌+◌, ◌<◌, ◌≤◌, ◌%◌, Bool, true, false, List, [], ◌∷◌, length, Some, Ok, refl, sym, ap, subst, ◌∙◌, arith}
 use Rattle.std.specs.Prelude.{ℤ, pos, ◌-ℤ◌, ◌+ℤ◌, int_lt, int_le, nat_lt, not, slice_set}
 use Rattle.std.specs.Int.{int_gap, int_wrap, w64}
 use Rattle.std.proofs.lemmas.Bool.{true≢false}
@@ -18,7 +18,7 @@ use Rattle.loop_syntax.specs.declared.ParLoop.{ParLoop}
 use Rattle.loop_syntax.specs.declared.Stmt.TheVariants.{Par}
 use Rattle.loop_meaning.specs.InRange.{InRange}
 use Rattle.loop_meaning.specs.State as meaning
-use Rattle.loop_meaning.specs.State.{Chance, Ran, done, trapped}
+use Rattle.loop_meaning.specs.State.{Chance, Ran, done}
 use Rattle.loop_meaning.specs.Statements.{Setting, given_two, iterate, run, run_list, too_wide, unless_wide}
 use Rattle.loop_meaning.proofs.Runs.{vec_list}
 use Rattle.tpal_syntax.specs.declared.instructions.Alu.{Alu}
@@ -36,18 +36,18 @@ use Rattle.tpal_machine.specs.Calculation.{calculated}
 use Rattle.tpal_machine.specs.Reading.{register, operand, note_of, with_register}
 use Rattle.tpal_machine.specs.State as machine
 use Rattle.tpal_machine.specs.Step.{advanced, at_block}
-use Rattle.tpal_machine.proofs.Kit.{Back, IsCalm, on_calc, on_if, on_if_not, on_jump}
+use Rattle.tpal_machine.proofs.Kit.{Back, IsCalm, on_calc, on_if, on_if_not}
 use Rattle.expr_lower.specs.Bodies.{trap_block}
-use Rattle.expr_lower.specs.Leaving.{moved, moved_to}
+use Rattle.expr_lower.specs.Leaving.{moved}
 use Rattle.expr_lower.specs.Standing.{Remains, AreAt}
 use Rattle.expr_lower.proofs.Registers.{register_set, register_other}
-use Rattle.expr_lower.proofs.Standing.{next, behind, at_end}
-use Rattle.block_lower.specs.Code.{Computes, Opens, to, store, load, below_test, step_up, wide_test}
+use Rattle.expr_lower.proofs.Standing.{next, behind}
+use Rattle.block_lower.specs.Code.{Computes, Opens, to, store, load}
 use Rattle.block_lower.specs.Layout.{value_cell, bound_cell, Activation}
 use Rattle.block_lower.specs.Marked.{length_test}
 use Rattle.block_lower.proofs.Choices.{enters}
 use Rattle.block_lower.proofs.Gaps.{IsGap, gap_is, gap_none, gap_more}
-use Rattle.block_lower.proofs.Loops.{inside, a_turn, bounds, loop_at, reloads_bound}
+use Rattle.block_lower.proofs.Loops.{inside, bounds}
 use Rattle.block_lower.proofs.Moves.{opened, calm, jumps, traps}
 use Rattle.block_lower.proofs.Results.{Result, out, result, then}
 use Rattle.block_lower.proofs.Scene.{Scene, ShowsIn, Owed}
@@ -378,61 +378,3 @@ module _ (code : Listing) (heartbeat z : ℕ) (act : Activation) (set : Setting)
   stops_wide n m j st gap wide =
       ap (λ g. then (result (unless_wide (nat_lt MAX_PAR_LENGTH g) l.place (iterating m j) st)) k) gap
       ∙ ap (λ b. then (result (unless_wide b l.place (iterating m j) st)) k) wide
-
-module _ (code : Listing) (heartbeat z : ℕ) (act : Activation) (set : Setting) (expr_law : ExprLaw code heartbeat) (S : Scene code heartbeat z) (names inner : List (List ℕ)) (lowest : S.lowest ≤ length names) (room : length names < act.most) (first : take (length names) inner ≡ names) (k : meaning.State → Result) where
-  pub par_law : (uncounted : S.counts ≡ false) (l : ParLoop) (check wide again exit : ℕ) (here second instrs more : List Instr) (last end : Term)
-      → Computes code act names l.from 0 here (store (value_cell (length names)) (value.Reg 0) ∷ second)
-      → Computes code act names l.to 0 second (store (bound_cell (length names)) (value.Reg 0) ∷ load 1 (value_cell (length names)) ∷ instr.Calc 2 1 alu.Lt (value.Reg 0) ∷ instr.IfJump 2 check ∷ [])
-      → Opens code check (wide_test wide again) (to wide) → AreAt code wide (trap_block wide Wide l.place ∷ [])
-      → Opens code again (instr.Tick ∷ instrs) last → Opens code exit more end → Owed code heartbeat z act set.fuel S names more end k
-      → ((j m : ℤ) (f : meaning.State → Result) → Owed code heartbeat z act set.fuel (inside code heartbeat z S (length names) lowest m (Some j)) inner (step_up 1 (length names) (load 0 (bound_cell (length names)) ∷ below_test 1 (value.Reg 0) again)) (to exit) f
-      → Owed code heartbeat z act set.fuel (inside code heartbeat z S (length names) lowest m (Some j)) (names ++ l.var.text.items ∷ []) instrs last (λ st. then (result (run_list (record set { reduces = l.reduces.items }) l.body.items st)) f))
-      → Owed code heartbeat z act set.fuel S names here (to exit) (λ st. then (result (run set (Par l) st)) k)
-  par_law uncounted l check wide again exit here second instrs more last end c d tests trap begins ends post body_law =
-      begins_par code heartbeat z act set expr_law S names lowest room k l check exit here second
-      (wide_test wide again) more (to wide) end c d tests ends post begun
-    where
-      inner_set : Setting
-      inner_set = record set { reduces = l.reduces.items }
-
-      begun : Begun code heartbeat z act set expr_law S names lowest room k l check
-      begun n m j gap some in_m in_j i st task shows_task at_label at_begin is_m is_j cell bound =
-          measured code heartbeat z act set.fuel S i names st r check wide l.place
-          (instr.IfJump 3 again ∷ []) (suc n) m j in_m in_j gap tests trap task shows_task at_label at_begin is_m is_j
-          (stops_wide code heartbeat z act set expr_law S names lowest room k l (suc n) m j st some)
-          (λ fits width words beat at shows_words is_fit is_first is_second left.
-          by_fit fits width words beat at shows_words is_fit left)
-        where
-          r : Result
-          r = then (result (unless_wide (too_wide m j) l.place
-              (iterating code heartbeat z act set expr_law S names lowest room k l m j) st)) k
-
-          by_fit : (fits : Bool) → nat_lt MAX_PAR_LENGTH (suc n) ≡ not fits → (words : List Word)
-              (beat : BeatState) (at : ℕ)
-              → ShowsIn code heartbeat z act set.fuel S i names st (moved task words beat at)
-              → register words 3 ≡ word.Int (truth fits)
-              → Remains code task.block at (instr.IfJump 3 again ∷ []) (to wide)
-              → (S.owing i r).Holds (moved task words beat at)
-          by_fit true narrow words beat at shows_it is left =
-              on_if code heartbeat (S.owing i r) (moved task words beat at) 3 again (pos 1)
-              (next code (moved task words beat at) _ [] (to wide) left) is refl
-              (calm code again (instr.Tick ∷ instrs) last begins)
-              (subst (λ (ran : Ran). (S.owing i (then (result ran) k)).Holds (moved_to task words (counted beat) again 0))
-              (sym (runs_narrow code heartbeat z act set expr_law S names lowest room k l (suc n) m j st some narrow))
-              (a_turn code heartbeat z act inner_set S names inner lowest room first k l.var.text.items l.body.items 1 (omega arith) (value.Reg 0) (Some j) j in_j again exit instrs (load 0 (bound_cell (length names)) ∷ below_test 1 (value.Reg 0) again) more last end begins ends post (body_law j) (Chance ∷ []) (S.passes uncounted)
-              (reloads_bound code heartbeat z act set.fuel S names j (below_test 1 (value.Reg 0) again) (to exit))
-              [] (λ w q u holds. holds) n
-              (loop_at code heartbeat z act inner_set S names inner lowest room first k l.var.text.items l.body.items 1 (omega arith) (value.Reg 0) (Some j) j in_j again exit instrs (load 0 (bound_cell (length names)) ∷ below_test 1 (value.Reg 0) again) more last end begins ends post (body_law j) (Chance ∷ []) (S.passes uncounted)
-              (reloads_bound code heartbeat z act set.fuel S names j (below_test 1 (value.Reg 0) again) (to exit)) n)
-              m i st gap in_m (moved_to task words (counted beat) again 0) shows_it refl refl cell bound))
-          by_fit false wide_it words beat at shows_it is left =
-              on_if_not code heartbeat (S.owing i r) (moved task words beat at) 3 again
-              (next code (moved task words beat at) _ [] (to wide) left) is
-              (on_jump code heartbeat (S.owing i r) (advanced (moved task words beat at))
-              (value.Label wide) wide
-              (at_end code (advanced (moved task words beat at)) (to wide)
-              (behind code task.block at _ [] (to wide) left)) refl
-              (ap (λ o. is_ready (note_of o)) trap.0)
-              (traps_wide code heartbeat z act set.fuel S i names st r wide l.place trap
-              (stops_wide code heartbeat z act set expr_law S names lowest room k l (suc n) m j st some
-              wide_it) task shows_task words task.stack (counted (counted beat))))

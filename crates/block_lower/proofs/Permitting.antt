@@ -1,50 +1,104 @@
 -- What the law of statements asks of a scene where a `par` may be cut.
-use Rattle.std.proofs.Common.{◌≡◌, ◌≤◌, ℕ, Bool, true, false, List, [], ◌∷◌, Some, Vec, bytes_eq}
-use Rattle.std.proofs.Common.{refl, ap, ◌∙◌}
+use Rattle.std.proofs.Common.{◌≡◌, ◌≤◌, ℕ, Bool, true, false, List, [], ◌∷◌, Some, Vec}
+use Rattle.std.proofs.Common.{bytes_eq, refl, ap, ◌∙◌}
 use Rattle.std.specs.declared.alloc.Global.{Global}
 use Rattle.std.specs.Prelude.{ℤ, Option, ◌&&◌}
-use Rattle.tp_value.specs.declared.Table.{Table}
 use Rattle.loop_syntax.specs.declared.Expr.{Expr}
 use Rattle.loop_syntax.specs.declared.Func.{Func}
 use Rattle.loop_syntax.specs.declared.Name.{Name}
+use Rattle.loop_syntax.specs.declared.ParLoop.{ParLoop}
+use Rattle.loop_syntax.specs.declared.Program.{Program}
 use Rattle.loop_syntax.specs.declared.Stmt.{Stmt}
 use Rattle.loop_syntax.specs.declared.Stmt.TheBlock.{hidden-the_row-Stmt-0}
 use Rattle.loop_syntax.specs.declared.Stmt.TheVariants.{If, Loop, While}
 use Rattle.loop_rules.specs.Names.{func_of}
 use Rattle.tpal_syntax.specs.Listing.{Listing}
+use Rattle.frame_machine.specs.Lawful.{Callable}
 use Rattle.block_lower.specs.Quiet.{all_is_quiet, functions_are_quiet, is_quiet, list_is_quiet}
+use Rattle.block_lower.proofs.Around.{Around, in_call, modes_at}
+use Rattle.block_lower.proofs.Choices.{Longer}
+use Rattle.block_lower.proofs.Cutting.{MayCut}
 use Rattle.block_lower.proofs.Loops.{inside}
+use Rattle.block_lower.proofs.Occurring.{Called, CalledIn, Occurs, OccursIn}
 use Rattle.block_lower.proofs.QuietRows.{quiet_of_vec}
-use Rattle.block_lower.proofs.Regions.{Wholly}
 use Rattle.block_lower.proofs.Scene.{Scene}
+use Rattle.block_lower.proofs.Serving.{Served, served_inside, served_later}
+use Rattle.block_lower.proofs.Serving.{served_more}
 use Rattle.block_lower.proofs.Ticks.{later_in}
 
-module _ (code : Listing) (heartbeat z dispatch : ℕ) where
-  -- promotion points may be reached, and divert there; all tables are held, whatever they are
-  pub record Permits (S : Scene code heartbeat z) : Type 0 where
+module _ (code : Listing) (heartbeat z : ℕ) (p : Program) (dispatch : ℕ) where
+  -- Promotion points may be reached, and divert there. What is held of the tables serves the `par`
+  -- loops, which may be cut, and what is called may be called where this is round it.
+  pub record Permits (S : Scene code heartbeat z) (names : List (List ℕ))
+      (Loops : Around → List (List ℕ) → ParLoop → Around → Type 0) (Calls : List ℕ → Type 0)
+      : Type 0 where
     pub opened : S.is_open ≡ true
     pub diverts : S.dispatch ≡ dispatch
-    pub wholly : (w : S.World) (t : List ℕ) → S.region w t ≡ Wholly
-    pub met : (w : S.World) (ts : List Table) → S.can w ts
+    pub around : Around
+    pub served : Served code heartbeat z S around names
+    pub cuts : (outside : List (List ℕ)) (l : ParLoop) (near : Around)
+        → Loops around outside l near → MayCut p near outside l
+    pub calls : (f : List ℕ) → Calls f → Callable p (modes_at around) f
 
-  -- with more ticks, and inside a loop
-  pub permits_later : {S : Scene code heartbeat z} (n : ℕ) → Permits S
-      → Permits (later_in code heartbeat z S n)
-  permits_later n permits = record {
-    opened = permits.opened;
-    diverts = permits.diverts;
-    wholly = permits.wholly;
-    met = permits.met;
-  }
+  -- so it is for a statement, and for statements
+  abbrev pub PermitsOne : Scene code heartbeat z → List (List ℕ) → Stmt → Type 0
+  PermitsOne S names s =
+      Permits S names (λ a outside l near. Occurs l outside near a names s) (λ f. Called f s)
 
-  pub permits_inside : {S : Scene code heartbeat z} (level : ℕ) (lowest : S.lowest ≤ level) (m : ℤ)
-      (held : Option ℤ) → Permits S → Permits (inside code heartbeat z S level lowest m held)
-  permits_inside level lowest m held permits = record {
-    opened = permits.opened;
-    diverts = permits.diverts;
-    wholly = permits.wholly;
-    met = permits.met;
-  }
+  abbrev pub PermitsAll : Scene code heartbeat z → List (List ℕ) → List Stmt → Type 0
+  PermitsAll S names ss =
+      Permits S names (λ a outside l near. OccursIn l outside near a names ss) (λ f. CalledIn f ss)
+
+  module _ {S : Scene code heartbeat z} {names : List (List ℕ)}
+      {Loops : Around → List (List ℕ) → ParLoop → Around → Type 0} {Calls : List ℕ → Type 0}
+      (permits : Permits S names Loops Calls) where
+    -- for fewer, where more variables are visible
+    pub permits_more : {more : List (List ℕ)}
+        {Fewer : Around → List (List ℕ) → ParLoop → Around → Type 0} {Fewest : List ℕ → Type 0}
+        → Longer names more
+        → ((a : Around) (outside : List (List ℕ)) (l : ParLoop) (near : Around)
+        → Fewer a outside l near → Loops a outside l near) → ((f : List ℕ) → Fewest f → Calls f)
+        → Permits S more Fewer Fewest
+    permits_more longer fewer some = record {
+      opened = permits.opened;
+      diverts = permits.diverts;
+      around = permits.around;
+      served = served_more code heartbeat z permits.served longer;
+      cuts = λ outside l near o.
+          permits.cuts outside l near (fewer permits.around outside l near o);
+      calls = λ f called. permits.calls f (some f called);
+    }
+
+    -- with more ticks, and inside a loop
+    pub permits_later : (n : ℕ) → Permits (later_in code heartbeat z S n) names Loops Calls
+    permits_later n = record {
+      opened = permits.opened;
+      diverts = permits.diverts;
+      around = permits.around;
+      served = served_later code heartbeat z permits.served n;
+      cuts = permits.cuts;
+      calls = permits.calls;
+    }
+
+    pub permits_inside : (level : ℕ) (lowest : S.lowest ≤ level) (m : ℤ) (held : Option ℤ)
+        → Permits (inside code heartbeat z S level lowest m held) names Loops Calls
+    permits_inside level lowest m held = record {
+      opened = permits.opened;
+      diverts = permits.diverts;
+      around = permits.around;
+      served = served_inside code heartbeat z permits.served level lowest m held;
+      cuts = permits.cuts;
+      calls = permits.calls;
+    }
+
+  -- a function is called in this scene, where this is round the call
+  pub record PermitsCall (C : Scene code heartbeat z) (params : List (List ℕ)) (x : List ℕ)
+      : Type 0 where
+    pub opened : C.is_open ≡ true
+    pub diverts : C.dispatch ≡ dispatch
+    pub around : Around
+    pub callable : Callable p (modes_at around) x
+    pub served : Served code heartbeat z C (in_call around) params
 
 -- ---- statements that aren't quiet
 

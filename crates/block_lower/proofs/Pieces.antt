@@ -1,6 +1,6 @@
 -- The pieces of a `par` that is cut, and what the task of each owes: the whole of it in a world,
 -- and the sides of cuts.
-use Rattle.std.proofs.Common.{◌≡◌, ◌⊎◌, ℕ, Bool, true, false, List, [], ◌∷◌, refl, arith}
+use Rattle.std.proofs.Common.{◌≡◌, ◌⊎◌, ℕ, Bool, true, false, List, refl, arith}
 use Rattle.std.specs.List.{AllByRecursion}
 use Rattle.tpal_syntax.specs.Listing.{Listing}
 use Rattle.tpal_machine.specs.declared.ends.Ending.{Ending}
@@ -10,7 +10,7 @@ use Rattle.tpal_machine.specs.State.{State}
 use Rattle.tpal_machine.specs.Step.{Beats, Goes, step}
 use Rattle.tpal_machine.proofs.Kit.{Back}
 use Rattle.loop_syntax.specs.declared.ParLoop.{ParLoop}
-use Rattle.loop_meaning.specs.State.{Note, Chance}
+use Rattle.loop_meaning.specs.State.{Note}
 use Rattle.expr_lower.specs.declared.scope.Scope.{Scope}
 use Rattle.block_lower.proofs.Lists.{all_behind}
 use Rattle.block_lower.proofs.Promises.{Promise, Terms, promised, promising}
@@ -25,21 +25,19 @@ pub data Piece (World : Type 0) : Type 0 where
 
 module _ (code : Listing) (heartbeat : ℕ) where
   -- a side owes its end, where it holds all that its run touches
-  abbrev pub side_terms : Scope → ParLoop → Bool → Terms code heartbeat Part
-  side_terms scope l counts = record {
+  abbrev pub side_terms : Scope → ParLoop → Terms code heartbeat Part
+  side_terms scope l = record {
     given = λ p r. AllByRecursion (Covers p.region) r.notes;
     least = λ p r. 0;
     ending = λ p r. ending.At p.rec p.which (side_by scope l p r.end);
-    counts = counts;
     blind = λ p ns r. refl;
     fewer = λ p ns r given. all_behind (Covers p.region) ns r.notes given;
     quietly = λ p ns r quiet. omega arith;
     at_most = λ p ns r one. omega arith;
-    uncounted = λ none p r. omega arith;
   }
 
-  abbrev pub side_promise : Scope → ParLoop → Bool → Promise code heartbeat Part
-  side_promise scope l counts = promised code heartbeat (side_terms scope l counts)
+  abbrev pub side_promise : Scope → ParLoop → Promise code heartbeat Part
+  side_promise scope l = promised code heartbeat (side_terms scope l)
 
   -- ---- what a piece owes, by what a world owes and what a side does
 
@@ -118,27 +116,19 @@ module _ (code : Listing) (heartbeat : ℕ) where
       points_of (Apart p) ns r state after one at calm loud holds =
           Q.points p ns r state after one at calm loud holds
 
-      module _ (alike : Q.counts ≡ P.counts) where
-        pub passes_of : P.counts ≡ false → (i : Piece World) (r : Result) (state : State)
-            → (owing_of i r).Holds state → (owing_of i (noting (Chance ∷ []) r)).Holds state
-        passes_of none (Host w) r state holds = P.passes none w r state holds
-        passes_of none (Apart p) r state holds = Q.passes (rw alike none) p r state holds
-
-        abbrev pub either_promise : Promise code heartbeat (Piece World)
-        either_promise = record {
-          given = given_of;
-          least = least_of;
-          ending = ending_of;
-          owing = owing_of;
-          diverted = diverted_of;
-          opens = opens_of;
-          closes = closes_of;
-          turned_opens = turned_opens_of;
-          turned_closes = turned_closes_of;
-          blind = blind_of;
-          fewer = fewer_of;
-          touches = touches_of;
-          points = points_of;
-          counts = P.counts;
-          passes = passes_of;
-        }
+      abbrev pub either_promise : Promise code heartbeat (Piece World)
+      either_promise = record {
+        given = given_of;
+        least = least_of;
+        ending = ending_of;
+        owing = owing_of;
+        diverted = diverted_of;
+        opens = opens_of;
+        closes = closes_of;
+        turned_opens = turned_opens_of;
+        turned_closes = turned_closes_of;
+        blind = blind_of;
+        fewer = fewer_of;
+        touches = touches_of;
+        points = points_of;
+      }

@@ -87,11 +87,11 @@ few_site_blocks : (row : Bool) → (if row then 10 else 9) ≤ 10
 few_site_blocks true = omega arith
 few_site_blocks false = omega arith
 
--- so a `par` has behind its tests no more blocks than its body is counted with, and twelve
+-- so a `par` has behind its tests no more blocks than its body is counted with, and thirteen
 few_par_blocks : {m : _} (calls : Bool) (carries : List Carry) (row : Row_of-Stmt m) → added_by_all calls row ≤ blocks_of_all row → (quiet : Bool) → all_is_quiet calls row ≡ quiet
-    → par_blocks quiet carries (added_by_all calls row + 1) ≤ blocks_of_all row + 12
+    → par_blocks quiet carries (added_by_all calls row + 1) ≤ blocks_of_all row + 13
 few_par_blocks calls carries row once true is = omega (arith, few_site_blocks (list_any has_row carries), few_twice_by_all calls row is)
-few_par_blocks calls carries row once false is = omega (arith, once)
+few_par_blocks calls carries row once false is = omega (arith, few_site_blocks (list_any has_row carries), once)
 
 -- a statement adds no more blocks than it is counted with
 mutual

@@ -55,7 +55,7 @@ pub record IsPrepared (c : OwnCut) (state : State) (words : List Word) (beat : B
     pub rows : HaveRows c.vars 0 c.loop.carries.items words
 
 -- as many carries as before
-as_many_carries : (scope : Scope) (before : ℕ) (cs : List Carry)
+pub as_many_carries : (scope : Scope) (before : ℕ) (cs : List Carry)
     → length (carries_from scope before cs) ≡ length cs
 as_many_carries scope before [] = refl
 as_many_carries scope before (c ∷ cs) = ap suc (as_many_carries scope (suc before) cs)

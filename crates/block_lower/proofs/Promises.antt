@@ -1,5 +1,5 @@
 -- What a task is bound to end with, for each world round a statement and each result of it.
-use Rattle.std.proofs.Common.{◌≡◌, ℕ, suc, ◌+◌, ◌≤◌, Bool, true, false, List, [], ◌∷◌, refl, sym, ap, subst, ◌∙◌, arith, ◌⊎◌, inl, inr}
+use Rattle.std.proofs.Common.{◌≡◌, ℕ, suc, ◌+◌, ◌≤◌, Bool, true, false, List, refl, sym, ap, subst, ◌∙◌, arith, ◌⊎◌, inl, inr}
 use Rattle.std.specs.List.{AllByRecursion}
 use Rattle.tpal_syntax.specs.Conditions.{IsCode}
 use Rattle.tpal_syntax.specs.Listing.{Listing}
@@ -70,10 +70,6 @@ module _ (code : Listing) (heartbeat : ℕ) where
         ((other : State) × (step code heartbeat true state ≡ Beats other)
         × (diverted i r).Holds other)
         → (owing i r).Holds after → (owing i (noting ns r)).Holds state
-    -- where chances aren't counted, one needs no point
-    pub counts : Bool
-    pub passes : counts ≡ false → (i : World) (r : Result) (state : State) → (owing i r).Holds state
-        → (owing i (noting (Chance ∷ []) r)).Holds state
 
   -- ---- a promise, by what is given, the least number of points and the ending
 
@@ -81,16 +77,13 @@ module _ (code : Listing) (heartbeat : ℕ) where
     pub given : World → Result → Type 0
     pub least : World → Result → ℕ
     pub ending : World → Result → Ending
-    pub counts : Bool
     pub blind : (i : World) (ns : List Note) (r : Result) → ending i (noting ns r) ≡ ending i r
     pub fewer : (i : World) (ns : List Note) (r : Result) → given i (noting ns r) → given i r
-    -- a note of a cell adds no point, and a chance at most one, none where chances aren't counted
+    -- a note of a cell adds no point, and a chance at most one
     pub quietly : (i : World) (ns : List Note) (r : Result) → AllByRecursion IsQuiet ns
         → least i (noting ns r) ≤ least i r
     pub at_most : (i : World) (ns : List Note) (r : Result) → AtMostAChance ns
         → least i (noting ns r) ≤ suc (least i r)
-    pub uncounted : counts ≡ false → (i : World) (r : Result)
-        → least i (noting (Chance ∷ []) r) ≤ least i r
 
   at_none : (due : Bool) (m : ℕ) (state : State) (e : Ending) → m ≡ 0
       → Bound code heartbeat due 0 state e → Bound code heartbeat due m state e
@@ -186,9 +179,6 @@ module _ (code : Listing) (heartbeat : ℕ) where
       fewer = terms.fewer;
       touches = λ i ns r state quiet holds. noted i ns r state (terms.quietly i ns r quiet) holds;
       points = at_point;
-      counts = terms.counts;
-      passes = λ none i r state holds. noted i (Chance ∷ []) r state (terms.uncounted none i r)
-          (λ given. holds);
     }
 
   -- ---- a promise for what goes before: each result is handed to what follows
@@ -223,7 +213,4 @@ module _ (code : Listing) (heartbeat : ℕ) where
           (λ is. holds (subst (P.given (outer v)) (sym (noting_then ns r (k v))) is)));
       points = λ v ns r state after one at calm loud holds. before_it v ns r state
           (P.points (outer v) ns (then r (k v)) state after one at calm loud holds);
-      counts = P.counts;
-      passes = λ none v r state holds. before_it v (Chance ∷ []) r state
-          (P.passes none (outer v) (then r (k v)) state holds);
     }

@@ -99,7 +99,7 @@ module _ (code : Listing) (heartbeat z : ℕ) (act : Activation) (fuel : ℕ) (S
           (shows_tables code heartbeat z act fuel S i shows_task (write_cell st.tables t.text.items a b n) (slice_set state.tables at_number (held.with_cell (table_at state.tables at_number) a b n))
           (names_write st.tables t.text.items a b n)
           (write_shown (S.region i) state.tables st.tables is.scope.tables.items t.text.items a b n shows.held (is.sees.listed ∙ sym shows.tabled) is.inside is_so covered)
-          (S.allows i t.text.items a b n st.tables (k (put_state t a b n st)) given_it shows.can)
+          (S.allows i t.text.items a b n st.tables (k (put_state t a b n st)) is_so given_it shows.can)
           (write_in_range st.tables t.text.items a b n in_n shows.ranged))
           (behind code state.block at _ more end left))))
 

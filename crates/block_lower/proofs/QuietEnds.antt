@@ -71,11 +71,11 @@ use Rattle.block_lower.proofs.Variables.{AreHeld, held_lookup, var_names}
 
 -- ---- marks
 
-abbrev not_at : ℕ → Mark → Bool
+abbrev pub not_at : ℕ → Mark → Bool
 not_at a m = not (int_eq (pos m.at) (pos a))
 
 -- the mark of a cell goes, and those below it stay
-unmarked_is : (marks own : List Mark) (a : ℕ) → is_marked_from marks a ≡ false
+pub unmarked_is : (marks own : List Mark) (a : ℕ) → is_marked_from marks a ≡ false
     → filter (not_at a) own ≡ [] → filter (not_at a) (marks ++ own) ≡ marks
 unmarked_is [] own a below gone = gone
 unmarked_is (m ∷ ms) own a below gone =

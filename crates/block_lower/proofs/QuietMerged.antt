@@ -46,6 +46,7 @@ use Rattle.block_lower.proofs.Joins.{merged_numbers, merged_tables, sides_of_loo
 use Rattle.block_lower.proofs.JoinsCuts.{cut_here, may_cut_here}
 use Rattle.block_lower.proofs.JoinsModes.{each_carried}
 use Rattle.block_lower.proofs.JoinsRuns.{output_kept, tables_named, whole_round}
+use Rattle.block_lower.proofs.Meeting.{met_behind}
 use Rattle.block_lower.proofs.MergedStacks.{HasMerged, merged_has, rest_holds}
 use Rattle.block_lower.proofs.OwnCuts.{MergesTo}
 use Rattle.block_lower.proofs.OwnWork.{IsCutSite, IsOwnCut, OwnCut, own_rest}
@@ -62,22 +63,22 @@ use Rattle.block_lower.proofs.Sides.{numbers_in}
 use Rattle.block_lower.proofs.Turned.{T}
 use Rattle.block_lower.proofs.SiteCells.{below_accs}
 use Rattle.block_lower.proofs.Tables.{listed_names, table_names}
-use Rattle.block_lower.proofs.Turning.{ParAt, before_of, can_of, marks_of, outer_stable, pieces}
-use Rattle.block_lower.proofs.Turning.{region_of, stopped_of}
+use Rattle.block_lower.proofs.Turning.{ParAt, before_of, marks_of, outer_stable, pieces, region_of}
+use Rattle.block_lower.proofs.Turning.{stopped_of}
 use Rattle.block_lower.proofs.Variables.{held_in_range, var_names}
 
 -- a run that is done gives its state, behind its notes; one that stops gives its stop
-result_fin : (r : Ran) → r.stop ≡ Done → noting r.notes (fin r.state) ≡ result r
+pub result_fin : (r : Ran) → r.stop ≡ Done → noting r.notes (fin r.state) ≡ result r
 result_fin r is = rw is (ap (λ (ns : List meaning.Note). record { notes = ns; end = Fin r.state })
     (append-nil r.notes))
 
-result_out : (r : Ran) (x : Stop) → IsEarly x → r.stop ≡ x
+pub result_out : (r : Ran) (x : Stop) → IsEarly x → r.stop ≡ x
     → noting r.notes (out x r.state) ≡ result r
 result_out r Done early is = absurd early
 result_out r (Trap kind place) early is = rw is (out_noting r.notes (Trap kind place) r.state)
 result_out r NoFuel early is = rw is (out_noting r.notes NoFuel r.state)
 
-marks_gone : (xs : List Mark) (own : Mark) → xs ++ own ∷ [] ≡ own ∷ [] → xs ++ [] ≡ []
+pub marks_gone : (xs : List Mark) (own : Mark) → xs ++ own ∷ [] ≡ own ∷ [] → xs ++ [] ≡ []
 marks_gone [] own is = refl
 marks_gone (x ∷ []) own is = cc
 marks_gone (x ∷ y ∷ ys) own is = cc
@@ -297,10 +298,6 @@ module _ (code : Listing) (heartbeat z : ℕ) (act : Activation) (q : ParAt code
           (omega (arith, cells_are, h.shows.top, h.shows.room, q.fits))
           (λ n d inside e. header_apart n d inside (omega (arith, e)))
 
-      can_there : (o : Piece S.World) → can_of code heartbeat z act q S lowest o whole.state.tables
-      can_there (Host w) = allows.met w whole.state.tables
-      can_there (Apart part) = tt
-
       no_marks : (o : Piece S.World)
           → marks_of code heartbeat z act q S lowest true o ≡ loop_mark q.site z ∷ []
           → marks_of code heartbeat z act q S lowest false o ≡ []
@@ -318,8 +315,9 @@ module _ (code : Listing) (heartbeat z : ℕ) (act : Activation) (q : ParAt code
       bound_is : q.site.bound ≡ bound_cell level
       bound_is = ap (λ (s : LoopSite). s.bound) q.is_site.is
 
-      shows_over : ShowsIn code heartbeat z act fuel Behind i q.names whole.state over_task
-      shows_over = record {
+      shows_over : P.given i (noting whole.notes (fin whole.state))
+          → ShowsIn code heartbeat z act fuel Behind i q.names whole.state over_task
+      shows_over given = record {
         size = combines.size;
         base = combines.base;
         limit = h.shows.limit;
@@ -340,7 +338,8 @@ module _ (code : Listing) (heartbeat z : ℕ) (act : Activation) (q : ParAt code
         held = merged_tables code p q.modes q.loop fuel cutting rules loop_cut q.is_site.scope
             region
             q.site rest rest_held rest_at done;
-        can = can_there i;
+        can = met_behind Behind i p fuel room q.loop (Chance ∷ []) [] (h.below + suc h.above) m st
+            (fin whole.state) given h.shows.can;
         ranged = ranged.tables;
         levels = levels_kept ∙ h.shows.levels;
         unmarked = ap (λ (ms : List Mark). is_marked_from ms (z + act.size)) has.marked;
@@ -379,9 +378,11 @@ module _ (code : Listing) (heartbeat z : ℕ) (act : Activation) (q : ParAt code
           ∙ ap (λ (r : Result). P.ending i r) (result_fin whole done))
           (lesser code heartbeat false (P.least i (fin whole.state)) 0 over_task
           (P.ending i (fin whole.state)) (omega arith)
-          (P.opens i (fin whole.state) over_task (at_over over_task shows_over refl refl)
-          (P.fewer i whole.notes (fin whole.state)
-          (subst (P.given i) (sym (result_fin whole done)) given)) can_over))) tt can
+          (P.opens i (fin whole.state) over_task (at_over over_task (shows_over noted) refl refl)
+          (P.fewer i whole.notes (fin whole.state) noted) can_over))) tt can
+        where
+          noted : P.given i (noting whole.notes (fin whole.state))
+          noted = subst (P.given i) (sym (result_fin whole done)) given
 
     -- both sides merge to the whole
     pub merges : ((task : machine.State)

@@ -2,14 +2,12 @@
 use Rattle.std.proofs.Common.{◌≡◌, ℕ, suc, ◌+◌, ◌≤◌, Bool, true, false, List, [], ◌∷◌, length, Some}
 use Rattle.std.proofs.Common.{bytes_eq, refl, sym, ap, append-nil, subst, ◌∙◌, arith}
 use Rattle.std.specs.Prelude.{ℤ, pos, ◌+ℤ◌, ◌≤ℤ◌}
-use Rattle.std.specs.List.{All, AllByRecursion, IsDistinct}
+use Rattle.std.specs.List.{All, IsDistinct}
 use Rattle.std.proofs.lemmas.Int.{ints}
 use Rattle.beat_count.specs.BeatState.{BeatState}
 use Rattle.stack_marks.specs.declared.mark.Mark.{Mark}
-use Rattle.stack_marks.specs.Stacks.{word_at}
-use Rattle.tp_value.specs.declared.Table.{Table}
+use Rattle.stack_marks.specs.Stacks.{StackValue, word_at}
 use Rattle.tp_value.specs.declared.limits.TheConstants.{MAX_CALL_DEPTH, MAX_PAR_LENGTH}
-use Rattle.loop_syntax.specs.declared.Carry.{Carry}
 use Rattle.loop_syntax.specs.declared.Program.{Program}
 use Rattle.loop_syntax.specs.declared.Stmt.TheVariants.{Par}
 use Rattle.loop_meaning.specs.declared.value.Variable.{Variable}
@@ -37,7 +35,7 @@ use Rattle.block_lower.proofs.Activations.{clear_above}
 use Rattle.block_lower.proofs.CutStacks.{HasLoop, child_has, child_top, header_kept, left_has}
 use Rattle.block_lower.proofs.CutStacks.{left_top, marks_left}
 use Rattle.block_lower.proofs.CutTables.{child_tables, left_tables}
-use Rattle.block_lower.proofs.Fixed.{fixed_round, round_back, round_fixed}
+use Rattle.block_lower.proofs.Fixed.{AreFixed, fixed_round, round_back, round_fixed}
 use Rattle.block_lower.proofs.Gaps.{IsGap}
 use Rattle.block_lower.proofs.CutGaps.{is_short}
 use Rattle.block_lower.proofs.JoinsModes.{Serves, left_serves, serves_round, upper_serves}
@@ -46,15 +44,15 @@ use Rattle.block_lower.proofs.JoinsSides.{child_side, left_side}
 use Rattle.block_lower.proofs.Moves.{calm}
 use Rattle.block_lower.proofs.OwnWork.{IsCutSite, IsOwnCut, OwnCut, has_iteration, own_child}
 use Rattle.block_lower.proofs.OwnWork.{own_left}
-use Rattle.block_lower.proofs.Parts.{IsKnown}
 use Rattle.block_lower.proofs.Pieces.{Apart, Host, Piece}
-use Rattle.block_lower.proofs.Regions.{HasCell, Region, Wholly}
+use Rattle.block_lower.proofs.Regions.{Region}
 use Rattle.block_lower.proofs.Scene.{IsDiverted, Scene, ShowsIn}
 use Rattle.block_lower.proofs.Results.{Result}
-use Rattle.block_lower.proofs.Sides.{Part, carried, child_region, left_region}
+use Rattle.block_lower.proofs.Sides.{Part, child_region, left_region}
 use Rattle.block_lower.proofs.Tables.{listed_names, table_names}
 use Rattle.block_lower.proofs.Turned.{T}
-use Rattle.block_lower.proofs.Turning.{ParAt, clear_of, enough_of, marks_of, own_marks, region_of}
+use Rattle.block_lower.proofs.Turning.{FixedIn, ParAt, clear_of, enough_of, marks_of, outer_of}
+use Rattle.block_lower.proofs.Turning.{own_marks, region_of}
 use Rattle.block_lower.proofs.Variables.{var_names}
 
 -- What the rules of a program say of a `par` where it stands: it may be cut, its numbers are in
@@ -75,28 +73,19 @@ pub record CutBlocks (code : Listing) (act : Activation) (q : ParAt code act)
   pub child : Opens code (first_label q.site.label) [] (to first)
   pub none : Opens code (none_label q.site.label) [] (to (over_label q.site.label))
 
--- What goes on round a `par` that may be cut, and the code round it: its tables are held wholly and
--- may be met whatever they are, and the cells of its record and of the variables that it reduces may
+-- What goes on round a `par` that may be cut, and the code round it: what a world holds of tables
+-- serves the iterations, and the cells of the record and of the variables that are reduced may
 -- change.
 pub record AllowsCuts (code : Listing) (heartbeat z : ℕ) (act : Activation) (q : ParAt code act)
     (S : Scene code heartbeat z) (p : Program) (room first : ℕ) : Type 0 where
   pub may : MayBeCut code act p room q
   pub blocks : CutBlocks code act q S.dispatch first
   pub opened : S.is_open ≡ true
-  pub wholly : (w : S.World) (t : List ℕ) → S.region w t ≡ Wholly
-  pub met : (w : S.World) (ts : List Table) → S.can w ts
+  pub serves : (w : S.World) (s : StackValue) (vs : List Variable) → var_names vs ≡ q.names
+      → S.kept w s → AreFixed q.loop.reduces.items s z 0 vs → (m j : ℤ)
+      → Serves q.modes q.loop vs m j (S.region w)
   pub free_rec : S.may q.site.rec
   pub free_accs : All S.may (cells_of q.site.accs)
-
--- a region of everything
-wholly_has : (region : Region) → ((t : List ℕ) → region t ≡ Wholly) → (t : List ℕ) (i j : ℤ)
-    → HasCell (region t) i j
-wholly_has region all t i j = rw (all t) tt
-
-wholly_known : (region : Region) → ((t : List ℕ) → region t ≡ Wholly) → (cs : List Carry)
-    → AllByRecursion (λ (c : Carry). IsKnown (region (carried c))) cs
-wholly_known region all [] = tt
-wholly_known region all (c ∷ cs) = (rw (all (carried c)) tt, wholly_known region all cs)
 
 module _ (code : Listing) (heartbeat z : ℕ) (act : Activation) (q : ParAt code act)
     (S : Scene code heartbeat z) (lowest : S.lowest ≤ length q.names) (k : meaning.State → Result)
@@ -108,16 +97,12 @@ module _ (code : Listing) (heartbeat z : ℕ) (act : Activation) (q : ParAt code
   abbrev Turning : Bool → ℤ → ℤ → Scene code heartbeat z
   Turning marked m j = T code heartbeat z act q S lowest k vs named marked m j
 
-  serves_of : (m j : ℤ) (i : Piece S.World) → enough_of code heartbeat z act q S lowest vs i m j
+  serves_of : (m j : ℤ) (i : Piece S.World) (s : StackValue)
+      → outer_of code heartbeat z act q S lowest i s → FixedIn code heartbeat z act q S lowest vs s
+      → enough_of code heartbeat z act q S lowest vs i m j
       → Serves q.modes q.loop vs m j (region_of code heartbeat z act q S lowest i)
-  serves_of m j (Host w) enough = record {
-    enough = record {
-      cells = λ t a b up low. wholly_has (S.region w) (allows.wholly w) t a b;
-      known = wholly_known (S.region w) (allows.wholly w) q.loop.carries.items;
-    };
-    whole = λ t all. rw (allows.wholly w t) tt;
-  }
-  serves_of m j (Apart p) enough = enough
+  serves_of m j (Host w) s outer fixed enough = allows.serves w s vs named outer fixed m j
+  serves_of m j (Apart p) s outer fixed enough = enough
 
   -- A diverted task of a piece whose own mark is the oldest: one iteration and so many more aren't
   -- begun, and so many of them stay below the cut.
@@ -212,7 +197,8 @@ module _ (code : Listing) (heartbeat z : ℕ) (act : Activation) (q : ParAt code
     region = region_of code heartbeat z act q S lowest i
 
     serves : Serves q.modes q.loop vs m j region
-    serves = serves_of m j i h.shows.keeps.enough
+    serves = serves_of m j i state.stack h.shows.keeps.outer h.shows.keeps.fixed
+        h.shows.keeps.enough
 
     pub serves_here : Serves q.modes q.loop st.vars m j region
     serves_here =

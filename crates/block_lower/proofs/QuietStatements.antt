@@ -41,9 +41,12 @@ use Rattle.block_lower.specs.Names.{Sees}
 use Rattle.block_lower.specs.Round.{Round, par_round, unreduced}
 use Rattle.block_lower.specs.Sites.{accs_of}
 use Rattle.block_lower.proofs.Admitting.{Admits}
+use Rattle.block_lower.proofs.Around.{modes_at}
 use Rattle.block_lower.proofs.Lists.{all_behind}
 use Rattle.block_lower.proofs.Cutting.{MayCut, ProgramRules}
-use Rattle.block_lower.proofs.Permitting.{Permits}
+use Rattle.block_lower.proofs.Occurring.{itself}
+use Rattle.block_lower.proofs.Permitting.{PermitsOne}
+use Rattle.block_lower.proofs.Serving.{serves_at}
 use Rattle.block_lower.proofs.QuietLaws.{quiet_law, side_opens}
 use Rattle.block_lower.proofs.QuietLoops.{TurnBlocks}
 use Rattle.block_lower.proofs.QuietSides.{AllowsCuts}
@@ -57,20 +60,20 @@ use Rattle.block_lower.proofs.Values.{ExprLaw}
 use Rattle.block_lower.proofs.Variables.{var_names}
 
 -- the first ones of two lists, one behind the other
-all_front : {X : Type 0} (P : X → Type 0) (xs ys : List X) → AllByRecursion P (xs ++ ys)
+pub all_front : {X : Type 0} (P : X → Type 0) (xs ys : List X) → AllByRecursion P (xs ++ ys)
     → AllByRecursion P xs
 all_front P [] ys all = tt
 all_front P (x ∷ xs) ys all = (all.0, all_front P xs ys all.1)
 
 -- levels that differ have cells that differ
-other_cells : (x : ℕ) (levels : List ℕ) → AllByRecursion (λ j. j ≢ x) levels
+pub other_cells : (x : ℕ) (levels : List ℕ) → AllByRecursion (λ j. j ≢ x) levels
     → AllByRecursion (λ j. value_cell x ≢ value_cell j) levels
 other_cells x [] all = tt
 other_cells x (j ∷ js) all =
     (λ (e : value_cell x ≡ value_cell j). all.0 (omega (arith, e)), other_cells x js all.1)
 
 -- a cell below those of the variables is none of theirs
-below_cells : (c : ℕ) (levels : List ℕ) → c < value_cell 0
+pub below_cells : (c : ℕ) (levels : List ℕ) → c < value_cell 0
     → AllByRecursion (λ j. c ≢ value_cell j) levels
 below_cells c [] low = tt
 below_cells c (j ∷ js) low =
@@ -121,7 +124,6 @@ module _ (code : Listing) (heartbeat z room : ℕ) (act : Activation) (q : ParAt
       control (rec_cell d) (omega (arith, below)) (λ e. absurd (omega (arith, e, from, depth_is)))
           (admits.controls d (omega (arith, from)) below).1,
     );
-    uncounted = admits.uncounted;
   }
 
 -- ---- the variables that it reduces may be set
@@ -154,9 +156,10 @@ module _ (code : Listing) (heartbeat z : ℕ) (act : Activation) (p : Program) (
     (expr_law : ExprLaw code heartbeat) (rules : ProgramRules p act.tables)
     (dispatches : AreAt code act.dispatch (dispatch_block act.dispatch ∷ []))
     (few : room ≤ MAX_CALL_DEPTH) (S : Scene code heartbeat z)
-    (permits : Permits code heartbeat z act.dispatch S) (round : Round) (names : List (List ℕ))
+    (round : Round) (names : List (List ℕ))
     (admits : Admits code heartbeat z room S round names) (k : meaning.State → Result)
-    (l : ParLoop) (site : LoopSite) (check start head exit : ℕ) (cut : MayCut p names l)
+    (l : ParLoop) (site : LoopSite) (check start head exit : ℕ)
+    (permits : PermitsOne code heartbeat z p act.dispatch S names (Par l))
     (shallow : round.depth < MAX_PAR_NESTING) (room_left : length names < act.most)
     (free : AllByRecursion
     (λ (r : Reduce). IsFreeCell code act names round.fixed r.target.text.items) l.reduces.items)
@@ -209,11 +212,14 @@ module _ (code : Listing) (heartbeat z : ℕ) (act : Activation) (p : Program) (
           loop = l;
           depth = round.depth;
           site = site;
-          modes = cut.modes;
+          modes = modes_at permits.around;
           nested = shallow;
           fits = room_left;
           is_site = quiet_site.is_site;
         }
+
+        cut : MayCut p permits.around names l
+        cut = permits.cuts names l permits.around itself
 
         blocks : TurnBlocks code act q S.dispatch
         blocks = record {
@@ -255,8 +261,9 @@ module _ (code : Listing) (heartbeat z : ℕ) (act : Activation) (p : Program) (
             none = quiet_site.none;
           };
           opened = permits.opened;
-          wholly = permits.wholly;
-          met = permits.met;
+          serves = λ w s vs named kept fixed.
+              serves_at code heartbeat z S p l names w s vs named kept fixed permits.around
+              permits.served cut.lawful cut.stands;
           free_rec = subst (λ (c : ℕ). S.may c)
               (sym (rec_is code heartbeat z act q S admits.lowest))
               (admits.controls round.depth (omega arith) shallow).1;

@@ -68,11 +68,11 @@ noted_after ns r g = noted_by ns r.stop r g
 
 module _ (fuel : ℕ) (x : List ℕ) (body : meaning.State → Ran) where
   -- it is noted where the iteration has its tick
-  abbrev chance_by : Bool → List Note
+  abbrev pub chance_by : Bool → List Note
   chance_by true = Chance ∷ []
   chance_by false = []
 
-  one_chance : (b : Bool) → AtMostAChance (chance_by b)
+  pub one_chance : (b : Bool) → AtMostAChance (chance_by b)
   one_chance true = tt
   one_chance false = tt
 
@@ -102,7 +102,7 @@ module _ (fuel : ℕ) (x : List ℕ) (body : meaning.State → Ran) where
 
 -- ---- a mark stands
 
-some_mark : (marks : List Mark) (m : Mark) → is_some (slice_get (marks ++ m ∷ []) 0) ≡ true
+pub some_mark : (marks : List Mark) (m : Mark) → is_some (slice_get (marks ++ m ∷ []) 0) ≡ true
 some_mark [] m = refl
 some_mark (o ∷ os) m = refl
 

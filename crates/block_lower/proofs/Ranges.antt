@@ -18,10 +18,10 @@ use Rattle.tpal_syntax.specs.declared.instructions.Value.{Value}
 use Rattle.tpal_syntax.specs.Listing.{Listing}
 use Rattle.expr_lower.specs.Bodies.{literal}
 use Rattle.block_lower.specs.Code.{Arguments, Branch, Code, Codes, Operand, Other}
-use Rattle.block_lower.specs.Code.{both_code, branch, call_code, computed, emit_code, fold_code}
-use Rattle.block_lower.specs.Code.{fold_nothing_code, if_code, let_code, loop_code, loop_to_code}
-use Rattle.block_lower.specs.Code.{no_argument, none, nothing, number, one_argument, one_more}
-use Rattle.block_lower.specs.Code.{par_code, print_code, put_code, put_kept_code, quiet_par_code}
+use Rattle.block_lower.specs.Code.{both_code, branch, call_code, computed, deep_par_code, emit_code}
+use Rattle.block_lower.specs.Code.{fold_code, fold_nothing_code, if_code, let_code, loop_code}
+use Rattle.block_lower.specs.Code.{loop_to_code, no_argument, none, nothing, number, one_argument}
+use Rattle.block_lower.specs.Code.{one_more, print_code, put_code, put_kept_code, quiet_par_code}
 use Rattle.block_lower.specs.Code.{set_code, something, while_code}
 use Rattle.block_lower.specs.Layout.{Activation}
 use Rattle.block_lower.specs.Main.{IsFunction, Makes, input_table, made_kept_table, made_table}
@@ -84,16 +84,17 @@ module _ (code : Listing) (act : Activation) where
         (a.ranged, b.ranged, vec_ranged body (codes_ranged inner))
     code_ranged (loop_to_code {b = b} body {n} room is range a begins inner ends) =
         (a.ranged, literal_ranged b n is range, vec_ranged body (codes_ranged inner))
-    code_ranged (par_code l shallow room deep a b tests traps begins inner ends) =
-        (a.ranged, b.ranged, vec_ranged l.body (codes_ranged inner))
     code_ranged (quiet_par_code l site shallow room quiet free a b is begins inner heads again
         ends) =
+        (a.ranged, b.ranged, vec_ranged l.body (codes_ranged inner))
+    code_ranged (deep_par_code l site shallow room loud free a b is begins inner ends) =
         (a.ranged, b.ranged, vec_ranged l.body (codes_ranged inner))
     code_ranged (fold_code is_op is c) = operand_ranged c
     code_ranged (fold_nothing_code is c) = c.ranged
     code_ranged (call_code is_entry arity is args call) = arguments_ranged args
-    code_ranged (both_code kept is_first arity_first is_second arity_second is_x is_y few args
-        others first second) = (arguments_ranged args, arguments_ranged others)
+    code_ranged (both_code first second site kept is_first arity_first is_second arity_second is_x
+        is_y few args others pair) =
+        (arguments_ranged args, arguments_ranged others)
     code_ranged (print_code c) = c.ranged
     code_ranged (emit_code is) = tt
 

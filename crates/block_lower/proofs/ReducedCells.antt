@@ -39,7 +39,7 @@ use Rattle.block_lower.proofs.Variables.{AreHeld, cell_names, held_assign, names
 -- ---- variables by their cells
 
 -- variables of different names are held where each has its value in its cell
-held_by_cells : (s : StackValue) (z : ℕ) (cs : List (Vec ℕ Global × ℕ)) (level : ℕ)
+pub held_by_cells : (s : StackValue) (z : ℕ) (cs : List (Vec ℕ Global × ℕ)) (level : ℕ)
     (us : List Variable) → AreLaid level cs → cell_names cs ≡ var_names us
     → Distinct (var_names us) → All VariableInRange us
     → ((x : List ℕ) → has_cell_in cs x ≡ true

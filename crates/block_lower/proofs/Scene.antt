@@ -26,7 +26,7 @@ use Rattle.tpal_machine.specs.State as machine
 use Rattle.tpal_machine.specs.Step.{Ends, step}
 use Rattle.loop_meaning.specs.InRange.{TableInRange}
 use Rattle.loop_meaning.specs.State as meaning
-use Rattle.loop_meaning.specs.State.{Writes, write_cell}
+use Rattle.loop_meaning.specs.State.{Writes, has_cell, table_of, write_cell}
 use Rattle.expr_lower.specs.Standing.{Remains}
 use Rattle.block_lower.specs.Layout.{cursor_cell, levels_cell, value_cell, Activation}
 use Rattle.block_lower.proofs.Activations.{StandsFrom}
@@ -238,10 +238,12 @@ pub record Scene (code : Listing) (heartbeat z : ℕ) : Type 1 where
   pub stopped : (i : World) (stop : Stop) (st : meaning.State) (output : List ℕ) → IsEarly stop
       → st.output ≡ before i ++ output
       → ending i (out stop st) ≡ ended_together (goal i) stop st.ticks output
-  -- what a run touches is held, and where it writes it meets tables that it may meet
+  -- what a run touches is held, and where it writes a cell of a table that it may meet, it meets
+  -- tables that it may meet
   pub covers : (i : World) (r : Result) → given i r → AllByRecursion (Covers (region i)) r.notes
   pub allows : (i : World) (t : List ℕ) (a b n : ℤ) (ts : List Table) (r : Result)
-      → given i (noting (Writes t a b ∷ []) r) → can i ts → can i (write_cell ts t a b n)
+      → has_cell (table_of ts t) a b ≡ true → given i (noting (Writes t a b ∷ []) r) → can i ts
+      → can i (write_cell ts t a b n)
   -- whether promotion points may be reached
   pub is_open : Bool
   -- A diverted task whose oldest mark is that of a world: where it owes what it should as soon as

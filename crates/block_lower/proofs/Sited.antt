@@ -29,7 +29,7 @@ use Rattle.block_lower.specs.declared.body.Body.{Body}
 use Rattle.block_lower.specs.declared.round.Round as told
 use Rattle.block_lower.specs.Bodies.{HasRoomFor, entries}
 use Rattle.block_lower.specs.Fitting.{CanBeCut, level_of}
-use Rattle.block_lower.specs.Layout.{bound_cell, rec_cell, value_cell, Entry}
+use Rattle.block_lower.specs.Layout.{bound_cell, cursor_cell, rec_cell, value_cell, Entry}
 use Rattle.block_lower.specs.Lowering.{FitsIn}
 use Rattle.block_lower.specs.Names.{Sees}
 use Rattle.block_lower.specs.Sites.{accs_of, carried_table, carries_from, carry_at, loop_site}
@@ -37,7 +37,7 @@ use Rattle.block_lower.proofs.LoweredPars.{targets_seen}
 use Rattle.block_lower.proofs.Seeing.{as_long, cell_of_level, seen_table}
 use Rattle.block_lower.proofs.UnbrokenSpots.{at_level}
 
-no_pairs : {X : Type 0} (R : X → X → Type 0) → AllPairs R []
+pub no_pairs : {X : Type 0} (R : X → X → Type 0) → AllPairs R []
 no_pairs R i j d less below = absurd (omega (arith, below))
 
 -- ---- variables
@@ -251,16 +251,44 @@ as_many_carries scope before (c ∷ cs) = ap suc (as_many_carries scope (suc bef
 
 -- ---- the site
 
+-- The cell of the next iteration is that of the loop's variable, or one of the loop's own in front
+-- of its record's.
+pub data IsCursor (level depth : ℕ) : ℕ → Type 0 where
+  of_variable : IsCursor level depth (value_cell level)
+  of_loop : IsCursor level depth (cursor_cell depth)
+
+-- such a cell is none of the loop's others, nor of a variable round it
+record CursorIsApart (level depth cursor : ℕ) : Type 0 where
+  below : cursor ≤ value_cell level
+  no_bound : cursor ≢ bound_cell level
+  no_rec : cursor ≢ rec_cell depth
+  no_variable : (c : ℕ) → value_cell 0 ≤ c → c < value_cell level → cursor ≢ c
+
+apart_cursor : (level depth : ℕ) {cursor : ℕ} → IsCursor level depth cursor
+    → depth < MAX_PAR_NESTING → CursorIsApart level depth cursor
+apart_cursor level depth of_variable shallow = record {
+  below = omega arith;
+  no_bound = λ same. absurd (omega (arith, same));
+  no_rec = λ same. absurd (omega (arith, same, shallow));
+  no_variable = λ c from below same. absurd (omega (arith, same, below));
+}
+apart_cursor level depth of_loop shallow = record {
+  below = omega (arith, shallow);
+  no_bound = λ same. absurd (omega (arith, same, shallow));
+  no_rec = λ same. absurd (omega (arith, same));
+  no_variable = λ c from below same. absurd (omega (arith, same, from, shallow));
+}
+
 pub right_site : (on : Body) (scope : Scope) (names tables : List (List ℕ)) (functions : List Entry)
-    (fixed : List ℕ) (l : ParLoop) (depth label : ℕ)
+    (fixed : List ℕ) (l : ParLoop) (depth label : ℕ) {cursor : ℕ}
+    → IsCursor (length scope.cells.items) depth cursor
     → Sees scope names tables
     → CanBeCut tables functions on.most names fixed l.reduces.items l.carries.items
     → depth < MAX_PAR_NESTING → length names < on.most → HasRoomFor on 0 → label < 65536
     → length scope.tables.items ≤ 16
-    → IsLoopSite (loop_site scope l on.size depth (length scope.cells.items)
-    (value_cell (length scope.cells.items)) label)
-right_site on scope names tables functions fixed l depth label sees cut shallow room has_room below
-    few =
+    → IsLoopSite (loop_site scope l on.size depth (length scope.cells.items) cursor label)
+right_site on scope names tables functions fixed l depth label {cursor} is_cursor sees cut shallow
+    room has_room below few =
     let level : ℕ = length scope.cells.items in
     let long : level ≡ length names = as_long scope names tables sees in
     let accs : List ℕ = map (λ (a : ℕ × Op). a.0) (accs_of scope l.reduces.items) in
@@ -277,6 +305,7 @@ right_site on scope names tables functions fixed l depth label sees cut shallow 
     ) in
     let above : (x : List ℕ) → is_in names x ≡ true → rec_cell depth < offset_of scope x =
     λ x seen. omega (arith, cell_of_level scope names tables sees x seen, shallow) in
+    let low : CursorIsApart level depth cursor = apart_cursor level depth is_cursor shallow in
     let all : (P : ℕ → Type 0) → ((x : List ℕ) → is_in names x ≡ true → P (offset_of scope x))
     → All P accs =
     λ P each. all_reduced scope names tables sees P each rs seen_all in
@@ -285,22 +314,20 @@ right_site on scope names tables functions fixed l depth label sees cut shallow 
       cells = has_room.fits;
       offsets =
           All-cons inside (bound_cell level)
-          (value_cell level ∷ bound_cell level ∷ rec_cell depth ∷ accs)
+          (cursor ∷ bound_cell level ∷ rec_cell depth ∷ accs)
           (omega (arith, has_room.room, room, long))
-          (All-cons inside (value_cell level) (bound_cell level ∷ rec_cell depth ∷ accs)
-          (omega (arith, has_room.room, room, long))
+          (All-cons inside cursor (bound_cell level ∷ rec_cell depth ∷ accs)
+          (omega (arith, has_room.room, room, long, low.below))
           (All-cons inside (bound_cell level) (rec_cell depth ∷ accs)
           (omega (arith, has_room.room, room, long))
           (All-cons inside (rec_cell depth) accs (omega (arith, has_room.room, room, shallow))
           (all inside (λ x seen. omega (arith, own x seen, has_room.room, room, long))))));
       offsets_differ =
-          AllPairs-cons (λ a b. a ≢ b) (value_cell level) (bound_cell level ∷ rec_cell depth ∷ accs)
-          (All-cons (λ b. value_cell level ≢ b) (bound_cell level) (rec_cell depth ∷ accs)
-          (λ same. absurd (omega (arith, same)))
-          (All-cons (λ b. value_cell level ≢ b) (rec_cell depth) accs
-          (λ same. absurd (omega (arith, same, shallow)))
-          (all (λ b. value_cell level ≢ b) (λ x seen same. absurd
-          (omega (arith, own x seen, same))))))
+          AllPairs-cons (λ a b. a ≢ b) cursor (bound_cell level ∷ rec_cell depth ∷ accs)
+          (All-cons (λ b. cursor ≢ b) (bound_cell level) (rec_cell depth ∷ accs) low.no_bound
+          (All-cons (λ b. cursor ≢ b) (rec_cell depth) accs low.no_rec
+          (all (λ b. cursor ≢ b) (λ x seen same. low.no_variable (offset_of scope x)
+          (omega (arith, cell_of_level scope names tables sees x seen)) (own x seen) same))))
           (AllPairs-cons (λ a b. a ≢ b) (bound_cell level) (rec_cell depth ∷ accs)
           (All-cons (λ b. bound_cell level ≢ b) (rec_cell depth) accs
           (λ same. absurd (omega (arith, same, shallow)))
@@ -333,6 +360,9 @@ pub record GivesSite (on : Body) (scope : Scope) (as_told : told.Round) (l : Par
     pub right : (label : ℕ) → label < 65536
         → IsLoopSite (loop_site scope l on.size as_told.depth (length scope.cells.items)
         (value_cell (length scope.cells.items)) label)
+    pub right_deep : (label : ℕ) → label < 65536
+        → IsLoopSite (loop_site scope l on.size as_told.depth (length scope.cells.items)
+        (cursor_cell as_told.depth) label)
 
 pub site_fits : (on : Body) (scope : Scope) (as_told : told.Round) (l : ParLoop)
     → FitsIn on scope as_told (Par l ∷ []) → HasRoomFor on 0 → length scope.tables.items ≤ 16
@@ -345,5 +375,8 @@ site_fits on scope as_told l f room few =
       cells = omega (arith, f.fits.0.1, as_long scope f.names f.tables f.sees);
       right = λ label below.
           right_site on scope f.names f.tables (entries on.callees.items) f.round.fixed l
-          as_told.depth label f.sees f.fits.0.5 shallow f.fits.0.1 room below few;
+          as_told.depth label of_variable f.sees f.fits.0.5 shallow f.fits.0.1 room below few;
+      right_deep = λ label below.
+          right_site on scope f.names f.tables (entries on.callees.items) f.round.fixed l
+          as_told.depth label of_loop f.sees f.fits.0.5 shallow f.fits.0.1 room below few;
     }

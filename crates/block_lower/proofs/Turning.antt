@@ -15,7 +15,7 @@ use Rattle.tp_value.specs.declared.Stop.TheVariants.{Done, Trap, NoFuel}
 use Rattle.loop_syntax.specs.declared.ParLoop.{ParLoop}
 use Rattle.loop_meaning.specs.declared.value.Variable.{Variable}
 use Rattle.loop_meaning.specs.State as meaning
-use Rattle.loop_meaning.specs.State.{Writes, write_cell}
+use Rattle.loop_meaning.specs.State.{Writes, has_cell, table_of, write_cell}
 use Rattle.tpal_syntax.specs.declared.sites.LoopSite.{LoopSite}
 use Rattle.tpal_syntax.specs.declared.words.Word.{Word}
 use Rattle.tpal_syntax.specs.declared.words.Word.TheVariants.{Int, Nil, Rec}
@@ -62,7 +62,7 @@ pub record ParAt (code : Listing) (act : Activation) : Type 0 where
   pub fits : length names < act.most
   pub is_site : IsSite code act names loop depth (value_cell (length names)) site
 
-clear_both : (xs ys : List Mark) (a : ℕ) → is_marked_from xs a ≡ false
+pub clear_both : (xs ys : List Mark) (a : ℕ) → is_marked_from xs a ≡ false
     → is_marked_from ys a ≡ false → is_marked_from (xs ++ ys) a ≡ false
 clear_both [] ys a first second = second
 clear_both (m ∷ ms) ys a first second =
@@ -109,10 +109,10 @@ module _ (code : Listing) (heartbeat z : ℕ) (act : Activation) (q : ParAt code
     host_promise = following code heartbeat S.promise (λ w. w) (λ w. k)
 
     abbrev pub apart_promise : Promise code heartbeat Part
-    apart_promise = side_promise code heartbeat q.is_site.scope q.loop S.counts
+    apart_promise = side_promise code heartbeat q.is_site.scope q.loop
 
     abbrev pub pieces : Promise code heartbeat (Piece S.World)
-    pieces = either_promise code heartbeat host_promise apart_promise refl
+    pieces = either_promise code heartbeat host_promise apart_promise
 
   -- ---- what a piece is like
 
@@ -287,12 +287,13 @@ module _ (code : Listing) (heartbeat z : ℕ) (act : Activation) (q : ParAt code
   covers_of k (Apart p) r given = given
 
   pub allows_of : (k : meaning.State → Result) (i : Piece S.World) (t : List ℕ) (a b n : ℤ)
-      (ts : List Table) (r : Result) → (pieces k).given i (noting (Writes t a b ∷ []) r)
+      (ts : List Table) (r : Result) → has_cell (table_of ts t) a b ≡ true
+      → (pieces k).given i (noting (Writes t a b ∷ []) r)
       → can_of i ts → can_of i (write_cell ts t a b n)
-  allows_of k (Host w) t a b n ts r given can =
-      S.allows w t a b n ts (then r k)
+  allows_of k (Host w) t a b n ts r has given can =
+      S.allows w t a b n ts (then r k) has
       (subst (S.given w) (noting_then (Writes t a b ∷ []) r k) given) can
-  allows_of k (Apart p) t a b n ts r given can = tt
+  allows_of k (Apart p) t a b n ts r has given can = tt
 
   -- The iteration m runs, of those up to a bound, where the variables round the loop have these
   -- values. The loop's own mark stands, or it has gone.

@@ -45,7 +45,7 @@ use Rattle.block_lower.proofs.Planning.{IsPlanned, entry_is_planned, main_fits, 
 use Rattle.block_lower.proofs.Cutting.{ProgramRules}
 use Rattle.block_lower.proofs.Found.{program_rules}
 use Rattle.block_lower.proofs.Ranges.{codes_ranged, functions_ranged, makes_ranged}
-use Rattle.block_lower.proofs.Root.{as_many_held, owes_meaning, owes_promoted}
+use Rattle.block_lower.proofs.Root.{as_many_held, owes_promoted}
 use Rattle.loop_check.specs.Unbroken.{NoneBroken}
 use Rattle.block_lower.proofs.Writing.{reopened, pushed, closed_block, fresh_opens}
 use Rattle.block_lower.proofs.WrittenFunctions.{room_of, fresh_label}
@@ -217,10 +217,6 @@ owes_of p code unbroken right is =
     let rules : ProgramRules p is.act.tables = subst (ProgramRules p) (sym is.tables) (program_rules p unbroken is.ranged) in
     record {
       declared = is.declared;
-      owes = λ given holdings heartbeat fuel are named held.
-          owes_meaning code heartbeat (λ K scope vars tables e label r inside low blocks. expr_law code heartbeat K scope vars tables e label r inside low blocks)
-          p given holdings fuel is rules (given_tables_are p.tables.items given are named) held
-          (record { right = right; runs = first_of code holdings fuel right (as_many_held p.tables.items code.tables given holdings is.declared held) });
       promoted = λ given holdings heartbeat fuel are named held.
           owes_promoted code heartbeat (λ K scope vars tables e label r inside low blocks. expr_law code heartbeat K scope vars tables e label r inside low blocks)
           p given holdings fuel is rules (given_tables_are p.tables.items given are named) held

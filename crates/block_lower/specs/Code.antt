@@ -1,7 +1,7 @@
 -- Which code is the code of a statement. It is said of what remains of a block: the code of a
 -- statement leads from some instructions with an end to others with an end, which are the code of
 -- what follows.
-use Rattle.std.specs.Prelude.{◌≡◌, ◌≢◌, ℕ, zero, suc, ◌+◌, ◌<◌, ◌≤◌, ℤ, pos, List, [], ◌∷◌, ◌++◌}
+use Rattle.std.specs.Prelude.{◌≡◌, ◌≢◌, ℕ, suc, ◌+◌, ◌<◌, ◌≤◌, ℤ, pos, List, [], ◌∷◌, ◌++◌}
 use Rattle.std.specs.Prelude.{true, false, length, Some, None, Vec}
 use Rattle.std.specs.List.{AllByRecursion}
 use Rattle.std.specs.declared.alloc.Global.{Global}
@@ -17,12 +17,12 @@ use Rattle.loop_rules.specs.Limits.{height}
 use Rattle.loop_rules.specs.Names.{operator_of}
 use Rattle.loop_meaning.specs.InRange.{InRange, ExprInRange}
 use Rattle.tp_value.specs.declared.limits.TheConstants.{MAX_EXPRESSION_HEIGHT}
-use Rattle.tp_value.specs.declared.limits.TheConstants.{MAX_PAR_LENGTH, MAX_PAR_NESTING}
+use Rattle.tp_value.specs.declared.limits.TheConstants.{MAX_PAR_NESTING}
 use Rattle.tp_value.specs.declared.limits.TheConstants.{MAX_PARAMETERS}
 use Rattle.tp_value.specs.declared.Op.{Op}
 use Rattle.tp_value.specs.declared.Place.{Place}
-use Rattle.tp_value.specs.declared.TrapKind.TheVariants.{Index, Wide, Deep}
-use Rattle.tpal_syntax.specs.declared.instructions.Alu.TheVariants.{Lt, Le, Add, Sub}
+use Rattle.tp_value.specs.declared.TrapKind.TheVariants.{Index}
+use Rattle.tpal_syntax.specs.declared.instructions.Alu.TheVariants.{Lt, Add}
 use Rattle.tpal_syntax.specs.declared.instructions.Instr.{Instr}
 use Rattle.tpal_syntax.specs.declared.instructions.Instr.TheVariants as instr
 use Rattle.tpal_syntax.specs.declared.instructions.Term.{Term}
@@ -35,15 +35,18 @@ use Rattle.expr_lower.specs.declared.scope.Scope.{Scope}
 use Rattle.expr_lower.specs.Bodies.{body_of, traps_of, trap_block, literal, range_tests}
 use Rattle.expr_lower.specs.Scopes.{IsIn, HasVariable, HasTable, offset_of, table_number}
 use Rattle.expr_lower.specs.Standing.{AreAt}
-use Rattle.block_lower.specs.Layout.{base_register, return_cell, levels_cell, value_cell}
-use Rattle.block_lower.specs.Layout.{bound_cell, kept_cell, kept_value, kept_by_both, Entry}
-use Rattle.block_lower.specs.Layout.{entry_of, Activation}
+use Rattle.block_lower.specs.DeepMarked.{IsDeepSite}
+use Rattle.block_lower.specs.Layout.{value_cell, bound_cell, kept_cell, kept_value}
+use Rattle.block_lower.specs.Layout.{kept_by_both, Entry, entry_of, Activation}
 use Rattle.block_lower.specs.Marked.{IsQuietSite}
 use Rattle.block_lower.specs.Names.{Sees, names_after}
+use Rattle.block_lower.specs.Pairs.{IsPair}
 use Rattle.block_lower.specs.Quiet.{list_is_quiet}
 use Rattle.block_lower.specs.Round.{Round, loop_round, par_round}
 use Rattle.handler_gen.specs.Sites.{over_label}
+use Rattle.tpal_syntax.specs.declared.sites.CallSite.{CallSite}
 use Rattle.tpal_syntax.specs.declared.sites.LoopSite.{LoopSite}
+pub use Rattle.block_lower.specs.Calling.{call_test, call_entry, call_exit, parameter_cell, passed}
 pub use Rattle.block_lower.specs.Opening.{OpensAs, Opens, to, store, load}
 pub use Rattle.join_gen.specs.Blocks.{alu_of}
 
@@ -67,31 +70,6 @@ next_turn level again =
 abbrev pub put_tested : ℕ → ℕ → ℕ → ℕ → ℕ → ℕ → List Instr → List Instr
 put_tested table row col number test trap more =
     range_tests table row col test trap ++ instr.Put table row col number ∷ more
-
--- The test of a `par` whose first number is in register 1 and whose bound, above it, is in register
--- 0: their difference is negative where it is above the numbers of 64 bits.
-abbrev pub wide_test : ℕ → ℕ → List Instr
-wide_test wide again =
-    instr.Calc 2 0 Sub (value.Reg 1) ∷ instr.Calc 3 2 Lt (value.Int (pos 0)) ∷ instr.IfJump 3 wide
-    ∷ instr.Calc 3 2 Le (value.Int (pos MAX_PAR_LENGTH)) ∷ instr.IfJump 3 again ∷ []
-
--- the end of a call, where the arguments stand in the new activation: a tick, and a trap where no
--- level is left
-abbrev pub call_test : ℕ → Place → List Instr
-call_test go place =
-    instr.Tick ∷ load 0 levels_cell ∷ instr.IfJump 0 go ∷ instr.Trap Deep place ∷ []
-
--- the callee's levels and its label to return to; its activation is the one that runs
-abbrev pub call_entry : ℕ → ℕ → List Instr
-call_entry size back =
-    instr.Calc 0 0 Sub (value.Int (pos 1)) ∷ store (size + levels_cell) (value.Reg 0)
-    ∷ store (size + return_cell) (value.Label back)
-    ∷ instr.Calc base_register base_register Add (value.Int (pos size)) ∷ []
-
--- behind a call the callee's activation is gone, and the caller's runs again
-abbrev pub call_exit : ℕ → ℕ → List Instr → List Instr
-call_exit callee size more =
-    instr.Sfree callee ∷ instr.Calc base_register base_register Sub (value.Int (pos size)) ∷ more
 
 -- The code of the statements of main, or of a function, that stands on this.
 module _ (code : Listing) (act : Activation) where
@@ -155,16 +133,6 @@ module _ (code : Listing) (act : Activation) where
         → Arguments names cell (suc i) es second more
         → Arguments names cell i (e ∷ es) instrs more
 
-  -- the cell of a parameter in the activation that begins behind this one
-  abbrev pub parameter_cell : ℕ → ℕ
-  parameter_cell i = act.size + value_cell i
-
-  -- kept numbers, from the first on, become arguments
-  abbrev pub passed : ℕ → ℕ → List Instr → List Instr
-  passed zero i more = more
-  passed (suc n) i more =
-      load 0 (kept_cell act i) ∷ store (parameter_cell i) (value.Reg 0) ∷ passed n (suc i) more
-
   -- a call of a function, whose arguments stand in its activation, from a tick on; behind it stands
   -- what follows at its label
   pub record Calls (place : Place) (entry : Entry) (instrs : List Instr) (end : Term)
@@ -177,8 +145,8 @@ module _ (code : Listing) (act : Activation) where
     pub behind : Opens code return (call_exit entry.size act.size back) last
 
   mutual
-    -- The code of a statement, where this stands round it and these variables are visible: from some
-    -- instructions and an end to others.
+    -- The code of a statement, where this stands round it and these variables are visible: from
+    -- some instructions and an end to others.
     pub data Code : Round → List (List ℕ) → Stmt → List Instr → Term → List Instr
         → Term → Type 0 where
       let_code : {round : Round} {names : List (List ℕ)} {x : Name}
@@ -236,7 +204,8 @@ module _ (code : Listing) (act : Activation) where
           (store (bound_cell (length names)) (value.Reg 0) ∷ load 1 (value_cell (length names))
           ∷ below_test 1 (value.Reg 0) again)
           → Opens code again (instr.Tick ∷ inner) last
-          → Codes (loop_round round (length names)) (names ++ x.text.items ∷ []) body.items inner last
+          → Codes (loop_round round (length names)) (names ++ x.text.items ∷ []) body.items inner
+          last
           (step_up 1 (length names)
           (load 0 (bound_cell (length names)) ∷ below_test 1 (value.Reg 0) again))
           (to exit)
@@ -250,30 +219,11 @@ module _ (code : Listing) (act : Activation) where
           → Computes names a 0 instrs
           (store (value_cell (length names)) (value.Reg 0) ∷ below_test 0 (value.Int n) again)
           → Opens code again (instr.Tick ∷ inner) last
-          → Codes (loop_round round (length names)) (names ++ x.text.items ∷ []) body.items inner last
+          → Codes (loop_round round (length names)) (names ++ x.text.items ∷ []) body.items inner
+          last
           (step_up 0 (length names) (below_test 0 (value.Int n) again)) (to exit)
           → Opens code exit more end
           → Code round names (Loop x a b body) instrs (to exit) more end
-      par_code : {round : Round} {names : List (List ℕ)} (l : ParLoop)
-          {check wide again exit : ℕ} {instrs second inner more : List Instr} {last end : Term}
-          → round.depth < MAX_PAR_NESTING
-          → length names < act.most
-          → list_is_quiet act.calls l.body.items ≡ false
-          → Computes names l.from 0 instrs
-          (store (value_cell (length names)) (value.Reg 0) ∷ second)
-          → Computes names l.to 0 second
-          (store (bound_cell (length names)) (value.Reg 0) ∷ load 1 (value_cell (length names))
-          ∷ instr.Calc 2 1 Lt (value.Reg 0) ∷ instr.IfJump 2 check ∷ [])
-          → Opens code check (wide_test wide again) (to wide)
-          → AreAt code wide (trap_block wide Wide l.place ∷ [])
-          → Opens code again (instr.Tick ∷ inner) last
-          → Codes (par_round round names l.reduces.items) (names ++ l.var.text.items ∷ [])
-          l.body.items inner last
-          (step_up 1 (length names)
-          (load 0 (bound_cell (length names)) ∷ below_test 1 (value.Reg 0) again))
-          (to exit)
-          → Opens code exit more end
-          → Code round names (Par l) instrs (to exit) more end
       quiet_par_code : {round : Round} {names : List (List ℕ)} (l : ParLoop) (site : LoopSite)
           {check first head exit : ℕ} {instrs second inner again more : List Instr}
           {last half end : Term}
@@ -296,6 +246,24 @@ module _ (code : Listing) (act : Activation) where
           l.body.items again half (next_turn (length names) head) (to (over_label site.label))
           → Opens code exit more end
           → Code round names (Par l) instrs (to exit) more end
+      deep_par_code : {round : Round} {names : List (List ℕ)} (l : ParLoop) (site : LoopSite)
+          {check head turn exit : ℕ} {instrs second inner more : List Instr} {half end : Term}
+          → round.depth < MAX_PAR_NESTING
+          → length names < act.most
+          → list_is_quiet act.calls l.body.items ≡ false
+          → AllByRecursion (λ (r : Reduce). IsFreeCell names round.fixed r.target.text.items)
+          l.reduces.items
+          → Computes names l.from 0 instrs
+          (store (value_cell (length names)) (value.Reg 0) ∷ second)
+          → Computes names l.to 0 second
+          (store (bound_cell (length names)) (value.Reg 0) ∷ load 1 (value_cell (length names))
+          ∷ instr.Calc 2 1 Lt (value.Reg 0) ∷ instr.IfJump 2 check ∷ [])
+          → IsDeepSite code act act.dispatch names l round.depth check head turn exit site
+          → Opens code turn (instr.Tick ∷ inner) half
+          → Codes (par_round round names l.reduces.items) (names ++ l.var.text.items ∷ [])
+          l.body.items inner half [] (to head)
+          → Opens code exit more end
+          → Code round names (Par l) instrs (to exit) more end
       fold_code : {round : Round} {names : List (List ℕ)} {x : Name}
           {e : Expr} {o : Op} {v : Value} {cell : ℕ} {instrs more : List Instr} {end : Term}
           → operator_of round.reduces x.text.items ≡ Some o
@@ -313,12 +281,12 @@ module _ (code : Listing) (act : Activation) where
           → entry_of act.functions f.callee.text.items ≡ Some entry
           → length f.args.items ≡ entry.parameters
           → IsCell names round.fixed x.text.items cell
-          → Arguments names parameter_cell 0 f.args.items arguments test
+          → Arguments names (parameter_cell code act) 0 f.args.items arguments test
           → Calls f.callee.place entry test last (store cell (value.Reg 0) ∷ more) end
           → Code round names (Call x f) (instr.Salloc entry.size ∷ arguments) last more end
       both_code : {round : Round} {names : List (List ℕ)} {x y : Name}
-          {f g : App} {first second : Entry} {x_cell y_cell : ℕ}
-          {arguments others test_first test_second more : List Instr} {last half end : Term}
+          {f g : App} (first second : Entry) (site : CallSite) {x_cell y_cell : ℕ}
+          {arguments others begins more : List Instr} {last end : Term}
           → Keeps kept_by_both
           → entry_of act.functions f.callee.text.items ≡ Some first
           → length f.args.items ≡ first.parameters
@@ -327,18 +295,15 @@ module _ (code : Listing) (act : Activation) where
           → IsCell names round.fixed x.text.items x_cell
           → IsCell names round.fixed y.text.items y_cell
           → length g.args.items ≤ MAX_PARAMETERS
-          → Arguments names parameter_cell 0 f.args.items arguments others
-          → Arguments names (kept_cell act) 0 g.args.items others test_first
-          → Calls f.callee.place first test_first last
-          (store (kept_cell act kept_value) (value.Reg 0) ∷ instr.Salloc second.size
-          ∷ passed (length g.args.items) 0 test_second)
-          half
-          → Calls g.callee.place second test_second half
-          (load 1 (kept_cell act kept_value) ∷ store x_cell (value.Reg 1) ∷ store y_cell (value.Reg 0)
-          ∷ more)
+          → Arguments names (parameter_cell code act) 0 f.args.items arguments others
+          → Arguments names (kept_cell act) 0 g.args.items others begins
+          → IsPair code act act.dispatch f.callee.place (length g.args.items) first second site
+          begins
+          last
+          (load 1 (kept_cell act kept_value) ∷ store x_cell (value.Reg 1)
+          ∷ store y_cell (value.Reg 0) ∷ more)
           end
-          → Code round names (Both x f y g) (instr.Salloc first.size ∷ arguments) last more
-          end
+          → Code round names (Both x f y g) (instr.Salloc first.size ∷ arguments) last more end
       print_code : {round : Round} {names : List (List ℕ)} {place : Place}
           {e : Expr} {instrs more : List Instr} {end : Term}
           → Computes names e 0 instrs (instr.Print 0 ∷ more)

@@ -14,6 +14,12 @@ pub mod Opening
 pub mod Sites
 -- the code of a `par` that can be cut, round its iterations
 pub mod Marked
+-- the code of a `par` in whose body promotion points may be reached
+pub mod DeepMarked
+-- the instructions of a call
+pub mod Calling
+-- the code of two calls that can be cut
+pub mod Pairs
 -- which code is the code of a statement
 pub mod Code
 -- which code is the code of a program

@@ -14,8 +14,11 @@ use Rattle.tpal_syntax.specs.declared.instructions.Alu.TheVariants.{Lt}
 use Rattle.tpal_syntax.specs.declared.instructions.Instr.{Instr}
 use Rattle.tpal_syntax.specs.declared.instructions.Instr.TheVariants.{Tick, Calc, IfJump}
 use Rattle.tpal_syntax.specs.declared.instructions.Term.{Term}
+use Rattle.tpal_syntax.specs.declared.instructions.Term.TheVariants.{Halt, Jump}
 use Rattle.tpal_syntax.specs.declared.instructions.Value.{Value}
 use Rattle.tpal_syntax.specs.declared.instructions.Value.TheVariants as value
+use Rattle.tpal_syntax.specs.declared.notes.Note.TheVariants.{Ready}
+use Rattle.tpal_syntax.specs.declared.sites.CallSite.{CallSite}
 use Rattle.tpal_syntax.specs.declared.sites.LoopSite.{LoopSite}
 use Rattle.tpal_syntax.specs.Listing.{Listing}
 use Rattle.expr_lower.specs.declared.scope.Scope.{Scope}
@@ -24,9 +27,10 @@ use Rattle.expr_lower.specs.Bodies.{literal, trap_block}
 use Rattle.expr_lower.specs.Standing.{AreAt}
 use Rattle.handler_gen.specs.Blocks.{loop_handler_blocks}
 use Rattle.handler_gen.specs.Sites.{target_label, first_label, over_label, none_label, side_label}
-use Rattle.handler_gen.specs.Sites.{prep_label}
+use Rattle.handler_gen.specs.Sites.{prep_label, joined_label}
 use Rattle.join_gen.specs.Blocks.{loop_join_blocks}
 use Rattle.block_lower.specs.declared.body.Body.{Body}
+use Rattle.block_lower.specs.declared.body.Target.{Target}
 use Rattle.block_lower.specs.declared.output.Output.{Output}
 use Rattle.block_lower.specs.declared.repeat.Bound.{Bound}
 use Rattle.block_lower.specs.declared.repeat.Bound.TheVariants as bound
@@ -36,11 +40,14 @@ use Rattle.block_lower.specs.Bodies.{entries, activation}
 use Rattle.block_lower.specs.Code.{Opens, OpensAs, Computes, Operand, Arguments}
 use Rattle.block_lower.specs.Code.{parameter_cell, passed}
 use Rattle.block_lower.specs.Code.{Calls, Code, Codes, Branch, Other, to, store, load, below_test}
-use Rattle.block_lower.specs.Code.{step_up, wide_test, put_tested}
+use Rattle.block_lower.specs.Code.{step_up, put_tested}
+use Rattle.block_lower.specs.DeepMarked.{IsDeepSite, last_begun, next_begun}
 use Rattle.block_lower.specs.Fitting.{IsVisible, AreVisible, Fits, AllFit}
 use Rattle.block_lower.specs.Layout.{value_cell, bound_cell, kept_cell, Entry, Activation}
 use Rattle.block_lower.specs.Marked.{length_test, marked_begin, unmark, side_test, IsQuietSite}
 use Rattle.block_lower.specs.Names.{Sees}
+use Rattle.block_lower.specs.Pairs.{IsPair, call_enters, call_site, pair_begins, pair_joined}
+use Rattle.block_lower.specs.Pairs.{second_call}
 use Rattle.block_lower.specs.Round.{Round}
 use Rattle.block_lower.specs.Sites.{rows_from}
 use Rattle.block_lower.specs.Sizes.{has_row}
@@ -175,17 +182,7 @@ WritesSome check exit old new =
     → Stands code new
     → Continues code old (Calc 2 1 Lt (value.Reg 0) ∷ IfJump 2 check ∷ []) (to exit)
 
--- the test of the length of a `par` was written in a block of its own, with the trap block behind
--- it
-abbrev pub WritesWide : Place → ℕ → Output → Output → Type 0
-WritesWide place again old new =
-    (code : Listing) → Stands code new
-    → Stands code old
-    × Opens code (label old) (wide_test (label old + 1) again) (to (label old + 1))
-    × AreAt code (label old + 1) (trap_block (label old + 1) Wide place ∷ [])
-
--- the test of the length of a `par` that can be cut was written, in front of what its block goes on
--- with
+-- the test of the length of a `par` was written, in front of what its block goes on with
 abbrev pub WritesLength : Output → Output → Type 0
 WritesLength old new =
     (code : Listing) (more : List Instr) (last : Term)
@@ -248,6 +245,60 @@ BeginsQuiet on as_told scope l turns exit old new =
     (λ instrs end. (end ≡ to exit)
     × IsQuietBegun code (activation on tables) names l round.depth (label new) exit turns instrs)
 
+-- the begin of an iteration of a `par` that isn't quiet was written, where the two labels behind the
+-- one at which it goes on are told, and its block closed
+abbrev pub WritesNext : LoopSite → ℕ → ℕ → Output → Output → Type 0
+WritesNext site level head old new =
+    (code : Listing) → Stands code new
+    → Continues code old (next_begun site level (head + 2)) (to (head + 1))
+
+-- what comes before its last iteration was written, and its block closed
+abbrev pub WritesLast : LoopSite → ℕ → Output → Output → Type 0
+WritesLast site turn old new =
+    (code : Listing) → Stands code new → Continues code old (last_begun site) (to turn)
+
+-- The blocks of such a `par` round its iterations: an iteration begins at a promotion-ready block,
+-- with the one before the last iteration and that of the body behind it.
+pub record IsRoundDeep (code : Listing) (dispatch : ℕ) (scope : Scope) (l : ParLoop)
+    (site : LoopSite) (level head exit : ℕ) : Type 0 where
+  pub handler : AreAt code site.label (loop_handler_blocks site)
+  pub join : AreAt code (target_label site.label) (loop_join_blocks site)
+  pub first : Opens code (first_label site.label) (next_begun site level (head + 2)) (to (head + 1))
+  pub over : Opens code (over_label site.label) (side_test site exit) (to (side_label site.label))
+  pub none : Opens code (none_label site.label) [] (Jump (value.Reg 30))
+  pub rows : list_any has_row l.carries.items ≡ true
+      → Opens code (prep_label site.label) (rows_from scope 0 l.carries.items) (to site.label)
+  pub next : OpensAs code (Ready dispatch) head (next_begun site level (head + 2)) (to (head + 1))
+  pub ends : Opens code (head + 1) (last_begun site) (to (head + 2))
+
+-- they were written
+abbrev pub WritesDeepSite : Body → Scope → ParLoop → LoopSite → ℕ → ℕ → Output → Output → Type 0
+WritesDeepSite on scope l site head exit old new =
+    (code : Listing) → Stands code new
+    → Stands code old
+    × IsRoundDeep code on.dispatch scope l site (length scope.cells.items) head exit
+
+-- instructions that begin such a `par`
+pub record IsDeepBegun (code : Listing) (act : Activation) (dispatch : ℕ) (names : List (List ℕ))
+    (l : ParLoop) (depth head exit : ℕ) (instrs : List Instr) : Type 0 where
+  pub site : LoopSite
+  pub check : ℕ
+  pub bounds : AreBounds code act names l.from l.to instrs
+      (Calc 2 1 Lt (value.Reg 0) ∷ IfJump 2 check ∷ [])
+  pub is_site : IsDeepSite code act dispatch names l depth check head (head + 2) exit site
+
+-- the begin of such a `par` was written; the open block is that of its body
+abbrev pub BeginsDeep : Body → told.Round → Scope → ParLoop → ℕ → ℕ → Output → Output → Type 0
+BeginsDeep on as_told scope l head exit old new =
+    (code : Listing) (tables names : List (List ℕ)) (round : Round)
+    → IsRound round as_told
+    → Sees scope names tables
+    → Fits tables (entries on.callees.items) on.most round names (Par l)
+    → Stands code new
+    → Leads code old
+    (λ instrs end. (end ≡ to exit)
+    × IsDeepBegun code (activation on tables) on.dispatch names l round.depth head exit instrs)
+
 -- ---- tables
 
 -- the write of a cell was written, with the tests of its row and its column
@@ -302,6 +353,48 @@ WritesCall on place at size old new =
     → Continues code new more last
     → Leads code old
     (λ instrs end. Calls code (activation on tables) place entry instrs end more last)
+
+-- the first of two calls was written, from its tick on, with the block that enters it
+abbrev pub WritesFirst : Body → Place → Target → CallSite → Output → Output → Type 0
+WritesFirst on place target site old new =
+    (code : Listing) (tables : List (List ℕ)) → Stands code new
+    → Continues code old
+    (pair_begins code (activation on tables) site place (site.entry + 1) (next_label old)) Halt
+    × OpensAs code (Ready on.dispatch) (next_label old) (call_enters on.size) (to target.label)
+
+-- what stands behind the join of two calls was written, and its block closed
+abbrev pub WritesJoined : Body → Target → ℕ → Output → Output → Type 0
+WritesJoined on target back old new =
+    (code : Listing) (tables : List (List ℕ)) → Stands code new
+    → Continues code old (pair_joined code (activation on tables) target.size) (to back)
+
+-- the second of two calls was written, and its block closed
+abbrev pub WritesSecond : Body → ℕ → Target → ℕ → Output → Output → Type 0
+WritesSecond on many target back old new =
+    (code : Listing) (tables : List (List ℕ)) → Stands code new
+    → Continues code old (second_call code (activation on tables) many target.size back)
+    (to target.label)
+
+-- The site of two calls at a label, the second of which has so many arguments. A child makes it
+-- behind the block behind the join.
+abbrev pub pair_site : Listing → Activation → ℕ → ℕ → CallSite
+pair_site code act many at = call_site code act many (joined_label at + 1) at
+
+-- a call of a function goes there
+pub record GoesTo (entry : Entry) (target : Target) : Type 0 where
+  pub label : entry.label ≡ target.label
+  pub size : entry.size ≡ target.size
+
+-- two calls were written, from the first one's tick on, and the block behind the second is open
+abbrev pub WritesPair : Body → Place → ℕ → Target → Target → Output → Output → Type 0
+WritesPair on place many first second old new =
+    (code : Listing) (tables : List (List ℕ)) (one two : Entry) (more : List Instr) (last : Term)
+    → GoesTo one first
+    → GoesTo two second
+    → Continues code new more last
+    → Leads code old
+    (λ instrs end. IsPair code (activation on tables) on.dispatch place many one two
+    (pair_site code (activation on tables) many (next_label old + 1)) instrs end more last)
 
 -- ---- statements
 

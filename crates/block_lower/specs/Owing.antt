@@ -7,14 +7,13 @@ use Rattle.loop_syntax.specs.declared.program.Program.{Program}
 use Rattle.loop_syntax.specs.declared.program.TableDecl.{TableDecl}
 use Rattle.loop_syntax.specs.declared.program.TableDecl.TheVariants.{Input, Made}
 use Rattle.loop_meaning.specs.InRange.{TableInRange}
-use Rattle.loop_meaning.specs.Meaning.{meaning}
+use Rattle.loop_meaning.specs.Meaning.{chances, meaning}
 use Rattle.loop_meaning.specs.State.{table_of, has_cell, cell_of}
 use Rattle.tpal_syntax.specs.declared.blocks.CodeTable.{CodeTable}
 use Rattle.tpal_syntax.specs.declared.blocks.CodeTable.TheVariants as code
 use Rattle.tpal_syntax.specs.Listing.{Listing}
 use Rattle.tpal_machine.specs.declared.ends.Ending.TheVariants.{Root}
 use Rattle.tpal_machine.specs.Owes.{Owes}
-use Rattle.tpal_machine.specs.Serial.{OwesSerially}
 use Rattle.tpal_machine.specs.State.{first_state}
 
 -- ---- the tables of a code
@@ -66,19 +65,14 @@ AreHeld (Made x a b ∷ ds) given (h ∷ hs) = (h.rows ≡ 0) × (h.cols ≡ 0) 
 
 -- ---- the promise
 
--- A code has a program's tables, and its first task owes the program's meaning, whatever is given,
--- for every heartbeat and every fuel: where nothing is diverted, and whatever is promoted.
+-- A code has a program's tables, and its first task owes the program's meaning, whatever is given
+-- and whatever is promoted, for every heartbeat and every fuel. As long as it isn't diverted, it
+-- enters at least as many promotion points as the program has chances.
 pub record OwesMeaning (program : Program) (listing : Listing) : Type 0 where
   pub declared : AreDeclared program.tables.items listing.tables
-  pub owes : (given : List Table) (holdings : List Holding) (heartbeat fuel : ℕ)
-      → All IsTable given
-      → AreNamed program.tables.items given
-      → AreHeld program.tables.items given holdings
-      → OwesSerially listing heartbeat 0 (first_state holdings fuel)
-      (Root (meaning program given fuel))
   pub promoted : (given : List Table) (holdings : List Holding) (heartbeat fuel : ℕ)
       → All IsTable given
       → AreNamed program.tables.items given
       → AreHeld program.tables.items given holdings
-      → Owes listing heartbeat false 0 (first_state holdings fuel)
+      → Owes listing heartbeat false (chances program given fuel) (first_state holdings fuel)
       (Root (meaning program given fuel))

@@ -31,15 +31,16 @@ abbrev pub has_row : Carry → Bool
 has_row (carry.Rows t i) = false
 has_row (carry.Cells t k j) = true
 
--- how many blocks a marked `par` has round its iterations, its handler and its join among them: one
+-- how many blocks a `par` has round its iterations, its handler and its join among them: one
 -- more where a carry has a row
 abbrev pub site_blocks : List Carry → ℕ
 site_blocks carries = if list_any has_row carries then 10 else 9
 
--- How many blocks a `par` has behind its tests, where those of its body are so many. A quiet one is
--- marked, and its body stands there twice.
+-- How many blocks a `par` has behind its tests, where those of its body are so many. The body of a
+-- quiet one stands there twice, and that of another one behind the two blocks where an iteration
+-- begins.
 abbrev pub par_blocks : Bool → List Carry → ℕ → ℕ
-par_blocks quiet carries body = if quiet then site_blocks carries + 2 * body else body
+par_blocks quiet carries body = site_blocks carries + (if quiet then 2 * body else body + 2)
 
 -- the blocks that become closed between the begin of a statement and its end, where no point of
 -- promotion can be reached in a call or one may
@@ -57,7 +58,7 @@ abbrev mutual
       + par_blocks (all_is_quiet calls body) carries.items (added_by_all calls body + 1)
   added calls (Fold x e) = trap_count e
   added calls (Call x f) = trap_counts f.args.items + 2
-  added calls (Both x f y g) = trap_counts f.args.items + trap_counts g.args.items + 4
+  added calls (Both x f y g) = trap_counts f.args.items + trap_counts g.args.items + 12
   added calls (Print place e) = trap_count e
   added calls (Emit place t) = 0
 

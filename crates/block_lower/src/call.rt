@@ -1,27 +1,39 @@
-// The code of calls.
+// The code of calls. Of two calls the first is marked while it runs: where a beat comes the handler
+// of the pair cuts the second off, and its join puts both values together. The handler and the join
+// are made from the pair's site; round them stand the blocks of this file.
 
-ghost use Rattle.std.specs.Prelude.{◌≡◌, ◌+◌, ◌*◌, ◌<◌, ◌≤◌, ◌∷◌, [], pos, length, OnOk};
+ghost use Rattle.std.specs.Prelude.{◌≡◌, ℕ, ◌+◌, ◌*◌, ◌<◌, ◌≤◌, ◌∷◌, ◌++◌, [], List, pos, length};
+ghost use Rattle.std.specs.Prelude.{IfOk, OnOk};
 ghost use Rattle.tp_value.specs.declared.limits.TheConstants.{MAX_ACTIVATION_CELLS, MAX_BLOCKS};
 ghost use Rattle.tp_value.specs.declared.limits.TheConstants.{MAX_PARAMETERS, MAX_TABLES};
+ghost use Rattle.tp_value.specs.declared.TrapKind.TheVariants.{Deep};
 ghost use Rattle.loop_syntax.specs.declared.Stmt;
 ghost use Rattle.tpal_syntax.specs.Listing.{Listing};
+ghost use Rattle.expr_lower.specs.Scopes.{offset_of};
+ghost use Rattle.handler_gen.specs.Blocks.{call_handler_blocks};
+ghost use Rattle.handler_gen.specs.Sites.{IsCallSite};
+ghost use Rattle.join_gen.specs.Blocks.{call_join_blocks};
 ghost use Rattle.block_lower.specs.declared.round.Round.{Round};
-ghost use Rattle.block_lower.specs.Bodies.{HasRoomFor};
+ghost use Rattle.block_lower.specs.Bodies.{HasRoomFor, activation};
 ghost use Rattle.block_lower.specs.Code as codes;
 ghost use Rattle.block_lower.specs.Heights.{AreLowArguments};
-ghost use Rattle.block_lower.specs.Layout.{kept_by_both};
+ghost use Rattle.block_lower.specs.Layout.{kept_by_both, kept_value, levels_cell, value_cell};
 ghost use Rattle.block_lower.specs.Lowering.{Lowers, WritesArguments, WritesBothArguments};
-ghost use Rattle.block_lower.specs.Lowering.{WritesPassed, WritesCall};
+ghost use Rattle.block_lower.specs.Lowering.{WritesPassed, WritesCall, WritesFirst, WritesJoined};
+ghost use Rattle.block_lower.specs.Lowering.{WritesSecond, WritesPair, pair_site};
+ghost use Rattle.block_lower.specs.Pairs as pairs;
 ghost use Rattle.block_lower.specs.Sizes as sizes;
 ghost use Rattle.block_lower.specs.Writing as writing;
-ghost use Rattle.block_lower.specs.Writing.{IsFresh, Pushes, Stands, Continues};
+ghost use Rattle.block_lower.specs.Writing.{IsFresh, Pushes, Appends, Stands, Continues};
 
 use crate::body::{Target, target_of};
-use crate::layout::{BASE, KEPT_VALUE, LEVELS, RETURN};
+use crate::layout::{BASE, KEPT_MARK, KEPT_RECORD, KEPT_VALUE, LEVELS, RETURN};
 use crate::lowering::{Lowering, jump};
+use handler_gen::{call_handler, child_end_label, joined_label};
+use join_gen::call_join;
 use loop_syntax::{App, Expr, Name};
-use tp_value::{NoMemory, Place, TrapKind};
-use tpal_syntax::{Alu, Instr, Term, Value};
+use tp_value::{Items, NoMemory, Place, TrapKind};
+use tpal_syntax::{Alu, CallSite, Instr, Term, Value};
 
 impl Lowering {
     /// The values of arguments, in cells that stand at a distance from one another from the first
@@ -67,8 +79,22 @@ impl Lowering {
         Ok(())
     }
 
-    /// A tick, and a trap where no level of calls is left.
-    fn push_call_test(&mut self, go: u32, place: Place) -> Result<(), NoMemory>
+    /// A tick, and the number of levels of calls that are left, in register 0.
+    fn push_tick(&mut self) -> Result<(), NoMemory>
+        ensures pushed { OnOk result
+            (Pushes (Instr.Tick ∷ codes.load 0 levels_cell ∷ []) self.old.out self.new.out) }
+        ensures labels { OnOk result
+            (writing.next_label self.new.out ≡ writing.next_label self.old.out) }
+        ensures on { OnOk result (self.new.on ≡ self.old.on) }
+        ensures scope { OnOk result (self.new.scope ≡ self.old.scope) }
+    {
+        self.push(Instr::Tick)?;
+        self.load(0, LEVELS)?;
+        Ok(())
+    }
+
+    /// Where a level of calls is left, which register 0 has, a jump to a label, else a trap.
+    fn push_deep_test(&mut self, go: u32, place: Place) -> Result<(), NoMemory>
         requires { writing.next_label self.old.out ≤ MAX_BLOCKS }
         ensures labels { OnOk result
             (writing.next_label self.new.out ≡ writing.next_label self.old.out + 1) }
@@ -76,18 +102,35 @@ impl Lowering {
         ensures code { OnOk result
             ((code : Listing)
             → Stands code self.new.out
-            → Continues code self.old.out (codes.call_test go place) Term.Halt) }
+            → Continues code self.old.out (Instr.IfJump 0 go ∷ Instr.Trap Deep place ∷ [])
+            Term.Halt) }
         ensures on { OnOk result (self.new.on ≡ self.old.on) }
         ensures scope { OnOk result (self.new.scope ≡ self.old.scope) }
     {
-        self.push(Instr::Tick)?;
-        self.load(0, LEVELS)?;
         self.jump_if(0, go)?;
         self.push(Instr::Trap {
             kind: TrapKind::Deep,
             place,
         })?;
         self.close(Term::Halt)?;
+        Ok(())
+    }
+
+    /// What a callee is given besides its arguments: one level of calls less than register 0 has,
+    /// by way of a register, and its label to return to.
+    fn push_given(&mut self, by: u8, back: u32) -> Result<(), NoMemory>
+        requires { self.old.on.size ≤ MAX_ACTIVATION_CELLS }
+        ensures pushed { OnOk result
+            (Pushes (pairs.call_given by self.old.on.size back []) self.old.out self.new.out) }
+        ensures labels { OnOk result
+            (writing.next_label self.new.out ≡ writing.next_label self.old.out) }
+        ensures on { OnOk result (self.new.on ≡ self.old.on) }
+        ensures scope { OnOk result (self.new.scope ≡ self.old.scope) }
+    {
+        let size = self.on.size;
+        self.calc(by, 0, Alu::Sub, Value::Int(1))?;
+        self.store(size + LEVELS, Value::Reg(by))?;
+        self.store(size + RETURN, Value::Label(back))?;
         Ok(())
     }
 
@@ -120,12 +163,24 @@ impl Lowering {
         ensures on { OnOk result (self.new.on ≡ self.old.on) }
         ensures scope { OnOk result (self.new.scope ≡ self.old.scope) }
     {
-        let size = self.on.size;
-        self.calc(0, 0, Alu::Sub, Value::Int(1))?;
-        self.store(size + LEVELS, Value::Reg(0))?;
-        self.store(size + RETURN, Value::Label(back))?;
+        self.push_given(0, back)?;
         self.push_move(Alu::Add)?;
         self.close(jump(label))?;
+        Ok(())
+    }
+
+    /// Behind a call the callee's activation is gone, and the caller's runs again.
+    fn push_exit(&mut self, target: Target) -> Result<(), NoMemory>
+        ensures pushed { OnOk result
+            (Pushes (codes.call_exit target.size self.old.on.size []) self.old.out
+            self.new.out) }
+        ensures labels { OnOk result
+            (writing.next_label self.new.out ≡ writing.next_label self.old.out) }
+        ensures on { OnOk result (self.new.on ≡ self.old.on) }
+        ensures scope { OnOk result (self.new.scope ≡ self.old.scope) }
+    {
+        self.push(Instr::Sfree(target.size))?;
+        self.push_move(Alu::Sub)?;
         Ok(())
     }
 
@@ -142,10 +197,10 @@ impl Lowering {
         ensures scope { OnOk result (self.new.scope ≡ self.old.scope) }
     {
         let go = self.next_label();
-        self.push_call_test(go, place)?;
+        self.push_tick()?;
+        self.push_deep_test(go, place)?;
         self.push_entry(target.label, go + 1)?;
-        self.push(Instr::Sfree(target.size))?;
-        self.push_move(Alu::Sub)?;
+        self.push_exit(target)?;
         Ok(())
     }
 
@@ -201,18 +256,221 @@ impl Lowering {
         Ok(())
     }
 
-    /// Two calls, one after the other, whose arguments are all computed before.
+    /// The kept cells of the arguments of a second call, so many.
+    fn kept_arguments(&self, count: u16) -> Result<Vec<u16>, NoMemory>
+        requires room { HasRoomFor self.now.on kept_by_both }
+        requires few { count ≤ MAX_PARAMETERS }
+        ensures { IfOk result
+            (λ v. (tables : List (List ℕ))
+            → v.items ≡ pairs.kept_from (activation self.now.on tables) count 0) }
+    {
+        let mut all = Vec::new(self.alloc);
+        for i in 0..count {
+            all.push(self.kept_cell(i))?;
+        }
+        Ok(all)
+    }
+
+    /// The site of two calls at a label, the second of which has so many arguments. A child makes
+    /// it behind the block behind the join.
+    fn pair_site(&self, count: u16, label: u32) -> Result<CallSite, NoMemory>
+        requires room { HasRoomFor self.now.on kept_by_both }
+        requires few { count ≤ MAX_PARAMETERS }
+        requires label { label < MAX_BLOCKS }
+        ensures { IfOk result
+            (λ site. (code : Listing) (tables : List (List ℕ))
+            → site ≡ pair_site code (activation self.now.on tables) count label) }
+    {
+        let args = self.kept_arguments(count)?;
+        Ok(CallSite {
+            label,
+            cells: self.on.size,
+            rec: self.kept_cell(KEPT_RECORD),
+            mark: self.kept_cell(KEPT_MARK),
+            entry: joined_label(label) + 1,
+            args: Items::new(args),
+        })
+    }
+
+    /// The first of two calls, whose arguments stand in its activation, with the mark set. The
+    /// second one can be cut off as soon as the first is entered.
+    fn push_first(&mut self, place: Place, target: Target, site: &CallSite) -> Result<(), NoMemory>
+        requires labels { writing.next_label self.old.out + 1 ≤ MAX_BLOCKS }
+        requires entry { site.now.entry < MAX_BLOCKS }
+        requires size { self.old.on.size ≤ MAX_ACTIVATION_CELLS }
+        requires cells { self.old.on.size ≡ site.now.cells }
+        ensures labels { OnOk result
+            (writing.next_label self.new.out ≡ writing.next_label self.old.out + 2) }
+        ensures fresh { OnOk result (IsFresh self.new.out) }
+        ensures code { OnOk result
+            (WritesFirst self.old.on place target site.now self.old.out self.new.out) }
+        ensures on { OnOk result (self.new.on ≡ self.old.on) }
+        ensures scope { OnOk result (self.new.scope ≡ self.old.scope) }
+    {
+        let go = self.next_label();
+        self.push_tick()?;
+        self.push_given(1, site.entry + 1)?;
+        self.push_mark(site.mark, site.label)?;
+        self.push_deep_test(go, place)?;
+        self.make_ready();
+        self.push_move(Alu::Add)?;
+        self.close(jump(target.label))?;
+        Ok(())
+    }
+
+    /// The handler and the join of two calls, which begin in the place of the open block.
+    fn push_call_handler(&mut self, site: &CallSite) -> Result<(), NoMemory>
+        requires site { IsCallSite site.now }
+        requires fresh { IsFresh self.old.out }
+        ensures labels { OnOk result
+            (writing.next_label self.new.out ≡ writing.next_label self.old.out + 7) }
+        ensures code { OnOk result
+            (Appends (call_handler_blocks site.now ++ call_join_blocks site.now) self.old.out
+            self.new.out) }
+        ensures on { OnOk result (self.new.on ≡ self.old.on) }
+        ensures scope { OnOk result (self.new.scope ≡ self.old.scope) }
+    {
+        let handler = call_handler(self.alloc, site)?;
+        self.append(handler)?;
+        let join = call_join(self.alloc, site)?;
+        self.append(join)?;
+        Ok(())
+    }
+
+    /// Behind the join of two calls, whose values are in registers 0 and 1: all is made to be as
+    /// it is where the second call returns, at a label.
+    fn push_joined(&mut self, second: Target, back: u32) -> Result<(), NoMemory>
+        requires labels { writing.next_label self.old.out ≤ MAX_BLOCKS }
+        requires room { HasRoomFor self.old.on kept_by_both }
+        ensures labels { OnOk result
+            (writing.next_label self.new.out ≡ writing.next_label self.old.out + 1) }
+        ensures fresh { OnOk result (IsFresh self.new.out) }
+        ensures code { OnOk result
+            (WritesJoined self.old.on second back self.old.out self.new.out) }
+        ensures on { OnOk result (self.new.on ≡ self.old.on) }
+        ensures scope { OnOk result (self.new.scope ≡ self.old.scope) }
+    {
+        let kept = self.kept_cell(KEPT_VALUE);
+        self.store(kept, Value::Reg(0))?;
+        self.push(Instr::Move {
+            to: 0,
+            value: Value::Reg(1),
+        })?;
+        self.push(Instr::Salloc(second.size))?;
+        self.push_move(Alu::Add)?;
+        self.close(jump(back))?;
+        Ok(())
+    }
+
+    /// The second of two calls, whose so many arguments are kept, with its label to return to. A
+    /// level of calls is left, as one was for the first.
+    fn push_second(&mut self, count: u16, target: Target, back: u32) -> Result<(), NoMemory>
+        requires labels { writing.next_label self.old.out ≤ MAX_BLOCKS }
+        requires room { HasRoomFor self.old.on kept_by_both }
+        requires few { count ≤ MAX_PARAMETERS }
+        ensures labels { OnOk result
+            (writing.next_label self.new.out ≡ writing.next_label self.old.out + 1) }
+        ensures fresh { OnOk result (IsFresh self.new.out) }
+        ensures code { OnOk result
+            (WritesSecond self.old.on count target back self.old.out self.new.out) }
+        ensures on { OnOk result (self.new.on ≡ self.old.on) }
+        ensures scope { OnOk result (self.new.scope ≡ self.old.scope) }
+    {
+        self.push(Instr::Salloc(target.size))?;
+        self.passed(count)?;
+        self.push_tick()?;
+        self.push_entry(target.label, back)?;
+        Ok(())
+    }
+
+    /// Behind the first of two calls, where the second wasn't cut off: the mark goes, and the value
+    /// is kept.
+    fn push_between(&mut self, first: Target, site: &CallSite) -> Result<(), NoMemory>
+        requires room { HasRoomFor self.old.on kept_by_both }
+        ensures pushed { OnOk result
+            (Pushes (codes.call_exit first.size self.old.on.size
+            (Instr.PrmPop 31 site.now.mark
+            ∷ codes.store (value_cell self.old.on.most + kept_value) (Value.Reg 0) ∷ []))
+            self.old.out self.new.out) }
+        ensures labels { OnOk result
+            (writing.next_label self.new.out ≡ writing.next_label self.old.out) }
+        ensures on { OnOk result (self.new.on ≡ self.old.on) }
+        ensures scope { OnOk result (self.new.scope ≡ self.old.scope) }
+    {
+        let kept = self.kept_cell(KEPT_VALUE);
+        self.push_exit(first)?;
+        self.pop_mark(site.mark)?;
+        self.store(kept, Value::Reg(0))?;
+        Ok(())
+    }
+
+    /// Two calls, the second of which has so many arguments, from the first one's tick on. The
+    /// block behind the second, in which its activation goes, is open.
+    fn push_pair(
+        &mut self,
+        place: Place,
+        first: Target,
+        second: Target,
+        count: u16,
+    ) -> Result<(), NoMemory>
+        requires labels { writing.next_label self.old.out + 12 ≤ MAX_BLOCKS }
+        requires room { HasRoomFor self.old.on kept_by_both }
+        requires few { count ≤ MAX_PARAMETERS }
+        ensures labels { OnOk result
+            (writing.next_label self.new.out ≡ writing.next_label self.old.out + 12) }
+        ensures code { OnOk result
+            (WritesPair self.old.on place count first second self.old.out self.new.out) }
+        ensures on { OnOk result (self.new.on ≡ self.old.on) }
+        ensures scope { OnOk result (self.new.scope ≡ self.old.scope) }
+    {
+        let label = self.next_label() + 1;
+        let site = self.pair_site(count, label)?;
+        let last = site.entry + 2;
+        self.push_first(place, first, &site)?;
+        self.push_call_handler(&site)?;
+        self.push_joined(second, last)?;
+        self.push_second(count, second, child_end_label(site.label))?;
+        self.push_between(first, &site)?;
+        self.push_second(count, second, last)?;
+        self.push_exit(second)?;
+        Ok(())
+    }
+
+    /// The targets of two calls are set. The first value is kept, the second is in register 0.
+    fn push_values(&mut self, x: &Name, y: &Name) -> Result<(), NoMemory>
+        requires { HasRoomFor self.old.on kept_by_both }
+        ensures pushed { OnOk result
+            (Pushes (codes.load 1 (value_cell self.old.on.most + kept_value)
+            ∷ codes.store (offset_of self.old.scope x.now.text.items) (Value.Reg 1)
+            ∷ codes.store (offset_of self.old.scope y.now.text.items) (Value.Reg 0) ∷ [])
+            self.old.out self.new.out) }
+        ensures labels { OnOk result
+            (writing.next_label self.new.out ≡ writing.next_label self.old.out) }
+        ensures on { OnOk result (self.new.on ≡ self.old.on) }
+        ensures scope { OnOk result (self.new.scope ≡ self.old.scope) }
+    {
+        let kept = self.kept_cell(KEPT_VALUE);
+        let x_cell = self.offset(x);
+        let y_cell = self.offset(y);
+        self.load(1, kept)?;
+        self.store(x_cell, Value::Reg(1))?;
+        self.store(y_cell, Value::Reg(0))?;
+        Ok(())
+    }
+
+    /// Two calls whose arguments are all computed before. The second one can be cut off while the
+    /// first runs.
     pub fn lower_both(&mut self, x: &Name, f: &App, y: &Name, g: &App) -> Result<(), NoMemory>
         requires few_tables { length self.old.scope.tables.items ≤ MAX_TABLES }
         requires low { AreLowArguments f.now.args.items × AreLowArguments g.now.args.items }
         requires labels { writing.next_label self.old.out
-            + (sizes.trap_counts f.now.args.items + sizes.trap_counts g.now.args.items + 4)
+            + (sizes.trap_counts f.now.args.items + sizes.trap_counts g.now.args.items + 12)
             ≤ MAX_BLOCKS }
         requires room { HasRoomFor self.old.on kept_by_both }
         ensures labels { OnOk result
             (writing.next_label self.new.out
             ≡ writing.next_label self.old.out
-            + (sizes.trap_counts f.now.args.items + sizes.trap_counts g.now.args.items + 4)) }
+            + (sizes.trap_counts f.now.args.items + sizes.trap_counts g.now.args.items + 12)) }
         ensures code { OnOk result
             ((round : Round)
             → Lowers self.old.on round self.old.scope (Stmt.Both x.now f.now y.now g.now)
@@ -222,19 +480,10 @@ impl Lowering {
     {
         let first = target_of(&self.on, &f.callee.text);
         let second = target_of(&self.on, &g.callee.text);
-        let kept = self.kept_cell(KEPT_VALUE);
-        let x_cell = self.offset(x);
-        let y_cell = self.offset(y);
         self.push(Instr::Salloc(first.size))?;
         self.both_arguments(f, g)?;
-        self.push_call(first, f.callee.place)?;
-        self.store(kept, Value::Reg(0))?;
-        self.push(Instr::Salloc(second.size))?;
-        self.passed(g.args.len() as u16)?;
-        self.push_call(second, g.callee.place)?;
-        self.load(1, kept)?;
-        self.store(x_cell, Value::Reg(1))?;
-        self.store(y_cell, Value::Reg(0))?;
+        self.push_pair(f.callee.place, first, second, g.args.len() as u16)?;
+        self.push_values(x, y)?;
         Ok(())
     }
 }

@@ -10,6 +10,7 @@
 mod body;
 mod call;
 mod count;
+mod deep;
 mod fault;
 mod function;
 pub mod laws;

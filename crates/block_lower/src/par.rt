@@ -1,6 +1,6 @@
-// The code of `par`. One in whose body no promotion point can be reached is marked while it runs.
-// Where a beat cuts it, the handler and the join are made from its site; round them stand the
-// blocks of this file. Another one runs in order.
+// The code of `par`, which is marked while iterations aren't begun. Where a beat cuts it, the handler
+// and the join are made from its site; round them stand the blocks of this file, for one in whose
+// body no promotion point can be reached, or those of `deep`.
 
 ghost use Rattle.std.specs.Prelude.{◌≡◌, ◌+◌, ◌*◌, ◌<◌, ◌≤◌, ◌^◌, ◌∷◌, ◌++◌, [], true, false};
 ghost use Rattle.std.specs.Prelude.{length, OnOk, IfOk};
@@ -18,7 +18,7 @@ ghost use Rattle.tpal_syntax.specs.declared.instructions.Instr.TheVariants as in
 ghost use Rattle.block_lower.specs.Bodies.{HasRoomFor};
 ghost use Rattle.block_lower.specs.Code as codes;
 ghost use Rattle.block_lower.specs.Heights.{AllAreLow};
-ghost use Rattle.block_lower.specs.Lowering.{Lowers, FitsIn, WritesSome, WritesWide};
+ghost use Rattle.block_lower.specs.Lowering.{Lowers, FitsIn, WritesSome};
 ghost use Rattle.block_lower.specs.Lowering.{WritesLength, WritesBegin, WritesPrep, WritesSite};
 ghost use Rattle.block_lower.specs.Lowering.{BeginsQuiet};
 ghost use Rattle.block_lower.specs.Marked as marked;
@@ -42,7 +42,7 @@ use tp_value::{MAX_PAR_LENGTH, NoMemory, Place, TrapKind};
 use tpal_syntax::{Alu, LoopSite, Value};
 
 /// What stands round the statements of the body of a `par`.
-fn round_inside<'a>(round: Round, l: &'a ParLoop) -> Round<'a>
+pub fn round_inside<'a>(round: Round, l: &'a ParLoop) -> Round<'a>
     requires { round.depth < 2 ^ 31 }
     ensures reduces { result.reduces.now ≡ l.now.reduces.items }
     ensures depth { result.depth ≡ round.entry.depth + 1 }
@@ -56,7 +56,7 @@ fn round_inside<'a>(round: Round, l: &'a ParLoop) -> Round<'a>
 impl Lowering {
     /// The test of a `par`, whose first number is in register 1 and whose bound is in register 0:
     /// the label `check` where it has an iteration, else the exit.
-    fn push_some(&mut self, check: u32, exit: u32) -> Result<(), NoMemory>
+    pub fn push_some(&mut self, check: u32, exit: u32) -> Result<(), NoMemory>
         requires { writing.next_label self.old.out ≤ MAX_BLOCKS }
         ensures labels { OnOk result
             (writing.next_label self.new.out ≡ writing.next_label self.old.out + 1) }
@@ -86,31 +86,10 @@ impl Lowering {
         Ok(())
     }
 
-    /// The test of the length of a `par`, in an open block of its own: the label `again` where it
-    /// isn't too wide, else the trap block, which stands behind the test.
-    fn push_wide(&mut self, place: Place, again: u32) -> Result<(), NoMemory>
-        requires labels { writing.next_label self.old.out + 1 ≤ MAX_BLOCKS }
-        requires fresh { IsFresh self.old.out }
-        ensures labels { OnOk result
-            (writing.next_label self.new.out ≡ writing.next_label self.old.out + 2) }
-        ensures fresh { OnOk result (IsFresh self.new.out) }
-        ensures code { OnOk result (WritesWide place again self.old.out self.new.out) }
-        ensures on { OnOk result (self.new.on ≡ self.old.on) }
-        ensures scope { OnOk result (self.new.scope ≡ self.old.scope) }
-    {
-        let wide = self.next_label();
-        self.calc(2, 0, Alu::Sub, Value::Reg(1))?;
-        self.push_length_test(Alu::Lt, 0, wide)?;
-        self.push_length_test(Alu::Le, MAX_PAR_LENGTH as i64, again)?;
-        self.trap_block(TrapKind::Wide, place)?;
-        self.close(jump(wide))?;
-        Ok(())
-    }
-
-    /// The test of the length of a `par` that can be cut, in an open block of its own: the trap
-    /// block, which stands behind it, where the difference of the bounds is above the numbers of 64
-    /// bits. Register 3 has whether it isn't too wide.
-    fn push_length(&mut self) -> Result<(), NoMemory>
+    /// The test of the length of a `par`, in an open block of its own: the trap block, which stands
+    /// behind it, where the difference of the bounds is above the numbers of 64 bits. Register 3 has
+    /// whether it isn't too wide.
+    pub fn push_length(&mut self) -> Result<(), NoMemory>
         requires { writing.next_label self.old.out ≤ MAX_BLOCKS }
         ensures labels { OnOk result
             (writing.next_label self.new.out ≡ writing.next_label self.old.out) }
@@ -127,7 +106,7 @@ impl Lowering {
 
     /// The begin of a `par` behind that test: with no record and the mark set, the first iteration,
     /// or the trap block.
-    fn push_begin(&mut self, place: Place, site: &LoopSite, first: u32) -> Result<(), NoMemory>
+    pub fn push_begin(&mut self, place: Place, site: &LoopSite, first: u32) -> Result<(), NoMemory>
         requires labels { writing.next_label self.old.out + 1 ≤ MAX_BLOCKS }
         requires label { site.now.label < MAX_BLOCKS }
         requires cells { self.old.on.size ≡ site.now.cells }
@@ -147,7 +126,30 @@ impl Lowering {
         Ok(())
     }
 
-    /// The end of a piece: behind the loop where the activation has no record, else that of a side.
+    /// The end of a piece whose mark has gone: behind the loop where the activation has no record,
+    /// else that of a side.
+    pub fn push_end(&mut self, site: &LoopSite, exit: u32) -> Result<(), NoMemory>
+        requires labels { writing.next_label self.old.out ≤ MAX_BLOCKS }
+        requires label { site.now.label < MAX_BLOCKS }
+        ensures labels { OnOk result
+            (writing.next_label self.new.out ≡ writing.next_label self.old.out + 1) }
+        ensures fresh { OnOk result (IsFresh self.new.out) }
+        ensures code { OnOk result
+            ((code : Listing)
+            → Stands code self.new.out
+            → Continues code self.old.out (marked.side_test site.now exit)
+            (codes.to (side_label site.now.label))) }
+        ensures on { OnOk result (self.new.on ≡ self.old.on) }
+        ensures scope { OnOk result (self.new.scope ≡ self.old.scope) }
+    {
+        self.load(24, site.rec)?;
+        self.calc(27, 24, Alu::Eq, Value::Nil)?;
+        self.jump_if(27, exit)?;
+        self.close(jump(side_label(site.label)))?;
+        Ok(())
+    }
+
+    /// The end of a piece.
     fn push_over(&mut self, site: &LoopSite, exit: u32) -> Result<(), NoMemory>
         requires labels { writing.next_label self.old.out ≤ MAX_BLOCKS }
         requires label { site.now.label < MAX_BLOCKS }
@@ -163,15 +165,12 @@ impl Lowering {
         ensures scope { OnOk result (self.new.scope ≡ self.old.scope) }
     {
         self.pop_mark(site.mark)?;
-        self.load(24, site.rec)?;
-        self.calc(27, 24, Alu::Eq, Value::Nil)?;
-        self.jump_if(27, exit)?;
-        self.close(jump(side_label(site.label)))?;
+        self.push_end(site, exit)?;
         Ok(())
     }
 
     /// The block where the rows of carries are loaded before the cut, where there is one.
-    fn push_prep(&mut self, l: &ParLoop, site: &LoopSite) -> Result<(), NoMemory>
+    pub fn push_prep(&mut self, l: &ParLoop, site: &LoopSite) -> Result<(), NoMemory>
         requires labels { writing.next_label self.old.out + 1 ≤ MAX_BLOCKS }
         requires carries { length l.now.carries.items ≤ MAX_CARRIES }
         requires fresh { IsFresh self.old.out }
@@ -193,7 +192,7 @@ impl Lowering {
     }
 
     /// The handler and the join of a site, which begin in the place of the open block.
-    fn push_handler(&mut self, site: &LoopSite) -> Result<(), NoMemory>
+    pub fn push_handler(&mut self, site: &LoopSite) -> Result<(), NoMemory>
         requires site { IsLoopSite site.now }
         requires fresh { IsFresh self.old.out }
         ensures labels { OnOk result
@@ -336,53 +335,6 @@ impl Lowering {
         Ok(())
     }
 
-    /// A `par` that runs in order.
-    #[cycle(lower)]
-    fn lower_serial(&mut self, round: Round, l: &ParLoop) -> Result<(), NoMemory>
-        requires few_tables { length self.old.scope.tables.items ≤ MAX_TABLES }
-        requires low { (height l.now.from ≤ MAX_EXPRESSION_HEIGHT)
-            × (height l.now.to ≤ MAX_EXPRESSION_HEIGHT) × AllAreLow l.now.body.items }
-        requires labels { writing.next_label self.old.out
-            + (trap_count l.now.from + trap_count l.now.to + 3
-            + (sizes.added_by_list self.old.on.quiet_calls l.now.body.items + 1))
-            ≤ MAX_BLOCKS }
-        requires room { HasRoomFor self.old.on (sizes.kept_by_list l.now.body.items) }
-        requires cells { length self.old.scope.cells.items
-            + (sizes.declared_by_list l.now.body.items + 1)
-            ≤ MAX_DECLARED_VARIABLES }
-        requires fits { FitsIn self.old.on self.old.scope round (Stmt.Par l.now ∷ []) }
-        requires deep { list_is_quiet self.old.on.quiet_calls l.now.body.items ≡ false }
-        ensures labels { OnOk result
-            (writing.next_label self.new.out
-            ≡ writing.next_label self.old.out
-            + (trap_count l.now.from + trap_count l.now.to + 3
-            + (sizes.added_by_list self.old.on.quiet_calls l.now.body.items + 1))) }
-        ensures cells { OnOk result
-            (length self.new.scope.cells.items ≤ length self.old.scope.cells.items) }
-        ensures tables { OnOk result (self.new.scope.tables ≡ self.old.scope.tables) }
-        ensures sees { OnOk result (SeesAfter (λ names. names) self.old.scope self.new.scope) }
-        ensures code { OnOk result
-            (Lowers self.old.on round.entry self.old.scope (Stmt.Par l.now) self.old.out
-            self.new.out) }
-        ensures on { OnOk result (self.new.on ≡ self.old.on) }
-    {
-        let level = self.level();
-        let check = self.next_label() + trap_count(&l.from) + trap_count(&l.to);
-        let again = check + 2;
-        let exit = again + added_by_body(self.on.quiet_calls, &l.body);
-        self.bounds(&l.from, &l.to)?;
-        self.push_some(check, exit)?;
-        self.push_wide(l.place, again)?;
-        self.lower_body(round_inside(round, l), &l.var, &l.body)?;
-        self.end_loop(Turns {
-            level,
-            bound: Bound::Cell,
-            again,
-            exit,
-        })?;
-        Ok(())
-    }
-
     /// A `par`.
     #[cycle(lower)]
     pub fn lower_par(&mut self, round: Round, l: &ParLoop) -> Result<(), NoMemory>
@@ -412,7 +364,7 @@ impl Lowering {
         if list_is_quiet(&l.body, self.on.quiet_calls) {
             self.lower_quiet(round, l)
         } else {
-            self.lower_serial(round, l)
+            self.lower_deep(round, l)
         }
     }
 }

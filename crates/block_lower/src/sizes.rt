@@ -57,7 +57,7 @@ fn added(calls: bool, s: &Stmt) -> u32
         Stmt::Call(_, f) => trap_counts(&f.args).saturating_add(2),
         Stmt::Both(_, f, _, g) => trap_counts(&f.args)
             .saturating_add(trap_counts(&g.args))
-            .saturating_add(4),
+            .saturating_add(12),
         Stmt::Print(_, e) => trap_count(e),
         Stmt::Emit(_, _) => 0,
     }
@@ -85,7 +85,7 @@ pub fn have_row(carries: &[Carry]) -> bool
     false
 }
 
-/// How many blocks a marked `par` has round its iterations.
+/// How many blocks a `par` has round its iterations.
 pub fn site_blocks(carries: &[Carry]) -> u32
     ensures { result ≡ sizes.site_blocks carries.now }
 {
@@ -99,13 +99,14 @@ fn added_by_par(calls: bool, l: &ParLoop) -> u32
 {
     let tests = trap_count_of_two(&l.from, &l.to).saturating_add(3);
     let body = added_by_body(calls, &l.body);
-    if list_is_quiet(&l.body, calls) {
-        tests
-            .saturating_add(site_blocks(&l.carries))
-            .saturating_add(body.saturating_mul(2))
+    let turns = if list_is_quiet(&l.body, calls) {
+        body.saturating_mul(2)
     } else {
-        tests.saturating_add(body)
-    }
+        body.saturating_add(2)
+    };
+    tests
+        .saturating_add(site_blocks(&l.carries))
+        .saturating_add(turns)
 }
 
 /// How many blocks become closed between the begin of statements and their end.

@@ -16,7 +16,8 @@ use Rattle.block_lower.proofs.Fitting.{low_of_vec}
 use Rattle.block_lower.proofs.Keeping.{sees_block, sees_body, sees_more}
 use Rattle.block_lower.proofs.Lowered.{none_written, more_written, branch_written, other_written, no_other_written, if_written, while_written, body_written}
 use Rattle.block_lower.proofs.FittingNow.{fits_declared, fits_first, fits_later, fits_loop, fits_next, fits_par, fits_second, fits_while, inside_later}
-use Rattle.block_lower.proofs.LoweredLoops.{loop_written, par_written}
+use Rattle.block_lower.proofs.LoweredDeep.{deep_written}
+use Rattle.block_lower.proofs.LoweredLoops.{loop_written}
 use Rattle.block_lower.proofs.LoweredPars.{body_same, quiet_written}
 use Rattle.block_lower.proofs.Writing.{fresh_empty}
 use Rattle.block_lower.specs.Quiet.{list_is_quiet}
@@ -145,30 +146,26 @@ lower_if-lower_other-requires t c =
       ),
     )
 
-pub lower_serial-lower_body-requires : goal.lower_serial-lower_body-requires
-lower_serial-lower_body-requires t c =
+pub lower_deep-lower_body-requires : goal.lower_deep-lower_body-requires
+lower_deep-lower_body-requires t c =
     let self = c.args.self.now in
     let l = c.args.l.now in
-    let inside = c.round_inside in
-    let bounds = c.in_ok-bounds.ensures in
-    let some = c.in_ok-push_some.ensures in
-    let wide = c.in_ok-push_wide.ensures in
-    let on = wide.on ∙ some.on ∙ bounds.on in
-    let scope = wide.scope ∙ some.scope ∙ bounds.scope in
+    let inside = c.round_inside-inside in
+    let begun = c.in_ok-head.ensures in
     let measure : sum_by blocks l.body.items + 3 ≡ t = c.decreases in (
-      rw c.deref-2.ensures.value (omega (arith, measure)),
-      rw (on, scope, c.deref-2.ensures.value) (
+      rw c.deref.ensures.value (omega (arith, measure)),
+      rw (begun.on, begun.scope, c.deref.ensures.value) (
         c.requires.few_tables,
         (
           c.requires.low.2,
           (
-            omega (arith, bounds.labels, some.labels, wide.labels, c.requires.labels),
+            omega (arith, begun.labels, c.requires.labels),
             (
               c.requires.room,
               (
                 c.requires.cells,
                 (
-                  fresh_empty c.push_wide.new.self.out wide.fresh,
+                  fresh_empty c.begin_deep.new.self.out begun.fresh,
                   fits_par self.on self.scope c.args.round inside.result l inside.ensures.reduces inside.ensures.depth c.requires.fits,
                 ),
               ),
@@ -341,29 +338,20 @@ lower_while-returns-clause-code t c =
     c.in_ok-push.ensures.pushed (rw (on, scope) at listed.code) keeps (rw c.leave.ensures.out at second.code) second.fresh
     (omega (arith, first.labels, c.in_ok-push.ensures.labels, inner, closed, ap length second.fresh.traps))
 
-pub lower_serial-returns-clause-code : goal.lower_serial-returns-clause-code
-lower_serial-returns-clause-code t c =
+pub lower_deep-returns-clause-code : goal.lower_deep-returns-clause-code
+lower_deep-returns-clause-code t c =
+    let self = c.args.self.now in
     let l = c.args.l.now in
-    let inside = c.round_inside in
-    let check = c.next_label.result + c.trap_count.result + c.trap_count-2.result in
-    let again = check + 2 in
-    let exit = again + c.added_by_body.result in
-    let bounds = c.in_ok-bounds.ensures.labels in
-    let test = c.in_ok-push_some.ensures.labels in
-    let scope = c.in_ok-push_wide.ensures.scope ∙ c.in_ok-push_some.ensures.scope ∙ c.in_ok-bounds.ensures.scope in
-    let on = c.in_ok-push_wide.ensures.on ∙ c.in_ok-push_some.ensures.on ∙ c.in_ok-bounds.ensures.on in
-    let inner = rw (c.deref-2.ensures.value, on, scope) at c.in_ok-lower_body.ensures.code in
-    let behind = rw (c.deref-2.ensures.value, on) at c.in_ok-lower_body.ensures.labels in
-    let size = rw c.deref.ensures.value at c.added_by_body.ensures in
-    let end = c.in_ok-end_loop.ensures in
-    par_written c.args.self.now.on c.args.round inside.result c.args.self.now.scope l c.level-level.result check again exit c.args.self.now.out c.bounds.new.self.out c.push_some.new.self.out c.push_wide.new.self.out c.lower_body.new.self.out c.end_loop.new.self.out
-    c.requires.deep inside.ensures.reduces inside.ensures.depth
-    c.level-level.ensures c.in_ok-bounds.ensures.code c.in_ok-push_some.ensures.code
-    (omega (arith, bounds, test, ap length c.in_ok-push_some.ensures.fresh.traps))
-    c.in_ok-push_wide.ensures.code c.in_ok-push_wide.ensures.fresh
-    (omega (arith, bounds, test, c.in_ok-push_wide.ensures.labels, ap length c.in_ok-push_wide.ensures.fresh.traps))
-    inner end.code end.fresh
-    (omega (arith, bounds, test, c.in_ok-push_wide.ensures.labels, behind, size, end.labels, ap length end.fresh.traps))
+    let inside = c.round_inside-inside in
+    let head = c.in_ok-head.head in
+    let begun = c.in_ok-head.ensures in
+    let body = c.in_ok-lower_body.ensures in
+    let last = c.in_ok-close.ensures in
+    let labels = rw (c.deref.ensures.value, begun.on) at body.labels in
+    deep_written self.on c.args.round inside.result self.scope l head _ self.out c.begin_deep.new.self.out c.lower_body.new.self.out c.close.new.self.out
+    c.requires.deep inside.ensures.reduces inside.ensures.depth begun.code begun.fresh begun.head
+    (rw (c.deref.ensures.value, begun.on, begun.scope) at body.code) (rw c.jump.ensures at last.closed)
+    (omega (arith, begun.head, labels, last.labels, ap length begun.fresh.traps, ap length last.closed.fresh.traps))
 
 pub lower_quiet-returns-clause-code : goal.lower_quiet-returns-clause-code
 lower_quiet-returns-clause-code t c =
@@ -398,8 +386,8 @@ lower_par-lower_quiet-requires t c =
     let measure : sum_by blocks c.args.l.now.body.items + 4 ≡ t = c.decreases in
     (omega (arith, measure), (c.requires.few_tables, (c.requires.low, (labels, (c.requires.room, (c.requires.cells, (c.requires.fits, quiet)))))))
 
-pub lower_par-lower_serial-requires : goal.lower_par-lower_serial-requires
-lower_par-lower_serial-requires t c =
+pub lower_par-lower_deep-requires : goal.lower_par-lower_deep-requires
+lower_par-lower_deep-requires t c =
     let deep : list_is_quiet c.args.self.now.on.quiet_calls c.args.l.now.body.items ≡ false = sym (rw c.deref.ensures.value at c.if-list_is_quiet.ensures) in
     let labels = rw deep at c.requires.labels in
     let measure : sum_by blocks c.args.l.now.body.items + 4 ≡ t = c.decreases in
@@ -413,7 +401,7 @@ lower_par-returns-then-list_is_quiet-clause-labels t c =
 pub lower_par-returns-else-list_is_quiet-clause-labels : goal.lower_par-returns-else-list_is_quiet-clause-labels
 lower_par-returns-else-list_is_quiet-clause-labels t c =
     let deep : list_is_quiet c.args.self.now.on.quiet_calls c.args.l.now.body.items ≡ false = sym (rw c.deref.ensures.value at c.if-list_is_quiet.ensures) in
-    on_ok c.lower_serial.result (λ h. rw deep h) c.lower_serial.ensures.labels
+    on_ok c.lower_deep.result (λ h. rw deep h) c.lower_deep.ensures.labels
 
 pub lower_if-returns-clause-code : goal.lower_if-returns-clause-code
 lower_if-returns-clause-code t c =

@@ -45,8 +45,8 @@ decreases-lower_if l = sum_by blocks l.body.now + sum_by blocks l.other.now + 4
 abbrev pub decreases-lower_quiet : goal.decreases-lower_quiet
 decreases-lower_quiet l = sum_by blocks l.l.now.body.items + 3
 
-abbrev pub decreases-lower_serial : goal.decreases-lower_serial
-decreases-lower_serial l = sum_by blocks l.l.now.body.items + 3
+abbrev pub decreases-lower_deep : goal.decreases-lower_deep
+decreases-lower_deep l = sum_by blocks l.l.now.body.items + 3
 
 abbrev pub decreases-lower_par : goal.decreases-lower_par
 decreases-lower_par l = sum_by blocks l.l.now.body.items + 4

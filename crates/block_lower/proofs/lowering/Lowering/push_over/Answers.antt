@@ -4,7 +4,4 @@ use Rattle.block_lower.proofs.lowering.Lowering.push_over.Goals as goal
 pub returns-clause-code : goal.returns-clause-code
 returns-clause-code c =
     over_written c.args.site.now c.args.exit c.args.self.now.out c.pop_mark.new.self.out
-    c.load.new.self.out c.calc.new.self.out c.jump_if.new.self.out c.close.new.self.out
-    c.in_ok-pop_mark.ensures.pushed c.in_ok-load.ensures.pushed c.in_ok-calc.ensures.pushed
-    c.in_ok-jump_if.ensures.pushed
-    (rw (c.jump.ensures, c.side_label.ensures) at c.in_ok-close.ensures.closed)
+    c.push_end.new.self.out c.in_ok-pop_mark.ensures.pushed c.in_ok-push_end.ensures.code

@@ -1,0 +1,144 @@
+use Rattle.std.proofs.Common.{◌≡◌, ℕ, ◌+◌, length, subst, ap, sym, ◌∙◌, arith}
+use Rattle.tpal_syntax.specs.declared.sites.LoopSite.{LoopSite}
+use Rattle.block_lower.specs.Lowering.{BeginsDeep}
+use Rattle.block_lower.specs.Layout.{cursor_cell}
+use Rattle.block_lower.specs.Sites.{loop_site}
+use Rattle.block_lower.specs.Sizes.{added_by_list}
+use Rattle.block_lower.proofs.LoweredDeep.{deep_begun}
+use Rattle.block_lower.proofs.Sited.{site_fits}
+use Rattle.block_lower.proofs.lowering.Lowering.begin_deep.Goals as goal
+
+pub site_of-requires-clause-few_carries : goal.site_of-requires-clause-few_carries
+site_of-requires-clause-few_carries c =
+    let self = c.args.self.now in
+    (site_fits self.on self.scope c.args.round c.args.l.now c.requires.fits c.requires.room
+    c.requires.few_tables).few_carries
+
+pub site_of-requires-clause-depth : goal.site_of-requires-clause-depth
+site_of-requires-clause-depth c =
+    let self = c.args.self.now in
+    (site_fits self.on self.scope c.args.round c.args.l.now c.requires.fits c.requires.room
+    c.requires.few_tables).shallow
+
+pub cursor_cell-requires : goal.cursor_cell-requires
+cursor_cell-requires c =
+    let self = c.args.self.now in
+    (site_fits self.on self.scope c.args.round c.args.l.now c.requires.fits c.requires.room
+    c.requires.few_tables).shallow
+
+pub site_of-requires-clause-cells : goal.site_of-requires-clause-cells
+site_of-requires-clause-cells c =
+    let self = c.args.self.now in
+    let s = site_fits self.on self.scope c.args.round c.args.l.now c.requires.fits c.requires.room
+    c.requires.few_tables in
+    omega (arith, s.cells, c.requires.room.few)
+
+pub bounds-requires-clause-cells : goal.bounds-requires-clause-cells
+bounds-requires-clause-cells c =
+    let self = c.args.self.now in
+    let s = site_fits self.on self.scope c.args.round c.args.l.now c.requires.fits c.requires.room
+    c.requires.few_tables in
+    omega (arith, s.cells, c.requires.room.few)
+
+pub push_begin-requires-clause-label : goal.push_begin-requires-clause-label
+push_begin-requires-clause-label c =
+    let label = ap (λ (q : LoopSite). q.label) c.in_ok-site.ensures in
+    omega (arith, label, c.requires.labels)
+
+pub push_begin-requires-clause-cells : goal.push_begin-requires-clause-cells
+push_begin-requires-clause-cells c =
+    let cells = ap (λ (q : LoopSite). q.cells) c.in_ok-site.ensures in
+    let on = c.in_ok-store.ensures.on ∙ c.in_ok-push_length.ensures.on
+    ∙ c.in_ok-push_some.ensures.on ∙ c.in_ok-bounds.ensures.on in
+    ap (λ o. o.size) on ∙ sym cells
+
+pub push_deep_site-requires-clause-site : goal.push_deep_site-requires-clause-site
+push_deep_site-requires-clause-site c =
+    let self = c.args.self.now in
+    let s = site_fits self.on self.scope c.args.round c.args.l.now c.requires.fits c.requires.room
+    c.requires.few_tables in
+    rw (c.in_ok-site.ensures, c.cursor_cell.ensures)
+    (s.right_deep _ (omega (arith, c.requires.labels)))
+
+pub push_deep_site-requires-clause-here : goal.push_deep_site-requires-clause-here
+push_deep_site-requires-clause-here c =
+    let label = ap (λ (q : LoopSite). q.label) c.in_ok-site.ensures in
+    let begun = c.in_ok-push_begin.ensures in
+    omega (
+      arith,
+      label,
+      c.in_ok-bounds.ensures.labels,
+      c.in_ok-push_some.ensures.labels,
+      c.in_ok-push_length.ensures.labels,
+      c.in_ok-store.ensures.labels,
+      begun.labels,
+      ap length begun.fresh.traps,
+    )
+
+pub push_deep_site-requires-clause-head : goal.push_deep_site-requires-clause-head
+push_deep_site-requires-clause-head c =
+    let blocks = rw c.deref.ensures.value at c.site_blocks.ensures in
+    omega (arith, blocks)
+
+pub push_deep_site-requires-clause-carries : goal.push_deep_site-requires-clause-carries
+push_deep_site-requires-clause-carries c =
+    let self = c.args.self.now in
+    (site_fits self.on self.scope c.args.round c.args.l.now c.requires.fits c.requires.room
+    c.requires.few_tables).few_carries
+
+pub returns-clause-head : goal.returns-clause-head
+returns-clause-head c =
+    let label = ap (λ (q : LoopSite). q.label) c.in_ok-site.ensures in
+    let begun = c.in_ok-push_begin.ensures in
+    let round_it = c.in_ok-push_deep_site.ensures in
+    let blocks = rw c.deref.ensures.value at c.site_blocks.ensures in
+    omega (
+      arith,
+      label,
+      blocks,
+      c.in_ok-bounds.ensures.labels,
+      c.in_ok-push_some.ensures.labels,
+      c.in_ok-push_length.ensures.labels,
+      c.in_ok-store.ensures.labels,
+      begun.labels,
+      round_it.labels,
+      ap length round_it.fresh.traps,
+    )
+
+pub returns-clause-code : goal.returns-clause-code
+returns-clause-code c =
+    let self = c.args.self.now in
+    let l = c.args.l.now in
+    let site = c.in_ok-site.site in
+    let s = site_fits self.on self.scope c.args.round l c.requires.fits c.requires.room
+    c.requires.few_tables in
+    let is = c.in_ok-site.ensures in
+    let label = ap (λ (q : LoopSite). q.label) is in
+    let bounds = c.in_ok-bounds.ensures in
+    let some = c.in_ok-push_some.ensures in
+    let measured = c.in_ok-push_length.ensures in
+    let stored = c.in_ok-store.ensures in
+    let begun = c.in_ok-push_begin.ensures in
+    let round_it = c.in_ok-push_deep_site.ensures in
+    let scope = begun.scope ∙ stored.scope ∙ measured.scope ∙ some.scope ∙ bounds.scope in
+    let on = begun.on ∙ stored.on ∙ measured.on ∙ some.on ∙ bounds.on in
+    let check = c.next_label.result + c.trap_count.result + c.trap_count-2.result in
+    let head = site.label + c.site_blocks.result in
+    let exit = head + 2 + c.added_by_body.result in
+    let size = rw c.deref-2.ensures.value at c.added_by_body.ensures in
+    let long = length self.scope.cells.items in
+    let here = (rw c.cursor_cell.ensures at is)
+    ∙ ap (λ (k : ℕ). loop_site self.scope l self.on.size c.args.round.depth long
+    (cursor_cell c.args.round.depth) k) (sym label) in
+    let small : c.added_by_body.result ≡ added_by_list self.on.quiet_calls l.body.items + 1 =
+    omega (arith, size, c.requires.labels) in
+    subst (λ (n : ℕ). BeginsDeep self.on c.args.round self.scope l head (head + 2 + n) self.out
+    c.push_deep_site.new.self.out) small
+    (deep_begun self.on c.args.round self.scope l site check head exit self.out
+    c.bounds.new.self.out c.push_some.new.self.out c.push_length.new.self.out
+    c.store.new.self.out c.push_begin.new.self.out c.push_deep_site.new.self.out
+    here (rw here (s.right_deep _ (omega (arith, c.requires.labels, label))))
+    bounds.code some.code some.fresh
+    (omega (arith, bounds.labels, some.labels, ap length some.fresh.traps))
+    measured.code (stored.labels ∙ measured.labels) stored.pushed
+    (rw c.first_label.ensures at begun.code) (rw (on, scope) at round_it.code))

@@ -1,9 +1,0 @@
-use Rattle.block_lower.proofs.LoweredCalls.{call_test_written}
-use Rattle.block_lower.proofs.lowering.Lowering.push_call_test.Goals as goal
-
-pub returns-clause-code : goal.returns-clause-code
-returns-clause-code c =
-    call_test_written c.args.go c.args.place c.args.self.now.out c.push.new.self.out
-    c.load.new.self.out c.jump_if.new.self.out c.push-2.new.self.out c.close.new.self.out
-    c.in_ok-push.ensures.pushed c.in_ok-load.ensures.pushed c.in_ok-jump_if.ensures.pushed
-    c.in_ok-push-2.ensures.pushed c.in_ok-close.ensures.closed
