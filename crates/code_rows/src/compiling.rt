@@ -1,6 +1,6 @@
 // From a source text to a program and its code, and what the code's first task holds.
 
-ghost use Rattle.std.specs.Prelude.{◌≡◌, [], length, IfOk, IfSome};
+ghost use Rattle.std.specs.Prelude.{◌≡◌, ◌≤◌, [], length, IfOk, IfSome};
 ghost use Rattle.block_lower.specs.Owing.{AreHeld, AreNamed, OwesMeaning};
 
 use block_lower::lower;
@@ -13,7 +13,7 @@ use slices::Held;
 use std::alloc::Global;
 use std::test::Fail;
 use tp_value::NoMemory;
-use tpal_syntax::Code;
+use tpal_syntax::{Code, CodeTable};
 
 /// A program with its code.
 #[derive(Drop)]
@@ -51,6 +51,24 @@ pub fn compile(alloc: Global, source: &[u8]) -> Result<Compiled, Fail>
     let program = checked(alloc, source).ok_or("a program")?;
     let code = lower(alloc, &program)?;
     Ok(Compiled { program, code })
+}
+
+/// What is held of the tables of a code, where each input has one column, of these numbers.
+pub fn columns(alloc: Global, tables: &[CodeTable], column: &[i64]) -> Result<Vec<Held>, NoMemory>
+    requires few { length column.now ≤ 100 }
+    ensures { IfOk result (λ all. length all.items ≡ length tables.now) }
+{
+    let mut all = Vec::new(alloc);
+    for table in tables {
+        let one = match table {
+            CodeTable::Input(_) => {
+                Held::whole(column.len() as u32, 1, Vec::from_slice(alloc, column)?)
+            }
+            CodeTable::Made => Held::none(alloc, 0, 0),
+        };
+        all.push(one)?;
+    }
+    Ok(all)
 }
 
 /// What the first task holds, where nothing is given: for programs that declare no table, or one

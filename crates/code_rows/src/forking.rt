@@ -1,10 +1,9 @@
-// The first fork of a compiled `par`, step by step.
+// The first fork of a compiled `par` and of a compiled `both`, step by step.
 
 ghost use Rattle.std.specs.Prelude.{◌≡◌, IfOk, IfSome};
-ghost use Rattle.block_lower.specs.Owing.{OwesMeaning};
 ghost use Rattle.tpal_machine.specs.Belonging.{IsTurnOf, RunsOn, WaitsOn};
 
-use crate::compiling::{Compiled, compile, held};
+use crate::compiling::{Compiled, columns, compile};
 use std::alloc::Global;
 use std::test::Fail;
 use tp_value::Stop;
@@ -16,12 +15,11 @@ const BUDGET: u32 = 1_000_000;
 /// How a task ended as a side of a record: the record, the side, how it stopped and its ticks.
 type Arrival = (u32, SideName, Stop, u64);
 
-/// The first task of a program's code, where nothing is given.
+/// The first task of a program's code, where each input has one column, of 1 to 4.
 fn first(alloc: Global, on: &Compiled) -> Result<Task, Fail>
-    requires owes { OwesMeaning on.now.program on.now.code }
     ensures { IfOk result (RunsOn on.now.code) }
 {
-    let tables = held(alloc, on)?.ok_or("what is held")?;
+    let tables = columns(alloc, on.code.tables(), &[1, 2, 3, 4])?;
     Ok(Task::first(alloc, &on.code, tables, 1_000_000)?)
 }
 
@@ -74,22 +72,58 @@ fn arrival(task: Task, code: &Code) -> Option<Arrival>
     }
 }
 
-#[test]
-fn a_par_forks_and_both_sides_arrive(rt: HostRuntime) -> Result<(), Fail> {
-    let alloc = rt.alloc();
-    let on = compile(
-        alloc,
-        b"main { let s = 0; par i in 0..4 reduce s by add { fold s with i + 1; } print s; }",
-    )?;
+/// How the left and the child of a program's first fork arrive.
+fn arrivals(alloc: Global, source: &[u8]) -> Result<(Option<Arrival>, Option<Arrival>), Fail> {
+    let on = compile(alloc, source)?;
     let waits = asking(first(alloc, &on)?, &on.code).ok_or("a question")?;
     let (left, child) = forked(answer(waits, Some(0)), &on.code).ok_or("a fork")?;
-    assert_eq!(rt;
-        arrival(left, &on.code),
-        Some((0, SideName::Left, Stop::Done, 2))
-    );
-    assert_eq!(rt;
-        arrival(child, &on.code),
-        Some((0, SideName::Right, Stop::Done, 2))
-    );
+    Ok((arrival(left, &on.code), arrival(child, &on.code)))
+}
+
+/// How a side of record 0 arrives that is done.
+fn done(side: SideName, ticks: u64) -> Option<Arrival> {
+    Some((0, side, Stop::Done, ticks))
+}
+
+#[test]
+fn a_par_forks_and_both_sides_arrive(rt: HostRuntime) -> Result<(), Fail> {
+    let (left, child) = arrivals(
+        rt.alloc(),
+        b"input a;
+        main {
+            let s = 0;
+            par i in 0..rows(a) reduce s by add { fold s with a[i][0]; }
+            print s;
+        }",
+    )?;
+    assert_eq!(&rt; left, done(SideName::Left, 2));
+    assert_eq!(rt; child, done(SideName::Right, 2));
+    Ok(())
+}
+
+#[test]
+fn a_both_forks_and_both_sides_arrive(rt: HostRuntime) -> Result<(), Fail> {
+    let (left, child) = arrivals(
+        rt.alloc(),
+        b"fn f(n) { loop i in 0..n { } return n; }
+        main { let x = 0; let y = 0; both x = f(3), y = f(5); print x + y; }",
+    )?;
+    assert_eq!(&rt; left, done(SideName::Left, 4));
+    assert_eq!(rt; child, done(SideName::Right, 6));
+    Ok(())
+}
+
+#[test]
+fn a_par_is_cut_in_an_iteration_and_both_sides_arrive(rt: HostRuntime) -> Result<(), Fail> {
+    let (left, child) = arrivals(
+        rt.alloc(),
+        b"main {
+            let s = 0;
+            par i in 0..4 reduce s by add { par j in 0..3 reduce s by add { fold s with j; } }
+            print s;
+        }",
+    )?;
+    assert_eq!(&rt; left, done(SideName::Left, 8));
+    assert_eq!(rt; child, done(SideName::Right, 8));
     Ok(())
 }

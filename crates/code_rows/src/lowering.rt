@@ -1,16 +1,15 @@
 // Programs that are lowered and run, with their outputs worked out by hand.
 
-ghost use Rattle.std.specs.Prelude.{◌≡◌, ◌≤◌, length, IfOk};
+ghost use Rattle.std.specs.Prelude.{◌≤◌};
 ghost use Rattle.tpal_machine.specs.Belonging.{RunsOn};
 
-use crate::compiling::checked;
+use crate::compiling::{checked, columns};
 use block_lower::{LowerFault, block_count, lower};
-use slices::Held;
 use std::alloc::Global;
 use std::test::Fail;
 use tp_value::{NoMemory, Outcome, Place, Stop, TrapKind};
 use tpal_machine::{Pace, Task, Turn, run_task};
-use tpal_syntax::{Code, CodeTable};
+use tpal_syntax::Code;
 
 /// No beat is due.
 const PACE: Pace = Pace {
@@ -49,28 +48,13 @@ fn outcome_in(task: Task, code: &Code, turns: u8) -> Option<Outcome>
     }
 }
 
-/// What is held of the tables of a code: each input has one column, of 4, -2 and 3.
-fn held(alloc: Global, tables: &[CodeTable]) -> Result<Vec<Held>, NoMemory>
-    ensures { IfOk result (λ all. length all.items ≡ length tables.now) }
-{
-    let mut all = Vec::new(alloc);
-    for table in tables {
-        let one = match table {
-            CodeTable::Input(_) => Held::whole(3, 1, Vec::from_slice(alloc, &[4, -2, 3])?),
-            CodeTable::Made => Held::none(alloc, 0, 0),
-        };
-        all.push(one)?;
-    }
-    Ok(all)
-}
-
-/// The outcome of a source with so much fuel.
+/// The outcome of a source with so much fuel, where each input has one column, of 4, -2 and 3.
 fn outcome_of(alloc: Global, source: &[u8], fuel: u64) -> Result<Option<Outcome>, Fail>
     requires { fuel ≤ 1000000000000 }
 {
     let program = checked(alloc, source).ok_or("a program")?;
     let code = lower(alloc, &program)?;
-    let tables = held(alloc, code.tables())?;
+    let tables = columns(alloc, code.tables(), &[4, -2, 3])?;
     let task = Task::first(alloc, &code, tables, fuel)?;
     Ok(outcome_in(task, &code, 99))
 }

@@ -201,8 +201,8 @@ fn ends_so(alloc: Global, source: &[u8], output: &[u8], wanted: Wanted) -> Resul
 const SUM: &[u8] =
     b"main { let s = 0; par i in 0..100 reduce s by add { fold s with i; } print s; }";
 
-// Sources with what each prints and the iterations of its loops.
-const DONE: [(&[u8], &[u8], u64); 9] = [
+// Sources with what each prints, and the iterations of its loops and its calls together.
+const DONE: [(&[u8], &[u8], u64); 14] = [
     (SUM, b"4950\n", 100),
     // x becomes 2 * x + i, for i from 0 to 4: 32 * x + 26
     (
@@ -265,6 +265,70 @@ const DONE: [(&[u8], &[u8], u64); 9] = [
         b"10\n",
         15,
     ),
+    (
+        b"fn f(n) {
+            let r = n;
+            if 1 < n { let a = 0; let b = 0; both a = f(n - 1), b = f(n - 2); r = a + b; }
+            return r;
+        }
+        main { let x = 0; call x = f(10); print x; }",
+        b"55\n",
+        177,
+    ),
+    (
+        b"fn f(a, b) {
+            let s = 0;
+            par i in a..b reduce s by add { fold s with i; }
+            return s;
+        }
+        main { let x = 0; let y = 0; both x = f(0, 4), y = f(4, 9); print 100 * x + y; }",
+        b"630\n",
+        11,
+    ),
+    (
+        b"table t[3][3];
+        main {
+            par i in 0..3 carry t[i] {
+                par j in 0..3 carry t[i][j] { t[i][j] = (i + 1) * (j + 1); }
+            }
+            emit t;
+        }",
+        b"1 2 3\n2 4 6\n3 6 9\n",
+        12,
+    ),
+    (
+        b"fn f(n) { return n * n; }
+        main {
+            let s = 0;
+            par i in 0..5 reduce s by add {
+                let a = 0;
+                let b = 0;
+                both a = f(i), b = f(i + 1);
+                fold s with a - b;
+            }
+            print s;
+        }",
+        b"-25\n",
+        15,
+    ),
+    (
+        b"fn f(n) {
+            let s = 0;
+            par i in 0..n reduce s by add { fold s with i; }
+            return s;
+        }
+        main {
+            let m = 0;
+            par i in 0..5 reduce m by max {
+                let a = 0;
+                call a = f(i);
+                par j in 0..i reduce m by max { fold m with a * j; }
+            }
+            print m;
+        }",
+        b"18\n",
+        30,
+    ),
 ];
 
 #[test]
@@ -304,5 +368,33 @@ fn a_sum_makes_tasks(rt: HostRuntime) -> Result<(), Fail> {
         };
         assert!(rt; end_of(alloc, &on, plan, 1)?.tasks() >= 1);
     }
+    Ok(())
+}
+
+// Each call but the last forks, and their children wait: a worker that goes on with the left has no
+// record left for the last ones.
+#[test]
+fn records_are_used_up(rt: HostRuntime) -> Result<(), Fail> {
+    let alloc = rt.alloc();
+    let on = compile(
+        alloc,
+        b"fn f(n) {
+            let r = n;
+            if 0 < n { let a = 0; let b = 0; both a = f(n - 1), b = f(0); r = a + b; }
+            return r;
+        }
+        main { let x = 0; call x = f(100); print x; }",
+    )?;
+    let plan = Plan {
+        heartbeat: 1,
+        workers: 1,
+    };
+    let end = end_of(alloc, &on, plan, 1)?;
+    let wanted = Wanted {
+        stop: Stop::Done,
+        ticks: 201,
+    };
+    assert!(&rt; is_right(&end, plan, wanted, b"0\n"));
+    assert!(rt; 1 <= end.skipped() && 64 <= end.tasks());
     Ok(())
 }
