@@ -12,10 +12,20 @@ use Rattle.loop_meaning.proofs.Traces.{Tells, any_funcs, any_list, traced_call, 
 use Rattle.loop_meaning.proofs.Traces.{traced_list}
 use Rattle.frame_machine.specs.Iterating.{iterations_in}
 use Rattle.frame_machine.specs.Parts.{AgreeOn, Cells, NotesKeep, Outside}
-use Rattle.block_lower.proofs.Agreeing.{agree_fewer, agree_refl, agree_sym, agree_trans}
-use Rattle.block_lower.proofs.Agreeing.{write_guarded}
+use Rattle.frame_machine.proofs.Guarding.{write_guarded}
+use Rattle.frame_machine.proofs.Tables.{agree_refl, agree_sym, agree_trans}
 use Rattle.block_lower.proofs.Cells.{names_write}
 use Rattle.block_lower.proofs.Tables.{table_names}
+
+-- on fewer cells
+pub agree_fewer : (A B : Cells) (us vs : List Table)
+    → ((t : List ℕ) (i j : ℤ) → B t i j → A t i j) → AgreeOn A us vs → AgreeOn B us vs
+agree_fewer A B us vs fewer h x = record {
+  rows = (h x).rows;
+  cols = (h x).cols;
+  size = (h x).size;
+  cells = λ i j b g. (h x).cells i j (fewer x i j b) g;
+}
 
 -- The second tables are the first ones, but for these cells. Where there is no such cell, they are
 -- the very same.

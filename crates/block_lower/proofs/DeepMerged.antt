@@ -33,6 +33,7 @@ use Rattle.frame_machine.specs.Lawful.{modes_in}
 use Rattle.frame_machine.specs.Parts.{Below, Cells, Outside, Seen, Written}
 use Rattle.frame_machine.specs.Splitting.{merged}
 use Rattle.frame_machine.proofs.Joining.{lower_kept}
+use Rattle.frame_machine.proofs.Tables.{agree_sym}
 use Rattle.handler_gen.specs.Blocks.{loop_target}
 use Rattle.handler_gen.specs.LoopCuts.{loop_mark}
 use Rattle.handler_gen.specs.Sites.{over_label}
@@ -42,7 +43,6 @@ use Rattle.join_gen.specs.LoopJoins.{Combines, JoinsLoop, ops_of, with_numbers}
 use Rattle.expr_lower.specs.declared.scope.Scope.{Scope}
 use Rattle.expr_lower.specs.Scopes.{HasTable}
 use Rattle.block_lower.specs.Layout.{Activation, levels_cell}
-use Rattle.block_lower.proofs.Agreeing.{agree_sym}
 use Rattle.block_lower.proofs.Changing.{Changed, changed_back, changed_more, changed_trans}
 use Rattle.block_lower.proofs.Changing.{iterations_change}
 use Rattle.block_lower.proofs.CutTables.{rest_tables}

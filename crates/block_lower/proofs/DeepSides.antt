@@ -28,13 +28,13 @@ use Rattle.frame_machine.specs.Modes as mode
 use Rattle.frame_machine.specs.Modes.{Mode}
 use Rattle.frame_machine.specs.Parts.{Below, From, Outside, Seen, SeenAt, Written, WrittenAt}
 use Rattle.frame_machine.specs.Splitting.{cut_of}
+use Rattle.frame_machine.proofs.Tables.{agree_sym}
 use Rattle.handler_gen.specs.LoopCuts.{loop_mark}
 use Rattle.block_lower.specs.Code.{to}
 use Rattle.block_lower.specs.DeepMarked.{next_begun}
 use Rattle.block_lower.specs.Layout.{Activation, cursor_cell, levels_cell, value_cell}
 use Rattle.block_lower.proofs.Activations.{StandsFrom, clear_above}
-use Rattle.block_lower.proofs.Agreeing.{agree_fewer, agree_sym}
-use Rattle.block_lower.proofs.Changing.{Changed}
+use Rattle.block_lower.proofs.Changing.{Changed, agree_fewer}
 use Rattle.block_lower.proofs.CutGaps.{is_short}
 use Rattle.block_lower.proofs.CutStacks.{HasLoop}
 use Rattle.block_lower.proofs.CutTables.{child_tables}

@@ -1,12 +1,12 @@
 mod Bends
-mod Tables
+pub mod Tables
 mod Following
 mod Owning
 mod Values
 mod Moving
 mod Moves
 mod MovingCalls
-mod Guarding
+pub mod Guarding
 mod Guards
 mod Ranges
 mod Begins
