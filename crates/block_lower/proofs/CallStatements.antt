@@ -36,7 +36,8 @@ use Rattle.block_lower.specs.Main.{FunctionAt, bare}
 use Rattle.block_lower.proofs.Arguments.{arguments_law}
 use Rattle.block_lower.proofs.Called.{back_with}
 use Rattle.block_lower.proofs.Callees.{shows_pushed, HasPlace, CallsOwe}
-use Rattle.block_lower.proofs.Calls.{Keeping, calls_law}
+use Rattle.block_lower.proofs.CallLaws.{calls_law}
+use Rattle.block_lower.proofs.Calls.{Keeping}
 use Rattle.block_lower.proofs.Occurring.{Called}
 use Rattle.block_lower.proofs.Permitting.{PermitsOne}
 use Rattle.block_lower.proofs.Results.{Result, result, then}

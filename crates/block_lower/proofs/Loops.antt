@@ -47,7 +47,7 @@ use Rattle.block_lower.specs.Layout.{value_cell, bound_cell, Activation}
 use Rattle.block_lower.proofs.Choices.{enters, leaving}
 use Rattle.block_lower.proofs.Gaps.{IsGap, gap_is, gap_next, gap_more, gap_none, next_in}
 use Rattle.block_lower.proofs.Moves.{opened, calm, jumps}
-use Rattle.block_lower.proofs.Results.{Result, result, then, left, after_then, noting, noting_then}
+use Rattle.block_lower.proofs.Results.{Result, result, then, left, after_then}
 use Rattle.block_lower.proofs.Scene.{Scene, Same, Near, Shows, ShowsIn, Owed, runs_kept}
 use Rattle.block_lower.proofs.Activations.{clear_above, marks_from}
 use Rattle.block_lower.proofs.Showing.{as_many, shows_words, shows_new, shows_declared}

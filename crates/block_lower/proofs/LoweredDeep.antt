@@ -1,6 +1,7 @@
 -- The code of a `par` that may be cut in the middle of an iteration is written where that of its
 -- parts is.
-use Rattle.std.proofs.Common.{◌≡◌, ℕ, ◌+◌, true, false, List, [], ◌∷◌, ◌++◌, length, refl, sym, ap, subst}
+use Rattle.std.proofs.Common.{◌≡◌, ℕ, ◌+◌, true, false, List, [], ◌∷◌, ◌++◌, length, refl, sym, ap}
+use Rattle.std.proofs.Common.{subst}
 use Rattle.std.proofs.Common.{◌∙◌}
 use Rattle.std.specs.Prelude.{pos, negsuc}
 use Rattle.std.specs.List.{list_any}

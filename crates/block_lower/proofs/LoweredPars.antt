@@ -1,9 +1,8 @@
 -- The code of a quiet `par` is written where that of its parts is.
-use Rattle.std.proofs.Common.{◌≡◌, ℕ, suc, ◌+◌, true, false, List, [], ◌∷◌, ◌++◌, length}
+use Rattle.std.proofs.Common.{◌≡◌, ℕ, suc, ◌+◌, true, List, [], ◌∷◌, ◌++◌, length}
 use Rattle.std.proofs.Common.{refl, sym, ap, subst, ◌∙◌, append-nil, append_assoc}
 use Rattle.std.specs.Prelude.{pos}
 use Rattle.std.specs.List.{list_any, AllByRecursion}
-use Rattle.std.proofs.lemmas.Bool.{true≢false}
 use Rattle.loop_syntax.specs.declared.Carry.{Carry}
 use Rattle.loop_syntax.specs.declared.Carry.TheVariants as carry
 use Rattle.loop_syntax.specs.declared.ParLoop.{ParLoop}
@@ -137,11 +136,6 @@ prep_written scope l at old rows new fresh push close code stands =
       λ is. reopened code (label old) (label old) (own ++ []) own (to at) refl (append-nil own)
           (fresh_opens code old (own ++ []) (to at) fresh c),
     )
-
-pub no_prep_written : (scope : Scope) (l : ParLoop) (at : ℕ) (old : Output)
-    → list_any has_row l.carries.items ≡ false → WritesPrep scope l at old old
-no_prep_written scope l at old none code stands =
-    (stands, λ is. absurd (true≢false (sym is ∙ none)))
 
 -- one list of blocks behind another
 pub both_appended : (site : LoopSite) (old handled new : Output)

@@ -12,7 +12,7 @@ use Rattle.loop_meaning.specs.Statements.{Called, with_call}
 use Rattle.frame_machine.specs.FrameLaws.{LawfulCalls}
 use Rattle.frame_machine.specs.Modes.{Modes}
 use Rattle.block_lower.proofs.Called.{going_back, with_value}
-use Rattle.block_lower.proofs.PairRuns.{call_end, low, low_vars, next, up, whole}
+use Rattle.block_lower.proofs.PairRuns.{call_end, low, low_vars, next, whole}
 use Rattle.block_lower.proofs.Results.{End, Out, Result, after_then, end_by, noting, noting_twice}
 use Rattle.block_lower.proofs.Results.{result, then, then_end}
 use Rattle.block_lower.proofs.Scene.{IsEarly}

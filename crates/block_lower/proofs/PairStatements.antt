@@ -54,7 +54,7 @@ use Rattle.block_lower.proofs.Around.{Around, modes_at}
 use Rattle.block_lower.proofs.CallStatements.{assigns, opens}
 use Rattle.block_lower.proofs.Called.{back_with, deep_call}
 use Rattle.block_lower.proofs.Callees.{CallsOwe, HasPlace, shows_pushed}
-use Rattle.block_lower.proofs.Calls.{returns}
+use Rattle.block_lower.proofs.CallLaws.{returns}
 use Rattle.block_lower.proofs.Cutting.{ProgramRules}
 use Rattle.block_lower.proofs.Moves.{calm, traps}
 use Rattle.block_lower.proofs.Occurring.{by_first, by_second}
