@@ -1,5 +1,5 @@
 -- What a worker has once a side has arrived and was merged, and once it has made the finish.
-use Rattle.std.proofs.Common.{◌≡◌, ℕ, ◌+◌, ◌*◌, ◌<◌, Bool, List, [], ◌∷◌, Option, None, Some, cond, refl, sym, ap, ◌∙◌, subst, arith, eq-eqb}
+use Rattle.std.proofs.Common.{◌≡◌, ℕ, ◌+◌, Bool, List, [], ◌∷◌, Option, cond, sym, ap, ◌∙◌, subst, eq-eqb}
 use Rattle.std.specs.Prelude.{Result, Ok, Err, IfOk, MatchResult}
 use Rattle.tp_value.specs.declared.values.NoMemory.{NoMemory}
 use Rattle.tpal_syntax.specs.Listing.{Listing}
@@ -14,7 +14,6 @@ use Rattle.tpal_machine.specs.declared.joining.Merged.{Merged}
 use Rattle.tpal_machine.specs.declared.joining.Merged.TheVariants as merged
 use Rattle.tpal_machine.specs.Answer.{IsMerged}
 use Rattle.tpal_machine.specs.Keeping.{place_of, JoinedFrom, JoinedKeeps}
-use Rattle.tpal_machine.specs.Merge as merging
 use Rattle.tpal_machine.specs.Merge.{Joined, MergeOf, joined}
 use Rattle.tpal_machine.specs.Owed.{owing}
 use Rattle.tpal_machine.specs.RestState.{RestState, end_of}
@@ -23,15 +22,15 @@ use Rattle.tpal_machine.proofs.Keeping.{merge_keeps}
 use Rattle.join_records.specs.declared.table.Taken.{Taken}
 use Rattle.join_records.specs.declared.views.Grip.{Grip}
 use Rattle.join_records.specs.declared.views.Grip.TheVariants.{Emptied}
-use Rattle.join_records.specs.Answers.{left_alone, met_view, other, own}
+use Rattle.join_records.specs.Answers.{met_view, other, own}
 use Rattle.join_records.specs.Ends.{IsEndOf}
 use Rattle.join_records.specs.Steps.{other_side, owes_by}
-use Rattle.join_records.specs.Views.{drop_record, one_made, read, with_ends, with_hand}
+use Rattle.join_records.specs.Views.{drop_record, read, with_hand}
 use Rattle.steal_pool.specs.declared.seat.Counts.{Counts}
 use Rattle.steal_pool.specs.declared.seat.Work.{Work}
 use Rattle.steal_pool.specs.declared.seat.Work.TheVariants as work
 use Rattle.steal_pool.specs.Facts.{IsEnding, RestOwes}
-use Rattle.steal_pool.specs.Has.{Knows, Has, HasEnded, HasFinished, HasNothing, IsHeld, Rests, Stays, work_after}
+use Rattle.steal_pool.specs.Has.{Knows, Has, HasEnded, IsHeld, Rests, Stays, work_after}
 use Rattle.steal_pool.specs.Terms.{Terms}
 use Rattle.steal_pool.proofs.Claiming.{begins, rests_stay}
 

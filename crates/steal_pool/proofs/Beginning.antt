@@ -1,5 +1,5 @@
 -- What the workers have when they are made.
-use Rattle.std.proofs.Common.{◌≡◌, ℕ, zero, suc, ◌+◌, ◌*◌, ◌-◌, ◌^◌, ◌<◌, ◌≤◌, Bool, false, [], Option, None, Some, inl, refl, sym, ap, ◌∙◌, subst, arith}
+use Rattle.std.proofs.Common.{◌≡◌, ℕ, zero, suc, ◌+◌, ◌*◌, ◌<◌, ◌≤◌, Option, None, inl, refl, sym, subst, arith}
 use Rattle.tpal_machine.specs.declared.ends.End.TheVariants as «end»
 use Rattle.tpal_machine.specs.declared.ends.Ending.{Ending}
 use Rattle.tpal_machine.specs.State.{State}
@@ -12,7 +12,7 @@ use Rattle.join_records.specs.declared.table.Taken.{Taken}
 use Rattle.join_records.specs.Passes.{IsPassOf, view}
 use Rattle.steal_pool.specs.declared.seat.Counts.{Counts}
 use Rattle.steal_pool.specs.declared.seat.Work.{Work}
-use Rattle.steal_pool.specs.Has.{Knows, Has, HasCounts, HasNothing, IsRooted, Rests, Runs}
+use Rattle.steal_pool.specs.Has.{Knows, Has, HasCounts, HasNothing, IsRooted, Runs}
 use Rattle.steal_pool.specs.Terms.{Terms}
 use Rattle.steal_pool.specs.Together.{no_counts}
 use Rattle.steal_pool.proofs.Claiming.{begins}

@@ -1,20 +1,16 @@
 -- What a worker has once a task of its own begins, or it has seen the finish made.
-use Rattle.std.proofs.Common.{◌≡◌, ℕ, ◌+◌, ◌*◌, ◌-◌, ◌^◌, ◌<◌, ◌≤◌, Bool, true, false, ◌&&◌, ◌||◌, ◌==◌, eqb, List, [], ◌∷◌, ◌++◌, Option, None, Some, refl, sym, ap, ◌∙◌, subst, arith}
+use Rattle.std.proofs.Common.{◌≡◌, ℕ, Bool, true, false, ◌&&◌, ◌||◌, ◌==◌, eqb, List, [], ◌∷◌, ◌++◌, Option, None, refl, sym, ap, ◌∙◌, subst, arith}
 use Rattle.std.proofs.lemmas.Bool.Decides.{nat_tests}
 use Rattle.tpal_machine.specs.declared.ends.End.{End}
-use Rattle.tpal_machine.specs.declared.ends.End.TheVariants as «end»
 use Rattle.tpal_machine.specs.declared.ends.Ending.{Ending}
-use Rattle.tpal_machine.specs.declared.ends.SideName.TheVariants.{Right}
 use Rattle.tpal_machine.specs.Keeping.{credit, number_of}
 use Rattle.tpal_machine.specs.RestState.{end_of}
 use Rattle.tpal_machine.specs.State.{State}
 use Rattle.join_records.specs.declared.table.Taken.{Taken}
-use Rattle.join_records.specs.Answers.{ClaimsSoon, Unclaimable}
 use Rattle.join_records.specs.Views.{read, saw_finish}
-use Rattle.join_records.proofs.Callers.{claims_reads, unclaimable_reads}
 use Rattle.steal_pool.specs.declared.seat.Counts.{Counts}
-use Rattle.steal_pool.specs.Facts.{HasEnd, Owed}
-use Rattle.steal_pool.specs.Has.{Knows, number_in, HasCounts, HasNothing, HasSeen, HasHand, IsHeld, Rests, Runs, Stays}
+use Rattle.steal_pool.specs.Facts.{Owed}
+use Rattle.steal_pool.specs.Has.{Knows, number_in, HasCounts, HasNothing, HasSeen, HasHand, IsHeld, Rests, Runs}
 use Rattle.steal_pool.specs.Terms.{Terms}
 use Rattle.steal_pool.proofs.Forking.{counts_stay}
 

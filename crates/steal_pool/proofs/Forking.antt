@@ -1,9 +1,8 @@
 -- What a worker has once its task has got its answer, and once it has opened its record.
-use Rattle.std.proofs.Common.{◌≡◌, ◌≢◌, ◌⊎◌, ℕ, suc, ◌+◌, ◌*◌, ◌-◌, ◌^◌, ◌<◌, ◌≤◌, Bool, true, false, List, [], ◌∷◌, ◌++◌, Option, None, Some, cond, eqb, refl, sym, ap, ◌∙◌, subst, inl, inr, ⊎_elim, arith, eq-eqb}
+use Rattle.std.proofs.Common.{◌≡◌, ◌≢◌, ◌⊎◌, ℕ, ◌+◌, ◌*◌, ◌-◌, ◌^◌, ◌<◌, ◌≤◌, Bool, false, List, [], ◌∷◌, Option, None, Some, cond, refl, sym, ap, ◌∙◌, subst, inl, inr, arith, eq-eqb}
 use Rattle.tpal_machine.specs.declared.ends.End.{End}
 use Rattle.tpal_machine.specs.declared.ends.End.TheVariants as «end»
 use Rattle.tpal_machine.specs.declared.ends.Ending.{Ending}
-use Rattle.tpal_machine.specs.declared.ends.Ending.TheVariants as ending
 use Rattle.tpal_machine.specs.declared.ends.Goal.{Goal}
 use Rattle.tpal_machine.specs.declared.ends.Goal.TheVariants as goal
 use Rattle.tpal_machine.specs.declared.ends.SideName.{SideName}
@@ -17,15 +16,14 @@ use Rattle.tpal_machine.specs.State.{State}
 use Rattle.tpal_machine.proofs.Keeping.{answer_keeps}
 use Rattle.join_records.specs.declared.table.Taken.{Taken}
 use Rattle.join_records.specs.declared.views.Grip.{Grip}
-use Rattle.join_records.specs.declared.views.Grip.TheVariants.{Reserved, Emptying, Emptied}
+use Rattle.join_records.specs.declared.views.Grip.TheVariants.{Reserved}
 use Rattle.join_records.specs.declared.views.Stage.TheVariants.{Steady}
-use Rattle.join_records.specs.Answers.{FoundFree, HoldsNoSide, Merges, reads_more, reserved_view}
-use Rattle.join_records.specs.Ends.{code_of, end_of as end_code}
+use Rattle.join_records.specs.Answers.{FoundFree, HoldsNoSide}
+use Rattle.join_records.specs.Ends.{code_of}
 use Rattle.join_records.specs.Passes.{taken_number}
-use Rattle.join_records.specs.Views.{drop_record, find, Holds, holds_end, in_hand, NoneMet, opened_view, read}
-use Rattle.join_records.specs.Words.{bit}
+use Rattle.join_records.specs.Views.{drop_record, find, Holds, holds_end, opened_view, read}
 use Rattle.steal_pool.specs.declared.seat.Counts.{Counts}
-use Rattle.steal_pool.specs.Facts.{HasEnd, Keeps, Owed, RestOwes}
+use Rattle.steal_pool.specs.Facts.{HasEnd, Owed}
 use Rattle.steal_pool.specs.Has.{Knows, number_in, count_in, Asks, Forks, IsHeld, HasHand, HasCounts, Paid, Runs, Stays}
 use Rattle.steal_pool.specs.Terms.{Terms}
 

@@ -1,19 +1,19 @@
 -- What a turn leaves of what a worker has.
-use Rattle.std.proofs.Common.{◌≡◌, ◌⊎◌, ℕ, ◌+◌, ◌*◌, ◌-◌, ◌^◌, ◌<◌, ◌≤◌, Bool, true, false, [], ◌∷◌, Option, None, Some, refl, sym, ap, ◌∙◌, subst, arith}
+use Rattle.std.proofs.Common.{◌≡◌, ℕ, ◌+◌, ◌*◌, ◌-◌, ◌^◌, ◌≤◌, true, false, Option, None, Some, refl, sym, ap, ◌∙◌, subst, arith}
 use Rattle.std.specs.Prelude.{min}
 use Rattle.tpal_machine.specs.declared.ends.Ending.{Ending}
 use Rattle.tpal_machine.specs.declared.ends.Ending.TheVariants as ending
 use Rattle.tpal_machine.specs.declared.turn.Turn.{Turn}
 use Rattle.tpal_machine.specs.declared.turn.Turn.TheVariants as turn
 use Rattle.tpal_machine.specs.Answer.{HadMemory}
-use Rattle.tpal_machine.specs.Keeping.{credit, number_of, place_of, AnsweredKeeps, EndsFrom}
+use Rattle.tpal_machine.specs.Keeping.{credit, number_of, AnsweredKeeps, EndsFrom}
 use Rattle.tpal_machine.specs.Owed.{owing, due_after, AnsweredOwes}
 use Rattle.tpal_machine.specs.RestState.{end_of}
 use Rattle.tpal_machine.specs.State.{State}
 use Rattle.join_records.specs.declared.table.Taken.{Taken}
 use Rattle.join_records.specs.Words.{bit}
 use Rattle.steal_pool.specs.declared.seat.Counts.{Counts}
-use Rattle.steal_pool.specs.Has.{Knows, number_in, count_in, IsHeld, HasHand, HasCounts, HasEnded, Paid, Rests, Runs, TurnFits}
+use Rattle.steal_pool.specs.Has.{Knows, number_in, IsHeld, HasHand, HasCounts, HasEnded, Runs, TurnFits}
 use Rattle.steal_pool.specs.Terms.{Terms}
 use Rattle.steal_pool.proofs.Counting.{due_bits, paid_on}
 

@@ -1,5 +1,5 @@
 -- The rule of the workers' deques, and what a look into one may tell.
-use Rattle.std.specs.Prelude.{ℕ, ◌<◌, List, [], ◌∷◌, All, ⊤}
+use Rattle.std.specs.Prelude.{ℕ, ◌<◌, List, [], ◌∷◌, All}
 use Rattle.atomic_blocks.specs.Lent.{RowsId}
 use Rattle.crossbeam_deque.specs.Tasks.{Admits, Pushes, Takes}
 use Rattle.std.specs.declared.alloc.Global.{Global}

@@ -1,5 +1,4 @@
-use Rattle.std.proofs.Common.{rules, arith, ap, sym, subst, ◌≡◌, ◌+◌, ◌∙◌, ◌∷◌, All, length, ℕ}
-use Rattle.std.proofs.Common.{None}
+use Rattle.std.proofs.Common.{rules, arith, ap, sym, subst, ◌≡◌, ◌∙◌, ◌∷◌, All, length, ℕ}
 use Rattle.std.proofs.lemmas.List.Elements.{All-cons}
 use Rattle.join_records.specs.Passes.{IsPassOf, NewView, view}
 use Rattle.join_records.specs.Views.{total}

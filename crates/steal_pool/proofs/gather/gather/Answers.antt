@@ -1,4 +1,4 @@
-use Rattle.std.proofs.Common.{arith, ap, ◌+◌, ◌∷◌, ◌++◌, length, ◌∙◌}
+use Rattle.std.proofs.Common.{arith, ap, length, ◌∙◌}
 use Rattle.join_records.specs.Passes.{IsPassOf, view}
 use Rattle.join_records.proofs.Calls.{last_total}
 use Rattle.join_records.proofs.Functions.{length_more}

@@ -1,4 +1,4 @@
-use Rattle.std.proofs.Common.{◌≡◌, ℕ, ◌+◌, All, length, vec_len}
+use Rattle.std.proofs.Common.{◌≡◌, ◌+◌, All, length, vec_len}
 use Rattle.join_records.specs.Passes.{view, IsPassOf, ArePassesOf, parts_in}
 use Rattle.join_records.specs.Views.{total}
 use Rattle.steal_pool.specs.Has.{Has, IsRooted}

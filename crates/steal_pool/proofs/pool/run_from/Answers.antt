@@ -1,4 +1,4 @@
-use Rattle.std.proofs.Common.{rules, arith, ap, sym, subst, ◌≡◌, ◌∙◌, ℕ, length, None}
+use Rattle.std.proofs.Common.{rules, sym, subst, ℕ}
 use Rattle.join_records.specs.Passes.{AreNew, IsPassOf, view}
 use Rattle.steal_pool.specs.Facts.{Owed}
 use Rattle.steal_pool.specs.Has.{Has, IsRooted}

@@ -1,4 +1,4 @@
-use Rattle.std.proofs.Common.{◌≡◌, ◌≤◌, ℕ, subst}
+use Rattle.std.proofs.Common.{◌≤◌, ℕ, subst}
 use Rattle.steal_pool.proofs.Gathering.{one_more}
 use Rattle.steal_pool.proofs.gather.Sum.add.Goals as goal
 

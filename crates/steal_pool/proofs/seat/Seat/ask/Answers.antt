@@ -1,7 +1,7 @@
-use Rattle.std.proofs.Common.{Some, sym, subst, ap, ◌∙◌, ◌≡◌, ◌<◌, ◌^◌, ℕ}
+use Rattle.std.proofs.Common.{Some, sym, subst, ap, ◌∙◌, ◌<◌, ◌^◌, ℕ}
 use Rattle.tpal_machine.specs.Effect.{answered}
 use Rattle.tpal_machine.specs.State.{State}
-use Rattle.join_records.specs.Passes.{taken_number, view}
+use Rattle.join_records.specs.Passes.{view}
 use Rattle.steal_pool.specs.declared.seat.Counts.{Counts}
 use Rattle.steal_pool.specs.Has.{Runs}
 use Rattle.steal_pool.proofs.Forking.{asked_found}

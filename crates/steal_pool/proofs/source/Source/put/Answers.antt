@@ -1,4 +1,3 @@
-use Rattle.std.specs.Prelude.{◌<◌}
 use Rattle.crossbeam_deque.specs.Handles.{worker_port}
 use Rattle.steal_pool.proofs.source.Source.put.Goals as goal
 
