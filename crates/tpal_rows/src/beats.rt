@@ -34,7 +34,7 @@ const ROWS: [Row; 8] = [
 
 // Whether a run at this heartbeat, which is diverted so often at most, writes and ends as the row
 // says.
-fn runs(alloc: Global, row: Row, beat: &str, forks: &str) -> Result<bool, Fail> {
+fn runs(alloc: Global, row: Row, beat: &'static str, forks: &'static str) -> Result<bool, Fail> {
     let (source, tables, fuel, text, status) = row;
     let texts: [(&str, &[u8]); 2] = [("p", source.as_bytes()), ("t", tables.as_bytes())];
     let words = [

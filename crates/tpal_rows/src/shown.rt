@@ -14,7 +14,7 @@ fn shown(
     alloc: Global,
     source: &str,
     tables: &str,
-    options: &[&str],
+    options: &[&'static str],
     fails: Vec<(u32, u32)>,
 ) -> Result<Called, Fail> {
     let texts: [(&str, &[u8]); 2] = [("p", source.as_bytes()), ("t", tables.as_bytes())];
