@@ -6,6 +6,7 @@ use std::alloc::AllocError;
 use std::io;
 use std::process::ExitCode;
 use std::rt::Env;
+use steal_pool::NoGate;
 use tpal_tool::{FileShelf, OutSink, Status, tpal};
 
 /// The words after the program's own name. A word that is no UTF-8 is an error of its own.
@@ -26,6 +27,6 @@ fn main(rt: HostRuntime) -> ExitCode {
     };
     let mut shelf = FileShelf { rt: &rt, faults: 0 };
     let mut sink = OutSink { rt: &rt, faults: 0 };
-    let status = tpal(rt.alloc(), &words, &mut shelf, &mut sink);
+    let status = tpal(&rt, &words, &mut shelf, &mut sink, &NoGate);
     ExitCode::from(status.number())
 }

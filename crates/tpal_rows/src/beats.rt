@@ -6,8 +6,8 @@ use std::alloc::Global;
 use std::test::Fail;
 use tpal_tool::Status;
 
-// A program with its tables text and its fuel, what it writes and how it ends.
-type Row = (
+/// A program with its tables text and its fuel, what it writes and how it ends.
+pub type Row = (
     &'static str,
     &'static str,
     &'static str,
@@ -15,7 +15,8 @@ type Row = (
     Status,
 );
 
-const ROWS: [Row; 8] = [
+/// Rows of several kinds.
+pub const ROWS: [Row; 8] = [
     (SUM, "table a 4 1 1 2 3 4", "9", "10\n", Status::Done),
     (
         AFFINE,

@@ -1,7 +1,10 @@
 // A call over a shelf and a sink in memory.
 
 use std::alloc::{AllocError, Global};
-use tpal_tool::{MemShelf, MemSink, Status, tpal};
+use std::sync::Wait;
+use std::thread::Threads;
+use steal_pool::Gate;
+use tpal_tool::{MemShelf, MemSink, Status, asks_for_many, tpal, tpal_alone};
 
 /// What a call wrote, its status, and how often it asked for a text and wrote.
 #[derive(Drop)]
@@ -31,8 +34,8 @@ fn texts_of(alloc: Global, texts: &[(&str, &[u8])]) -> Result<Vec<(String, Vec<u
     Ok(list)
 }
 
-/// Calls with these words over a shelf that has these texts by name, and a sink whose listed calls
-/// fail.
+/// Calls with these words, which don't ask for several workers, over a shelf that has these texts by
+/// name, and a sink whose listed calls fail.
 pub fn call_over(
     alloc: Global,
     words: &[&str],
@@ -53,7 +56,43 @@ pub fn call_over(
         calls: 0,
         faults: 0,
     };
-    let status = tpal(alloc, &words, &mut shelf, &mut sink);
+    let status = if asks_for_many(&words) {
+        Status::NoMemory
+    } else {
+        tpal_alone(alloc, &words, &mut shelf, &mut sink)
+    };
+    let MemSink { bytes, calls, .. } = sink;
+    Ok(Called {
+        text: bytes,
+        status,
+        fetches: shelf.calls,
+        writes: calls,
+    })
+}
+
+/// Calls with any words over a shelf that has these texts by name, with that gate.
+pub fn call_beside<R: Threads + Wait + Sync + AllocGlobal, G: Gate + Sync>(
+    rt: &R,
+    words: &[&str],
+    texts: &[(&str, &[u8])],
+    gate: &G,
+) -> Result<Called, AllocError> {
+    let alloc = rt.alloc();
+    let words = words_of(alloc, words)?;
+    let texts = texts_of(alloc, texts)?;
+    let mut shelf = MemShelf {
+        texts,
+        fails: Vec::new(alloc),
+        calls: 0,
+        faults: 0,
+    };
+    let mut sink = MemSink {
+        bytes: Vec::new(alloc),
+        fails: Vec::new(alloc),
+        calls: 0,
+        faults: 0,
+    };
+    let status = tpal(rt, &words, &mut shelf, &mut sink, gate);
     let MemSink { bytes, calls, .. } = sink;
     Ok(Called {
         text: bytes,

@@ -31,3 +31,5 @@ mod shown;
 mod tables;
 #[cfg(test)]
 mod words;
+#[cfg(test)]
+mod workers;

@@ -113,8 +113,8 @@ fn other_options_are_bad(rt: HostRuntime) -> Result<(), Fail> {
         &["run", "--show", "p", "--show"],
         &["run", "p", "--shows"],
         &["run", "p", "--beat", "--show"],
-        &["run", "p", "--workers", "1"],
-        &["run", "p", "--workers=1"],
+        &["run", "p", "--workers", "0"],
+        &["run", "p", "--workers=1", "--workers=1"],
         &["--show", "run", "p"],
         &["compile", "p", "--show"],
         &["compile", "--beat=1", "p"],
@@ -128,7 +128,8 @@ fn other_options_are_bad(rt: HostRuntime) -> Result<(), Fail> {
 
 #[test]
 fn options_of_the_form_run_the_program(rt: HostRuntime) -> Result<(), Fail> {
-    let cases: [&[&str]; 9] = [
+    let cases: [&[&str]; 10] = [
+        &["run", "--workers", "01", "p"],
         &["run", "--beat=1", "--", "p"],
         &["run", "--beat", "1", "p"],
         &["run", "p", "--beat=1000000000"],

@@ -6,6 +6,8 @@ pub mod ThreeTexts
 pub mod Pieces
 -- how a call ends
 pub mod Endings
+-- from a run that is ready to what is owed
+pub mod Finishing
 -- why a part of a call halts, and why the whole does
 pub mod Halting
 -- the number of blocks that a program is counted with, by its tree alone

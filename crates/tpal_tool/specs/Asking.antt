@@ -15,7 +15,8 @@ use Rattle.tpal_tool.specs.Words.{Due, AnyWord, ValueOf}
 
 -- how a run goes
 abbrev pub options_seen : RunOptions → Options
-options_seen o = record { beat = o.beat; forks = o.forks; fuel = o.fuel; show = o.show }
+options_seen o =
+    record { beat = o.beat; workers = o.workers; forks = o.forks; fuel = o.fuel; show = o.show }
 
 -- the command that a value stands for
 abbrev pub command_of : Request → Command
@@ -24,7 +25,8 @@ command_of (asked.Run run) =
 command_of (asked.Compile program) = Compile program.now
 
 abbrev pub chosen_of : request.Chosen → Chosen
-chosen_of c = record { beat = c.beat; forks = c.forks; fuel = c.fuel; show = c.show }
+chosen_of c =
+    record { beat = c.beat; workers = c.workers; forks = c.forks; fuel = c.fuel; show = c.show }
 
 abbrev pub given_of : Gathered → Given
 given_of g =

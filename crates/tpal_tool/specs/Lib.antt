@@ -19,5 +19,7 @@ pub mod Owed
 pub mod Reading
 -- what the parts of a call answer: texts, a status, or why they halt
 pub mod Answering
+-- what a call comes to before anything runs
+pub mod Preparing
 -- the numbers of statuses
 pub mod Statuses

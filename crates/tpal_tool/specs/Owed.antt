@@ -30,16 +30,17 @@ use Rattle.tpal_tool.specs.Words.{Options, Command, Run, Compile, program_name, 
 
 -- ---- what a program owes
 
--- One worker alone ran a code from its first task, over these inputs, and came to this outcome with
--- these counts. Each of its diversions made a task or was skipped, and so many instructions as the
--- heartbeat were executed for each task.
-pub record RanAlone (program : Program) (code : Listing) (inputs : List Table) (options : Options)
+-- Workers ran a code from its first task, over these inputs, and came to this outcome with these
+-- counts. Each diversion made a task or was skipped, and so many instructions as the heartbeat were
+-- executed for each task. Of one worker the run is the solo run.
+pub record Ran (program : Program) (code : Listing) (inputs : List Table) (options : Options)
     (outcome : Outcome) (tally : Tally) : Type 0 where
   pub holdings : List Holding
   pub are_held : AreHeld program.tables.items inputs holdings
-  pub run : SoloRun code options.beat options.forks (first_state holdings options.fuel) outcome tally
   pub beats : tally.tasks + tally.skipped ≡ tally.beats
   pub paid : tally.tasks * options.beat ≤ tally.instructions
+  pub alone : options.workers ≡ 1
+      → SoloRun code options.beat options.forks (first_state holdings options.fuel) outcome tally
 
 -- the text of a code, then that of an outcome, and then the line of these counts
 pub record ShowsRun (code : Listing) (outcome : Outcome) (tally : Tally) (text : List ℕ) : Type 0 where
@@ -48,13 +49,13 @@ pub record ShowsRun (code : Listing) (outcome : Outcome) (tally : Tally) (text :
   pub whole : text ≡ bytes ++ text_of outcome ++ counts_line tally outcome.ticks
 
 -- the text of a run that is shown: a code whose first task owes the program's meaning, whatever is
--- promoted, that meaning's output, and the counts of one worker alone that ran this code
+-- promoted, that meaning's output, and the counts of workers that ran this code
 pub record Shows (program : Program) (inputs : List Table) (options : Options) (text : List ℕ) :
     Type 0 where
   pub code : Listing
   pub owes : OwesMeaning program code
   pub tally : Tally
-  pub ran : RanAlone program code inputs options (meaning program inputs options.fuel) tally
+  pub ran : Ran program code inputs options (meaning program inputs options.fuel) tally
   pub shows : ShowsRun code (meaning program inputs options.fuel) tally text
 
 -- what a run of a program over a tables text owes, with these options: this status, and this text

@@ -4,16 +4,17 @@ use Rattle.std.specs.Prelude.{List, [], ◌∷◌, length, take, drop, Option, S
 use Rattle.std.specs.Prelude.{unwrap_or, bytes_eq, codes, if◌then◌else◌}
 use Rattle.std.specs.Str.{all_ascii_digits}
 use Rattle.std.specs.Str.Parse.{digits_value_after}
-use Rattle.tp_value.specs.declared.limits.TheConstants.{MAX_BEAT, MAX_FORKS, MAX_FUEL}
+use Rattle.tp_value.specs.declared.limits.TheConstants.{MAX_BEAT, MAX_FORKS, MAX_FUEL, MAX_WORKERS}
 use Rattle.tpal_tool.specs.declared.request.Valued.{Valued}
-use Rattle.tpal_tool.specs.declared.request.Valued.TheVariants.{Beat, Forks, Fuel}
+use Rattle.tpal_tool.specs.declared.request.Valued.TheVariants.{Beat, Workers, Forks, Fuel}
 
 -- ---- what a call is asked for
 
--- how a run goes: its heartbeat in instructions, how often each worker may be diverted, its fuel in
--- ticks, and whether its code and its counts are shown
+-- how a run goes: its heartbeat in instructions, its workers, how often each of them may be
+-- diverted, its fuel in ticks, and whether its code and its counts are shown
 pub record Options : Type 0 where
   pub beat : ℕ
+  pub workers : ℕ
   pub forks : ℕ
   pub fuel : ℕ
   pub show : Bool
@@ -32,6 +33,12 @@ program_name (Compile program) = program
 abbrev pub tables_name : Command → Option (List ℕ)
 tables_name (Run program tables options) = tables
 tables_name (Compile program) = None
+
+-- the workers that are asked for
+abbrev pub workers_asked : Option Command → ℕ
+workers_asked None = 1
+workers_asked (Some (Run program tables options)) = options.workers
+workers_asked (Some (Compile program)) = 1
 
 -- ---- numbers
 
@@ -54,12 +61,14 @@ at_least least (Some n) = if nat_le least n then Some n else None
 -- the least value of an option
 abbrev pub least_of : Valued → ℕ
 least_of Beat = 1
+least_of Workers = 1
 least_of Forks = 0
 least_of Fuel = 0
 
 -- the greatest value of an option
 abbrev pub most_of : Valued → ℕ
 most_of Beat = MAX_BEAT
+most_of Workers = MAX_WORKERS
 most_of Forks = MAX_FORKS
 most_of Fuel = MAX_FUEL
 
@@ -93,17 +102,20 @@ kind_of word =
     if bytes_eq word (codes "--") then EndOfOptions
     else (if bytes_eq word (codes "--show") then Show
     else (if bytes_eq word (codes "--beat") then ValueNext Beat
+    else (if bytes_eq word (codes "--workers") then ValueNext Workers
     else (if bytes_eq word (codes "--forks") then ValueNext Forks
     else (if bytes_eq word (codes "--fuel") then ValueNext Fuel
     else (if begins_with (codes "--beat=") word then ValueIs Beat (drop 7 word)
+    else (if begins_with (codes "--workers=") word then ValueIs Workers (drop 10 word)
     else (if begins_with (codes "--forks=") word then ValueIs Forks (drop 8 word)
     else (if begins_with (codes "--fuel=") word then ValueIs Fuel (drop 7 word)
     else (if is_dashed word && not (bytes_eq word (codes "-")) then Unlisted
-    else Positional))))))))
+    else Positional))))))))))
 
 -- the options so far
 pub record Chosen : Type 0 where
   pub beat : Option ℕ
+  pub workers : Option ℕ
   pub forks : Option ℕ
   pub fuel : Option ℕ
   pub show : Bool
@@ -115,7 +127,7 @@ pub record Given : Type 0 where
   pub options : Chosen
 
 abbrev pub nothing_chosen : Chosen
-nothing_chosen = record { beat = None; forks = None; fuel = None; show = false }
+nothing_chosen = record { beat = None; workers = None; forks = None; fuel = None; show = false }
 
 abbrev pub nothing_given : Given
 nothing_given = record { program = None; tables = None; options = nothing_chosen }
@@ -131,6 +143,8 @@ with_word word given =
 abbrev pub with_number : Valued → ℕ → Chosen → Option Chosen
 with_number Beat n chosen =
     if is_some chosen.beat then None else Some (record chosen { beat = Some n })
+with_number Workers n chosen =
+    if is_some chosen.workers then None else Some (record chosen { workers = Some n })
 with_number Forks n chosen =
     if is_some chosen.forks then None else Some (record chosen { forks = Some n })
 with_number Fuel n chosen =
@@ -201,6 +215,7 @@ abbrev pub options_of : Chosen → Options
 options_of chosen =
     record {
       beat = unwrap_or chosen.beat 10000;
+      workers = unwrap_or chosen.workers 1;
       forks = unwrap_or chosen.forks 1000000;
       fuel = unwrap_or chosen.fuel 1000000000;
       show = chosen.show;
@@ -214,7 +229,8 @@ run_of given =
 -- whether no option was given
 abbrev pub is_plain : Chosen → Bool
 is_plain chosen =
-    is_none chosen.beat && is_none chosen.forks && is_none chosen.fuel && not chosen.show
+    is_none chosen.beat && is_none chosen.workers && is_none chosen.forks && is_none chosen.fuel
+    && not chosen.show
 
 -- `compile` takes a program alone
 abbrev pub compile_of : Given → Option Command

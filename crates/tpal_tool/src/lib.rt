@@ -13,6 +13,7 @@ mod inputs;
 mod judging;
 mod lines;
 mod outcome_text;
+mod prepared;
 mod reading;
 mod refusal;
 mod request;
@@ -34,7 +35,7 @@ pub use sink::{Sink, SinkFault};
 pub use sinks::MemSink;
 pub use standard_output::OutSink;
 pub use status::Status;
-pub use tool::tpal;
+pub use tool::{asks_for_many, tpal, tpal_alone};
 
 #[cfg(test)]
 mod input_tests;

@@ -3,12 +3,15 @@
 ghost use Rattle.std.specs.Prelude.{◌≤◌};
 ghost use Rattle.std.specs.Option.{ForSome};
 ghost use Rattle.tp_value.specs.declared.limits.TheConstants.{MAX_BEAT, MAX_FORKS, MAX_FUEL};
+ghost use Rattle.tp_value.specs.declared.limits.TheConstants.{MAX_WORKERS};
 
 /// How a run goes.
 #[derive(Clone, Copy)]
 pub struct RunOptions {
     /// The heartbeat, in instructions.
     pub beat: u64,
+    /// The workers.
+    pub workers: u32,
     /// How often each worker may be diverted.
     pub forks: u32,
     /// The fuel, in ticks.
@@ -16,6 +19,7 @@ pub struct RunOptions {
     /// Whether the code stands before the output, and the counts behind it.
     pub show: bool,
     ghost beat_in_range: { (1 ≤ beat) × (beat ≤ MAX_BEAT) },
+    ghost workers_in_range: { (1 ≤ workers) × (workers ≤ MAX_WORKERS) },
     ghost forks_in_range: { forks ≤ MAX_FORKS },
     ghost fuel_in_range: { fuel ≤ MAX_FUEL },
 }
@@ -45,6 +49,8 @@ pub enum Request<'a> {
 pub enum Valued {
     /// `--beat`, the heartbeat.
     Beat,
+    /// `--workers`, the workers.
+    Workers,
     /// `--forks`, how often each worker may be diverted.
     Forks,
     /// `--fuel`, the fuel.
@@ -56,6 +62,8 @@ pub enum Valued {
 pub struct Chosen {
     /// The value of `--beat`.
     pub beat: Option<u64>,
+    /// The value of `--workers`.
+    pub workers: Option<u64>,
     /// The value of `--forks`.
     pub forks: Option<u64>,
     /// The value of `--fuel`.
@@ -63,6 +71,7 @@ pub struct Chosen {
     /// Whether `--show` stood there.
     pub show: bool,
     ghost beat_in_range: { ForSome beat (λ n. (1 ≤ n) × (n ≤ MAX_BEAT)) },
+    ghost workers_in_range: { ForSome workers (λ n. (1 ≤ n) × (n ≤ MAX_WORKERS)) },
     ghost forks_in_range: { ForSome forks (λ n. n ≤ MAX_FORKS) },
     ghost fuel_in_range: { ForSome fuel (λ n. n ≤ MAX_FUEL) },
 }

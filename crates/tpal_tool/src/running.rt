@@ -1,27 +1,32 @@
 // The code of a program, and its run.
 
-ghost use Rattle.std.specs.Prelude.{◌≡◌, ◌≤◌, List, ℕ, None, All, IfOk, true, false};
+ghost use Rattle.std.specs.Prelude.{◌≡◌, ◌≤◌, List, ℕ, None, All, IfOk, Option, true, false};
 ghost use Rattle.tp_value.specs.declared.limits.TheConstants.{MAX_BLOCKS};
 ghost use Rattle.block_lower.specs.Count.{blocks_of_program};
 ghost use Rattle.block_lower.specs.Owing.{IsTable, OwesMeaning};
-ghost use Rattle.loop_meaning.specs.Answers.{text_of};
-ghost use Rattle.loop_meaning.specs.Meaning.{meaning};
+ghost use Rattle.loop_meaning.specs.Answers.{status_of, text_of};
 ghost use Rattle.schedule_core.specs.Counting.{tally_of};
 ghost use Rattle.table_text.specs.TablesText.{TablesOf};
 ghost use Rattle.tpal_tool.specs.Answering.{whole_of};
 ghost use Rattle.tpal_tool.specs.Asking.{options_seen};
 ghost use Rattle.tpal_tool.specs.Inputs.{first_missing};
-ghost use Rattle.tpal_tool.specs.Owed.{CompilesTo, RanAlone, RunOwes, ShowsRun};
+ghost use Rattle.tpal_tool.specs.Owed.{CompilesTo, Owed, RunOwes, ShowsRun};
+ghost use Rattle.tpal_tool.specs.Preparing.{IsReady};
+ghost use Rattle.tpal_tool.specs.Words.{Command};
 
 use crate::answer::{Answer, Texts};
 use crate::inputs::hold_tables;
 use crate::outcome_text::{counts_line, text_of};
+use crate::prepared::Ready;
 use crate::request::RunOptions;
-use crate::status::status_of;
+use crate::status::{Status, status_of};
 use block_lower::{LowerFault, lower};
 use loop_check::Checked;
 use schedule_core::{Job, Report, Tally, solo_run};
 use std::alloc::Global;
+use std::sync::Wait;
+use std::thread::Threads;
+use steal_pool::{Gate, pool_run};
 use tp_value::{Items, NoMemory, Table};
 use tpal_print::print_code;
 use tpal_syntax::Code;
@@ -38,32 +43,30 @@ fn code_of(alloc: Global, program: &Checked) -> Result<Code, NoMemory>
     }
 }
 
-/// Runs a program's code to the end by one worker, over the given tables.
-fn run_code(
+/// Makes a run of a program over the given tables ready.
+pub fn ready_run(
     alloc: Global,
     program: &Checked,
-    code: &Code,
     given: Vec<Table>,
     options: RunOptions,
-) -> Result<Report, NoMemory>
-    requires owes { OwesMeaning program.now code.now }
+) -> Result<Ready, NoMemory>
+    requires blocks { blocks_of_program program.now ≤ MAX_BLOCKS }
     requires complete { first_missing program.now.tables.items given.items ≡ None }
     requires tables { All IsTable given.items }
-    ensures outcome { IfOk result
-        (λ report. report.outcome ≡ meaning program.now given.items options.fuel) }
-    ensures ran { IfOk result
-        (λ report. RanAlone program.now code.now given.items (options_seen options) report.outcome
-        (tally_of report)) }
+    ensures ready { (tables : List ℕ)
+        → TablesOf tables given.items
+        → IfOk result
+        (λ run. IsReady (RunOwes program.now tables (options_seen options)) run.code run.held.items
+        (options_seen run.options)) }
+    ensures workers { IfOk result (λ run. run.options.workers ≡ options.workers) }
 {
+    let code = code_of(alloc, program)?;
     let held = hold_tables(alloc, program, given)?;
-    let job = Job {
-        tables: Items::new(held),
-        fuel: options.fuel,
-        heartbeat: options.beat,
-        workers: 1,
-        forks: options.forks,
-    };
-    solo_run(alloc, code, job)
+    Ok(Ready {
+        code,
+        held,
+        options,
+    })
 }
 
 /// The texts of a run: what it printed, and where it is shown the code before and the counts behind.
@@ -101,27 +104,79 @@ fn texts_of(alloc: Global, code: &Code, report: Report, show: bool) -> Result<Te
     })
 }
 
-/// Compiles a program and runs its code to the end, over the given tables.
-pub fn run_program(
-    alloc: Global,
-    program: &Checked,
-    given: Vec<Table>,
-    options: RunOptions,
-) -> Result<Answer, NoMemory>
-    requires blocks { blocks_of_program program.now ≤ MAX_BLOCKS }
-    requires complete { first_missing program.now.tables.items given.items ≡ None }
-    requires tables { All IsTable given.items }
-    ensures { (tables : List ℕ)
-        → TablesOf tables given.items
+/// The answer of a run that came to its end.
+fn answer_of(alloc: Global, code: &Code, report: Report, show: bool) -> Result<Answer, NoMemory>
+    ensures status { IfOk result
+        (λ answer. answer.status
+        ≡ status_of Status.Done Status.Trap Status.OutOfFuel report.outcome) }
+    ensures plain { show ≡ false
+        → IfOk result (λ answer. whole_of answer.texts ≡ text_of report.outcome) }
+    ensures shown { show ≡ true
         → IfOk result
-        (λ answer. RunOwes program.now tables (options_seen options) answer.status
-        (whole_of answer.texts)) }
+        (λ answer. ShowsRun code.now report.outcome (tally_of report) (whole_of answer.texts)) }
 {
-    let code = code_of(alloc, program)?;
-    let report = run_code(alloc, program, &code, given, options)?;
     let status = status_of(report.outcome.stop);
-    let texts = texts_of(alloc, &code, report, options.show)?;
+    let texts = texts_of(alloc, code, report, show)?;
     Ok(Answer { status, texts })
+}
+
+/// Runs what is ready to its end, by one worker.
+pub fn run_alone(alloc: Global, run: Ready) -> Result<Answer, NoMemory>
+    requires one { run.options.workers ≡ 1 }
+    requires ready { (wanted : Option Command)
+        × (told : List ℕ → Option (List ℕ))
+        × IsReady (Owed wanted told) run.code run.held.items (options_seen run.options) }
+    ensures { (wanted : Option Command) (told : List ℕ → Option (List ℕ))
+        → IsReady (Owed wanted told) run.code run.held.items
+        (options_seen run.options)
+        → IfOk result (λ answer. Owed wanted told answer.status (whole_of answer.texts)) }
+{
+    let Ready {
+        code,
+        held,
+        options,
+    } = run;
+    let job = Job {
+        tables: Items::new(held),
+        fuel: options.fuel,
+        heartbeat: options.beat,
+        workers: options.workers,
+        forks: options.forks,
+    };
+    let report = solo_run(alloc, &code, job)?;
+    answer_of(alloc, &code, report, options.show)
+}
+
+/// Runs what is ready to its end, by several workers.
+pub fn run_in_pool<R: Threads + Wait + Sync, G: Gate + Sync>(
+    rt: &R,
+    alloc: Global,
+    run: Ready,
+    gate: &G,
+) -> Result<Answer, NoMemory>
+    requires many { 2 ≤ run.options.workers }
+    requires ready { (wanted : Option Command)
+        × (told : List ℕ → Option (List ℕ))
+        × IsReady (Owed wanted told) run.code run.held.items (options_seen run.options) }
+    ensures { (wanted : Option Command) (told : List ℕ → Option (List ℕ))
+        → IsReady (Owed wanted told) run.code run.held.items
+        (options_seen run.options)
+        → IfOk result (λ answer. Owed wanted told answer.status (whole_of answer.texts)) }
+{
+    let Ready {
+        code,
+        held,
+        options,
+    } = run;
+    let job = Job {
+        tables: Items::new(held),
+        fuel: options.fuel,
+        heartbeat: options.beat,
+        workers: options.workers,
+        forks: options.forks,
+    };
+    let (report, _closed) = pool_run(rt, alloc, &code, job, gate)?;
+    answer_of(alloc, &code, report, options.show)
 }
 
 /// Compiles a program, and writes its code as a text.

@@ -1,7 +1,7 @@
 // The top call.
 
 ghost use Rattle.std.specs.Prelude.{◌≡◌, ◌≢◌, ◌⊎◌, ◌↔◌, ℕ, ◌<◌, ◌≤◌, All, Option, List, [], IfErr};
-ghost use Rattle.std.specs.Prelude.{IfOk, IfSome, IsSomeAnd, Some, None, false, length, map};
+ghost use Rattle.std.specs.Prelude.{IfOk, IfSome, IsSomeAnd, Some, None, false, true, length, map};
 ghost use Rattle.std.specs.Prelude.{option_map, string_bytes};
 ghost use Rattle.tp_value.specs.declared.limits.TheConstants.{MAX_BLOCKS};
 ghost use Rattle.tp_value.specs.declared.limits.TheConstants.{MAX_SOURCE_BYTES, MAX_TABLES_BYTES};
@@ -18,18 +18,21 @@ ghost use Rattle.tpal_tool.specs.Inputs.{first_missing};
 ghost use Rattle.tpal_tool.specs.Lines.{bad_words_line, missing_line, tables_line, too_long_line};
 ghost use Rattle.tpal_tool.specs.Owed.{CompilesTo, CutShort, Ends, Finished, IsFinal, IsToldTables};
 ghost use Rattle.tpal_tool.specs.Owed.{IsWritten, NamedRunOwes, Names, Owed, ReadFailed, RunOwes};
+ghost use Rattle.tpal_tool.specs.Preparing.{HasWorkers, IsReady, Prepares};
 ghost use Rattle.tpal_tool.specs.Shelf.{HasRisen};
 ghost use Rattle.tpal_tool.specs.Sink.{Appended};
 ghost use Rattle.tpal_tool.specs.Verdict.{Accepts, Refuses};
 ghost use Rattle.tpal_tool.specs.Words.{Command, Compile, Options, Run, asked, program_name};
+ghost use Rattle.tpal_tool.specs.Words.{workers_asked};
 
 use crate::answer::{Answer, Texts, refused};
 use crate::fetching::{fetched, fetched_tables};
 use crate::inputs::{have_all, tables_of};
 use crate::judging::judge;
+use crate::prepared::{Prepared, Ready};
 use crate::refusal::{Halt, Refusal};
 use crate::request::{Request, RunOptions, RunRequest};
-use crate::running::{compile_program, run_program};
+use crate::running::{compile_program, ready_run, run_alone, run_in_pool};
 use crate::shelf::Shelf;
 use crate::sink::{Sink, SinkFault};
 use crate::status::Status;
@@ -37,6 +40,9 @@ use crate::words::asked;
 use crate::writing::write_texts;
 use loop_check::Checked;
 use std::alloc::Global;
+use std::sync::Wait;
+use std::thread::Threads;
+use steal_pool::Gate;
 use table_text::laws::text_is_read_one_way;
 use tp_value::{MAX_SOURCE_BYTES, NoMemory};
 
@@ -51,38 +57,40 @@ fn compiled(alloc: Global, program: &Checked) -> Result<Answer, NoMemory>
     Ok(Answer { status, texts })
 }
 
-/// The answer to a run of a program over a tables text.
-fn ran_over(
+/// A run of a program over a tables text, made ready.
+fn ready_over(
     alloc: Global,
     program: &Checked,
     tables: &[u8],
     options: RunOptions,
-) -> Result<Answer, Halt>
+) -> Result<Ready, Halt>
     requires blocks { blocks_of_program program.now ≤ MAX_BLOCKS }
     requires tables { length tables.now ≤ MAX_TABLES_BYTES }
-    ensures answer { IfOk result
-        (λ answer. RunOwes program.now tables.now (options_seen options) answer.status
-        (whole_of answer.texts)) }
+    ensures ready { IfOk result
+        (λ run. IsReady (RunOwes program.now tables.now (options_seen options)) run.code
+        run.held.items (options_seen run.options)) }
+    ensures workers { IfOk result (λ run. run.options.workers ≡ options.workers) }
     ensures halt { IfErr result
         (Halts (OwesRefusal (RunOwes program.now tables.now (options_seen options))) ⊥) }
 {
     let given = tables_of(alloc, tables)?;
     have_all(alloc, &program.program().tables, &given)?;
-    Ok(run_program(alloc, program, given, options)?)
+    Ok(ready_run(alloc, program, given, options)?)
 }
 
-/// The answer to a run of a program, with the tables text that it names fetched from the shelf.
-fn ran<S: Shelf>(
+/// A run of a program, made ready with the tables text that it names, from the shelf.
+fn ready_named<S: Shelf>(
     alloc: Global,
     program: &Checked,
     run: RunRequest,
     shelf: &mut S,
-) -> Result<Answer, Halt>
+) -> Result<Ready, Halt>
     requires { blocks_of_program program.now ≤ MAX_BLOCKS }
-    ensures answer { IfOk result
-        (λ answer. NamedRunOwes program.now (S.text shelf.old)
-        (option_map (λ t. t.now) run.entry.tables) (options_seen run.entry.options) answer.status
-        (whole_of answer.texts)) }
+    ensures ready { IfOk result
+        (λ r. IsReady (NamedRunOwes program.now (S.text shelf.old)
+        (option_map (λ t. t.now) run.entry.tables) (options_seen run.entry.options)) r.code
+        r.held.items (options_seen r.options)) }
+    ensures workers { IfOk result (λ r. r.options.workers ≡ run.entry.options.workers) }
     ensures halt { IfErr result
         (Halts (OwesRefusal (NamedRunOwes program.now (S.text shelf.old)
         (option_map (λ t. t.now) run.entry.tables) (options_seen run.entry.options)))
@@ -90,14 +98,19 @@ fn ran<S: Shelf>(
         (λ name. HasRisen (S.faults shelf.old name) (S.faults shelf.new name)))) }
 {
     let tables = fetched_tables(alloc, run.tables, shelf)?;
-    ran_over(alloc, program, &tables, run.options)
+    ready_over(alloc, program, &tables, run.options)
 }
 
-/// The answer to a request, with the texts that it names fetched from the shelf.
-fn request_answer<S: Shelf>(alloc: Global, request: Request, shelf: &mut S) -> Result<Answer, Halt>
-    ensures answer { IfOk result
-        (λ answer. Owed (Some (command_of request.entry)) (S.text shelf.old) answer.status
-        (whole_of answer.texts)) }
+/// What a request comes to before anything runs, with the texts that it names from the shelf.
+fn prepared_request<S: Shelf>(
+    alloc: Global,
+    request: Request,
+    shelf: &mut S,
+) -> Result<Prepared, Halt>
+    ensures prepared { IfOk result
+        (Prepares (Owed (Some (command_of request.entry)) (S.text shelf.old))) }
+    ensures workers { IfOk result
+        (HasWorkers (workers_asked (Some (command_of request.entry)))) }
     ensures halt { IfErr result
         (Halts (OwesRefusal (Owed (Some (command_of request.entry)) (S.text shelf.old)))
         (ReadFailed (Some (command_of request.entry)) (S.text shelf.old) (S.faults shelf.old)
@@ -106,13 +119,31 @@ fn request_answer<S: Shelf>(alloc: Global, request: Request, shelf: &mut S) -> R
     let source = fetched(alloc, request.program(), MAX_SOURCE_BYTES, shelf)?;
     let program = judge(alloc, &source)?;
     match request {
-        Request::Run(run) => ran(alloc, &program, run, shelf),
-        Request::Compile(_) => Ok(compiled(alloc, &program)?),
+        Request::Run(run) => Ok(Prepared::Ready(ready_named(alloc, &program, run, shelf)?)),
+        Request::Compile(_) => Ok(Prepared::Answered(compiled(alloc, &program)?)),
     }
 }
 
-/// The answer to the words, with the texts that they name fetched from the shelf.
-fn words_answer<S: Shelf>(alloc: Global, words: &[String], shelf: &mut S) -> Result<Answer, Halt>
+/// What the words come to before anything runs, with the texts that they name from the shelf.
+fn prepared<S: Shelf>(alloc: Global, words: &[String], shelf: &mut S) -> Result<Prepared, Halt>
+    ensures prepared { IfOk result
+        (Prepares (Owed (asked (map string_bytes words.now)) (S.text shelf.old))) }
+    ensures workers { IfOk result
+        (HasWorkers (workers_asked (asked (map string_bytes words.now)))) }
+    ensures halt { IfErr result
+        (Halts (OwesRefusal (Owed (asked (map string_bytes words.now)) (S.text shelf.old)))
+        (ReadFailed (asked (map string_bytes words.now)) (S.text shelf.old) (S.faults shelf.old)
+        (S.faults shelf.new))) }
+{
+    match asked(words) {
+        None => Err(Halt::Refused(Refusal::Words)),
+        Some(request) => prepared_request(alloc, request, shelf),
+    }
+}
+
+/// The answer to words that ask for one worker.
+fn answer_alone<S: Shelf>(alloc: Global, words: &[String], shelf: &mut S) -> Result<Answer, Halt>
+    requires { workers_asked (asked (map string_bytes words.now)) ≡ 1 }
     ensures answer { IfOk result
         (λ answer. Owed (asked (map string_bytes words.now)) (S.text shelf.old) answer.status
         (whole_of answer.texts)) }
@@ -121,9 +152,32 @@ fn words_answer<S: Shelf>(alloc: Global, words: &[String], shelf: &mut S) -> Res
         (ReadFailed (asked (map string_bytes words.now)) (S.text shelf.old) (S.faults shelf.old)
         (S.faults shelf.new))) }
 {
-    match asked(words) {
-        None => Err(Halt::Refused(Refusal::Words)),
-        Some(request) => request_answer(alloc, request, shelf),
+    match prepared(alloc, words, shelf)? {
+        Prepared::Answered(answer) => Ok(answer),
+        Prepared::Ready(run) => Ok(run_alone(alloc, run)?),
+    }
+}
+
+/// The answer to words that ask for several workers.
+fn answer_in_pool<R: Threads + Wait + Sync, S: Shelf, G: Gate + Sync>(
+    rt: &R,
+    alloc: Global,
+    words: &[String],
+    shelf: &mut S,
+    gate: &G,
+) -> Result<Answer, Halt>
+    requires { 2 ≤ workers_asked (asked (map string_bytes words.now)) }
+    ensures answer { IfOk result
+        (λ answer. Owed (asked (map string_bytes words.now)) (S.text shelf.old) answer.status
+        (whole_of answer.texts)) }
+    ensures halt { IfErr result
+        (Halts (OwesRefusal (Owed (asked (map string_bytes words.now)) (S.text shelf.old)))
+        (ReadFailed (asked (map string_bytes words.now)) (S.text shelf.old) (S.faults shelf.old)
+        (S.faults shelf.new))) }
+{
+    match prepared(alloc, words, shelf)? {
+        Prepared::Answered(answer) => Ok(answer),
+        Prepared::Ready(run) => Ok(run_in_pool(rt, alloc, run, gate)?),
     }
 }
 
@@ -139,12 +193,17 @@ fn written<K: Sink>(sink: &mut K, answer: &Answer) -> Status
     }
 }
 
-fn call<S: Shelf, K: Sink>(alloc: Global, words: &[String], shelf: &mut S, sink: &mut K) -> Status
-    ensures { Ends (asked (map string_bytes words.now)) (S.text shelf.old) (S.faults shelf.old)
-        (S.faults shelf.new) (K.written sink.old) (K.written sink.new) (K.faults sink.old)
-        (K.faults sink.new) result }
+/// Writes what a call came to, and answers how it ended.
+fn ended<K: Sink>(alloc: Global, answer: Result<Answer, Halt>, sink: &mut K) -> Status
+    ensures { (wanted : Option Command) (told : List ℕ → Option (List ℕ))
+        (reads reads' : List ℕ → ℕ)
+        → IfOk answer (λ a. Owed wanted told a.status (whole_of a.texts))
+        → IfErr answer
+        (Halts (OwesRefusal (Owed wanted told)) (ReadFailed wanted told reads reads'))
+        → Ends wanted told reads reads' (K.written sink.old) (K.written sink.new)
+        (K.faults sink.old) (K.faults sink.new) result }
 {
-    match words_answer(alloc, words, shelf) {
+    match answer {
         Ok(answer) => written(sink, &answer),
         Err(Halt::Refused(refusal)) => match refused(alloc, refusal) {
             Ok(answer) => written(sink, &answer),
@@ -155,15 +214,209 @@ fn call<S: Shelf, K: Sink>(alloc: Global, words: &[String], shelf: &mut S, sink:
     }
 }
 
+fn call_alone<S: Shelf, K: Sink>(
+    alloc: Global,
+    words: &[String],
+    shelf: &mut S,
+    sink: &mut K,
+) -> Status
+    requires { workers_asked (asked (map string_bytes words.now)) ≡ 1 }
+    ensures { Ends (asked (map string_bytes words.now)) (S.text shelf.old) (S.faults shelf.old)
+        (S.faults shelf.new) (K.written sink.old) (K.written sink.new) (K.faults sink.old)
+        (K.faults sink.new) result }
+{
+    let answer = answer_alone(alloc, words, shelf);
+    ended(alloc, answer, sink)
+}
+
+fn call_in_pool<R: Threads + Wait + Sync + AllocGlobal, S: Shelf, K: Sink, G: Gate + Sync>(
+    rt: &R,
+    words: &[String],
+    shelf: &mut S,
+    sink: &mut K,
+    gate: &G,
+) -> Status
+    requires { 2 ≤ workers_asked (asked (map string_bytes words.now)) }
+    ensures { Ends (asked (map string_bytes words.now)) (S.text shelf.old) (S.faults shelf.old)
+        (S.faults shelf.new) (K.written sink.old) (K.written sink.new) (K.faults sink.old)
+        (K.faults sink.new) result }
+{
+    let answer = answer_in_pool(rt, rt.alloc(), words, shelf, gate);
+    ended(rt.alloc(), answer, sink)
+}
+
+/// Whether the words ask for several workers.
+pub fn asks_for_many(words: &[String]) -> bool
+    ensures many { result ≡ true → 2 ≤ workers_asked (asked (map string_bytes words.now)) }
+    ensures one { result ≡ false → workers_asked (asked (map string_bytes words.now)) ≡ 1 }
+{
+    match asked(words) {
+        Some(Request::Run(run)) => run.options.workers > 1,
+        Some(Request::Compile(_)) => false,
+        None => false,
+    }
+}
+
+fn call<R: Threads + Wait + Sync + AllocGlobal, S: Shelf, K: Sink, G: Gate + Sync>(
+    rt: &R,
+    words: &[String],
+    shelf: &mut S,
+    sink: &mut K,
+    gate: &G,
+) -> Status
+    ensures { Ends (asked (map string_bytes words.now)) (S.text shelf.old) (S.faults shelf.old)
+        (S.faults shelf.new) (K.written sink.old) (K.written sink.new) (K.faults sink.old)
+        (K.faults sink.new) result }
+{
+    if asks_for_many(words) {
+        call_in_pool(rt, words, shelf, sink, gate)
+    } else {
+        call_alone(rt.alloc(), words, shelf, sink)
+    }
+}
+
+/// Does what words ask for that ask for one worker, as `tpal` does. It never waits.
+pub fn tpal_alone<S: Shelf, K: Sink>(
+    alloc: Global,
+    words: &[String],
+    shelf: &mut S,
+    sink: &mut K,
+) -> Status
+    requires { workers_asked (asked (map string_bytes words.now)) ≡ 1 }
+
+    // The headline: a call that ends without a fault and with memory wrote what it owes.
+    ensures answered { IsFinal result
+        → Finished (asked (map string_bytes words.now)) (S.text shelf.old) (K.written sink.old)
+        (K.written sink.new) result }
+
+    // Each way to end without that has its cause.
+    ensures read_fault { result ≡ Status.ReadFault
+        → ReadFailed (asked (map string_bytes words.now)) (S.text shelf.old) (S.faults shelf.old)
+        (S.faults shelf.new) }
+    ensures read_fault_writes_nothing { result ≡ Status.ReadFault → Appended (K.written sink.old) (K.written sink.new) [] }
+    ensures write_fault { result ≡ Status.WriteFault → HasRisen (K.faults sink.old) (K.faults sink.new) }
+    ensures write_fault_prefix { result ≡ Status.WriteFault
+        → CutShort (asked (map string_bytes words.now)) (S.text shelf.old) (K.written sink.old)
+        (K.written sink.new) }
+    ensures no_memory { result ≡ Status.NoMemory
+        → Appended (K.written sink.old) (K.written sink.new) []
+        ⊎ CutShort (asked (map string_bytes words.now)) (S.text shelf.old) (K.written sink.old)
+        (K.written sink.new) }
+
+    // Each refusal comes exactly where its cause stands.
+    ensures bad_words { IsFinal result
+        → (result ≡ Status.BadWords) ↔ (asked (map string_bytes words.now) ≡ None) }
+    ensures bad_words_line { result ≡ Status.BadWords
+        → Appended (K.written sink.old) (K.written sink.new) bad_words_line }
+    ensures too_long { (command : Command) (source : List ℕ) → IsFinal result
+        → asked (map string_bytes words.now) ≡ Some command
+        → S.text shelf.old (program_name command) ≡ Some source
+        → MAX_SOURCE_BYTES < length source
+        → (result ≡ Status.Refused)
+        × Appended (K.written sink.old) (K.written sink.new)
+        (too_long_line (program_name command)) }
+    ensures refused { (command : Command) (source line : List ℕ) → IsFinal result
+        → asked (map string_bytes words.now) ≡ Some command
+        → S.text shelf.old (program_name command) ≡ Some source
+        → length source ≤ MAX_SOURCE_BYTES → Refuses source line
+        → (result ≡ Status.Refused) × Appended (K.written sink.old) (K.written sink.new) line }
+    ensures tables_too_long { (name over source tables : List ℕ) (options : Options) (program : Program) → IsFinal result
+        → asked (map string_bytes words.now) ≡ Some (Run name (Some over) options)
+        → S.text shelf.old name ≡ Some source
+        → length source ≤ MAX_SOURCE_BYTES
+        → Accepts source program
+        → S.text shelf.old over ≡ Some tables
+        → MAX_TABLES_BYTES < length tables
+        → (result ≡ Status.Refused)
+        × Appended (K.written sink.old) (K.written sink.new) (too_long_line over) }
+
+    ensures faulty_tables { (name source tables : List ℕ) (over : Option (List ℕ))
+        (options : Options) (program : Program) (fault : TableFault)
+        → IsFinal result
+        → asked (map string_bytes words.now) ≡ Some (Run name over options)
+        → S.text shelf.old name ≡ Some source
+        → length source ≤ MAX_SOURCE_BYTES
+        → Accepts source program
+        → IsToldTables (S.text shelf.old) over tables
+        → length tables ≤ MAX_TABLES_BYTES
+        → FirstTableFault tables fault
+        → (result ≡ Status.Refused)
+        × Appended (K.written sink.old) (K.written sink.new) (tables_line fault) }
+
+    ensures missing { (name source tables input : List ℕ) (over : Option (List ℕ))
+        (options : Options) (program : Program) (inputs : List Table)
+        → IsFinal result
+        → asked (map string_bytes words.now) ≡ Some (Run name over options)
+        → S.text shelf.old name ≡ Some source
+        → length source ≤ MAX_SOURCE_BYTES
+        → Accepts source program
+        → IsToldTables (S.text shelf.old) over tables
+        → length tables ≤ MAX_TABLES_BYTES
+        → TablesOf tables inputs
+        → first_missing program.tables.items inputs ≡ Some input
+        → (result ≡ Status.Refused)
+        × Appended (K.written sink.old) (K.written sink.new) (missing_line input) }
+
+    // A program that is accepted runs over its tables text, or is compiled.
+    ensures ran { (name source tables text : List ℕ) (over : Option (List ℕ)) (options : Options) (program : Program)
+        (status : Status)
+        → IsFinal result
+        → asked (map string_bytes words.now) ≡ Some (Run name over options)
+        → S.text shelf.old name ≡ Some source
+        → length source ≤ MAX_SOURCE_BYTES
+        → Accepts source program
+        → IsToldTables (S.text shelf.old) over tables
+        → length tables ≤ MAX_TABLES_BYTES → RunOwes program tables options status text
+        → (result ≡ status)
+        × (options.show ≡ false → Appended (K.written sink.old) (K.written sink.new) text) }
+    ensures compiled { (name source : List ℕ) (program : Program) → IsFinal result
+        → asked (map string_bytes words.now) ≡ Some (Compile name)
+        → S.text shelf.old name ≡ Some source
+        → length source ≤ MAX_SOURCE_BYTES → Accepts source program
+        → result ≡ Status.Done }
+
+    // Words of the form, a program that is accepted, tables that are of the form and have each
+    // input, and no counted fault: as the program's meaning ends, or no memory.
+    ensures runs { (name source tables : List ℕ) (over : Option (List ℕ)) (options : Options) (program : Program)
+        (inputs : List Table)
+        → asked (map string_bytes words.now) ≡ Some (Run name over options)
+        → S.text shelf.old name ≡ Some source
+        → length source ≤ MAX_SOURCE_BYTES
+        → Accepts source program
+        → IsToldTables (S.text shelf.old) over tables
+        → length tables ≤ MAX_TABLES_BYTES
+        → TablesOf tables inputs
+        → first_missing program.tables.items inputs ≡ None
+        → ((read : List ℕ)
+        → Names (Run name over options) read
+        → HasRisen (S.faults shelf.old read) (S.faults shelf.new read)
+        → ⊥)
+        → (HasRisen (K.faults sink.old) (K.faults sink.new) → ⊥)
+        → (result
+        ≡ status_of Status.Done Status.Trap Status.OutOfFuel (meaning program inputs options.fuel))
+        ⊎ (result ≡ Status.NoMemory) }
+    ensures compiles { (name source : List ℕ) (program : Program)
+        → asked (map string_bytes words.now) ≡ Some (Compile name)
+        → S.text shelf.old name ≡ Some source
+        → length source ≤ MAX_SOURCE_BYTES → Accepts source program
+        → (HasRisen (S.faults shelf.old name) (S.faults shelf.new name) → ⊥)
+        → (HasRisen (K.faults sink.old) (K.faults sink.new) → ⊥)
+        → (result ≡ Status.Done) ⊎ (result ≡ Status.NoMemory) }
+{
+    text_is_read_one_way();
+    call_alone(alloc, words, shelf, sink)
+}
+
 /// Does what the words ask for, and writes what comes of it.
 ///
 /// The words are `run`, a name, and optionally a second name, with the options `--beat`, `--forks`
-/// and `--fuel`, each with a number in one word with `=` or in two, and `--show`, each of them once
-/// and in any order; or `compile` and a name. `--` ends the options. All others are bad words. `run`
-/// runs the program whose text has the first name, over the tables text of the second, or over the
-/// empty one, by one worker: with a heartbeat of 1 to 1,000,000,000 instructions, diverted at most
-/// `--forks` times, of at most 1,000,000, and with a fuel of at most 1,000,000,000,000 ticks. Where
-/// none is given these are 10,000, 1,000,000 and 1,000,000,000. With `--show` the program's code
+/// `--fuel` and `--workers`, each with a number in one word with `=` or in two, and `--show`, each of
+/// them once and in any order; or `compile` and a name. `--` ends the options. All others are bad
+/// words. `run` runs the program whose text has the first name, over the tables text of the second,
+/// or over the empty one: by 1 to 16 workers, with a heartbeat of 1 to 1,000,000,000 instructions,
+/// each worker diverted at most `--forks` times, of at most 1,000,000, and with a fuel of at most
+/// 1,000,000,000,000 ticks. Where none is given these are 1, 10,000, 1,000,000 and 1,000,000,000.
+/// With `--show` the program's code
 /// stands before its output, and a line of counts behind it. `compile` writes the program's code.
 /// The texts are fetched from the shelf.
 ///
@@ -171,11 +424,15 @@ fn call<S: Shelf, K: Sink>(alloc: Global, words: &[String], shelf: &mut S, sink:
 /// was accepted, that of the second name's, and nothing is written then; `WriteFault` only where
 /// the sink's count rose, and a prefix of a text that isn't empty was written. `NoMemory` is free.
 /// Every other status comes with the whole text.
-pub fn tpal<S: Shelf, K: Sink>(
-    alloc: Global,
+///
+/// Words that ask for one worker go the road of `tpal_alone`. With more it may wait, and the gate
+/// hears of each worker's moments.
+pub fn tpal<R: Threads + Wait + Sync + AllocGlobal, S: Shelf, K: Sink, G: Gate + Sync>(
+    rt: &R,
     words: &[String],
     shelf: &mut S,
     sink: &mut K,
+    gate: &G,
 ) -> Status
     // The headline: a call that ends without a fault and with memory wrote what it owes.
     ensures answered { IsFinal result
@@ -297,5 +554,5 @@ pub fn tpal<S: Shelf, K: Sink>(
         → (result ≡ Status.Done) ⊎ (result ≡ Status.NoMemory) }
 {
     text_is_read_one_way();
-    call(alloc, words, shelf, sink)
+    call(rt, words, shelf, sink, gate)
 }

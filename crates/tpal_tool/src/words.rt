@@ -10,10 +10,13 @@ ghost use Rattle.tpal_tool.specs.Asking.{chosen_of, command_of, given_of, kind_s
 ghost use Rattle.tpal_tool.specs.Asking.{options_seen};
 
 use crate::request::{Chosen, Gathered, Request, RunOptions, RunRequest, Valued};
-use tp_value::{MAX_BEAT, MAX_FORKS, MAX_FUEL};
+use tp_value::{MAX_BEAT, MAX_FORKS, MAX_FUEL, MAX_WORKERS};
 
 /// The heartbeat of a run that names none, in instructions.
 pub const DEFAULT_BEAT: u64 = 10_000;
+
+/// The workers of a run that names no number.
+pub const DEFAULT_WORKERS: u64 = 1;
 
 /// How often a worker may be diverted where the run doesn't say it.
 pub const DEFAULT_FORKS: u64 = 1_000_000;
@@ -93,6 +96,7 @@ fn least_of(option: Valued) -> u64
 {
     match option {
         Valued::Beat => 1,
+        Valued::Workers => 1,
         Valued::Forks => 0,
         Valued::Fuel => 0,
     }
@@ -104,6 +108,7 @@ fn most_of(option: Valued) -> u64
 {
     match option {
         Valued::Beat => MAX_BEAT,
+        Valued::Workers => u64::from(MAX_WORKERS),
         Valued::Forks => u64::from(MAX_FORKS),
         Valued::Fuel => MAX_FUEL,
     }
@@ -137,12 +142,16 @@ fn kind_of(word: &str) -> WordKind<'_>
         "--" => return WordKind::EndOfOptions,
         "--show" => return WordKind::Show,
         "--beat" => return WordKind::ValueNext(Valued::Beat),
+        "--workers" => return WordKind::ValueNext(Valued::Workers),
         "--forks" => return WordKind::ValueNext(Valued::Forks),
         "--fuel" => return WordKind::ValueNext(Valued::Fuel),
         _ => {}
     }
     if let Some(value) = word.as_bytes().strip_prefix(b"--beat=") {
         return WordKind::ValueIs(Valued::Beat, value);
+    }
+    if let Some(value) = word.as_bytes().strip_prefix(b"--workers=") {
+        return WordKind::ValueIs(Valued::Workers, value);
     }
     if let Some(value) = word.as_bytes().strip_prefix(b"--forks=") {
         return WordKind::ValueIs(Valued::Forks, value);
@@ -163,26 +172,37 @@ fn with_number(option: Valued, number: u64, chosen: Chosen) -> Option<Chosen>
 {
     let Chosen {
         beat,
+        workers,
         forks,
         fuel,
         show,
     } = chosen;
     let number = Some(number);
-    match (option, beat, forks, fuel) {
-        (Valued::Beat, None, _, _) => Some(Chosen {
+    match (option, beat, workers, forks, fuel) {
+        (Valued::Beat, None, _, _, _) => Some(Chosen {
             beat: number,
+            workers,
             forks,
             fuel,
             show,
         }),
-        (Valued::Forks, _, None, _) => Some(Chosen {
+        (Valued::Workers, _, None, _, _) => Some(Chosen {
             beat,
+            workers: number,
+            forks,
+            fuel,
+            show,
+        }),
+        (Valued::Forks, _, _, None, _) => Some(Chosen {
+            beat,
+            workers,
             forks: number,
             fuel,
             show,
         }),
-        (Valued::Fuel, _, _, None) => Some(Chosen {
+        (Valued::Fuel, _, _, _, None) => Some(Chosen {
             beat,
+            workers,
             forks,
             fuel: number,
             show,
@@ -210,6 +230,7 @@ fn with_show<'a>(given: Gathered<'a>) -> Option<Gathered<'a>>
 {
     let Chosen {
         beat,
+        workers,
         forks,
         fuel,
         show,
@@ -222,6 +243,7 @@ fn with_show<'a>(given: Gathered<'a>) -> Option<Gathered<'a>>
         tables: given.tables,
         options: Chosen {
             beat,
+            workers,
             forks,
             fuel,
             show: true,
@@ -295,6 +317,7 @@ fn options_of(chosen: Chosen) -> RunOptions
 {
     RunOptions {
         beat: chosen.beat.unwrap_or(DEFAULT_BEAT),
+        workers: chosen.workers.unwrap_or(DEFAULT_WORKERS) as u32,
         forks: chosen.forks.unwrap_or(DEFAULT_FORKS) as u32,
         fuel: chosen.fuel.unwrap_or(DEFAULT_FUEL),
         show: chosen.show,
@@ -316,7 +339,11 @@ fn run_of(given: Gathered) -> Option<Request>
 fn is_plain(chosen: Chosen) -> bool
     ensures { result ≡ is_plain (chosen_of chosen) }
 {
-    chosen.beat.is_none() && chosen.forks.is_none() && chosen.fuel.is_none() && !chosen.show
+    chosen.beat.is_none()
+        && chosen.workers.is_none()
+        && chosen.forks.is_none()
+        && chosen.fuel.is_none()
+        && !chosen.show
 }
 
 /// `compile` takes a program alone.
@@ -339,6 +366,7 @@ pub fn asked(words: &[String]) -> Option<Request<'_>>
         tables: None,
         options: Chosen {
             beat: None,
+            workers: None,
             forks: None,
             fuel: None,
             show: false,

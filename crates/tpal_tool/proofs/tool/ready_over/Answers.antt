@@ -6,7 +6,7 @@ use Rattle.tpal_tool.specs.Answering.{Halts, OwesRefusal, RefusesMissing}
 use Rattle.tpal_tool.specs.Asking.{options_seen}
 use Rattle.tpal_tool.specs.Owed.{RunOwes}
 use Rattle.tpal_tool.proofs.Halting.{halts_more, refuses_missing, refuses_tables}
-use Rattle.tpal_tool.proofs.tool.ran_over.Goals as goal
+use Rattle.tpal_tool.proofs.tool.ready_over.Goals as goal
 
 pub returns-in_err-given-clause-halt : goal.returns-in_err-given-clause-halt
 returns-in_err-given-clause-halt c =

@@ -1,7 +1,9 @@
 use Rattle.std.proofs.Common.{◌≡◌, ◌≤◌, rules, Bor, ℕ, List, length, refl, sym, subst}
-use Rattle.std.specs.Prelude.{Option, Some, IfErr, IfOk, IfSome, IsSomeAnd, option_map}
+use Rattle.std.specs.Prelude.{Option, Some, IfSome, IsSomeAnd, option_map}
 use Rattle.tp_value.specs.declared.limits.TheConstants.{MAX_SOURCE_BYTES}
 use Rattle.loop_syntax.specs.declared.program.Program.{Program}
+use Rattle.tpal_tool.specs.declared.prepared.Ready.{Ready}
+use Rattle.tpal_tool.specs.declared.refusal.Halt.{Halt}
 use Rattle.tpal_tool.specs.declared.request.Request.{Request}
 use Rattle.tpal_tool.specs.declared.status.Status.{Status}
 use Rattle.tpal_tool.specs.Answering.{Halts, OwesRefusal, RefusesLength, status_with, whole_of}
@@ -10,10 +12,12 @@ use Rattle.tpal_tool.specs.Lines.{line_of}
 use Rattle.tpal_tool.specs.Owed.{NamedRunOwes, Owed, ReadFailed, program_failed}
 use Rattle.tpal_tool.specs.Shelf.{HasRisen}
 use Rattle.tpal_tool.specs.Verdict.{AcceptsOnly}
-use Rattle.tpal_tool.specs.Words.{Options, Run, program_name}
-use Rattle.tpal_tool.proofs.Endings.{ok_map, compiled-owed, later-failed, run-owed, tables-failed}
-use Rattle.tpal_tool.proofs.Halting.{err_map, halts_more, refuses_long, refuses_source}
-use Rattle.tpal_tool.proofs.tool.request_answer.Goals as goal
+use Rattle.tpal_tool.specs.Words.{Options, Run, program_name, workers_asked}
+use Rattle.tpal_tool.specs.Preparing.{IsReady}
+use Rattle.tpal_tool.proofs.Endings.{compiled-owed, later-failed, run-owed, tables-failed}
+use Rattle.tpal_tool.proofs.Finishing.{ready_more}
+use Rattle.tpal_tool.proofs.Halting.{halts_more, refuses_long, refuses_source}
+use Rattle.tpal_tool.proofs.tool.prepared_request.Goals as goal
 
 pub returns-in_err-source-clause-halt : goal.returns-in_err-source-clause-halt
 returns-in_err-source-clause-halt g c =
@@ -38,29 +42,9 @@ returns-in_err-program-clause-halt g c =
     halts_more c.in_err-program.field-0.0 (refuses_source told (command_of c.args.request) source is_source low) (λ never. absurd never) c.in_err-program.ensures.halt in
     search rules
 
-pub returns-in-Run-clause-answer : goal.returns-in-Run-clause-answer
-returns-in-Run-clause-answer g c =
+pub returns-in_err-ready_named-in-Run-clause-halt : goal.returns-in_err-ready_named-in-Run-clause-halt
+returns-in_err-ready_named-in-Run-clause-halt g c =
     let told : List ℕ → Option (List ℕ) = g.S.Shelf.text c.args.shelf.now in
-    let source : List ℕ = c.deref.result.now in
-    let over : Option (List ℕ) = option_map {T = Bor (List ℕ)} {U = List ℕ} (λ t. t.now) c.in-Run.run'.tables in
-    let is_source : IfSome (told c.in-Run.run'.program.now) (λ t. source ≡ t) =
-    subst (λ (r : Request). IfSome (told (program_name (command_of r))) (λ t. source ≡ t)) c.in-Run.is
-    (subst (λ (name : List ℕ). IfSome (told name) (λ t. source ≡ t)) c.program.ensures
-    (subst (λ (s : List ℕ). IfSome (told c.program.result.now) (λ t. s ≡ t)) (sym c.deref.ensures.value) c.in_ok-source.ensures.told)) in
-    let low : length source ≤ MAX_SOURCE_BYTES = subst (λ (s : List ℕ). length s ≤ MAX_SOURCE_BYTES) (sym c.deref.ensures.value) c.in_ok-source.ensures.within in
-    let only : AcceptsOnly source c.in_ok-program.program = c.in_ok-program.ensures.accepted in
-    let same : g.S.Shelf.text c.fetched.new.shelf ≡ told = λ i other. c.fetched.ensures.texts other i in
-    let owes : IfOk c.ran.result (λ answer. NamedRunOwes c.in_ok-program.program told over (options_seen c.in-Run.run'.options) answer.status (whole_of answer.texts)) =
-    subst (λ (texts : List ℕ → Option (List ℕ)). IfOk c.ran.result (λ answer. NamedRunOwes c.in_ok-program.program texts over (options_seen c.in-Run.run'.options) answer.status (whole_of answer.texts))) same c.ran.ensures.answer in
-    subst (λ (r : Request). IfOk c.ran.result (λ answer. Owed (Some (command_of r)) told answer.status (whole_of answer.texts))) (sym c.in-Run.is)
-    (ok_map c.ran.result (λ answer owed. run-owed told c.in-Run.run'.program.now source over (options_seen c.in-Run.run'.options) c.in_ok-program.program answer.status (whole_of answer.texts) is_source low only owed) owes)
-
-pub returns-in-Run-clause-halt : goal.returns-in-Run-clause-halt
-returns-in-Run-clause-halt g c =
-    let told : List ℕ → Option (List ℕ) = g.S.Shelf.text c.args.shelf.now in
-    let old : List ℕ → ℕ = g.S.Shelf.faults c.args.shelf.now in
-    let mid : List ℕ → ℕ = g.S.Shelf.faults c.fetched.new.shelf in
-    let new : List ℕ → ℕ = g.S.Shelf.faults c.ran.new.shelf in
     let source : List ℕ = c.deref.result.now in
     let name : List ℕ = c.in-Run.run'.program.now in
     let over : Option (List ℕ) = option_map {T = Bor (List ℕ)} {U = List ℕ} (λ t. t.now) c.in-Run.run'.tables in
@@ -73,17 +57,43 @@ returns-in-Run-clause-halt g c =
     let low : length source ≤ MAX_SOURCE_BYTES = subst (λ (s : List ℕ). length s ≤ MAX_SOURCE_BYTES) (sym c.deref.ensures.value) c.in_ok-source.ensures.within in
     let only : AcceptsOnly source program = c.in_ok-program.ensures.accepted in
     let same : g.S.Shelf.text c.fetched.new.shelf ≡ told = λ i other. c.fetched.ensures.texts other i in
-    let halts : IfErr c.ran.result (Halts (OwesRefusal (NamedRunOwes program told over options)) (IsSomeAnd over (λ n. HasRisen (mid n) (new n)))) =
-    subst (λ (texts : List ℕ → Option (List ℕ)). IfErr c.ran.result (Halts (OwesRefusal (NamedRunOwes program texts over options)) (IsSomeAnd over (λ n. HasRisen (mid n) (new n))))) same c.ran.ensures.halt in
-    subst (λ (r : Request). IfErr c.ran.result (Halts (OwesRefusal (Owed (Some (command_of r)) told)) (ReadFailed (Some (command_of r)) told old new))) (sym c.in-Run.is)
-    (err_map c.ran.result
-    (λ h. halts_more h
+    let old : List ℕ → ℕ = g.S.Shelf.faults c.args.shelf.now in
+    let mid : List ℕ → ℕ = g.S.Shelf.faults c.fetched.new.shelf in
+    let new : List ℕ → ℕ = g.S.Shelf.faults c.ready_named.new.shelf in
+    let e : Halt = c.in_err-ready_named-in-Run.field-0.0 in
+    let part : Halts (OwesRefusal (NamedRunOwes program told over options)) (IsSomeAnd over (λ n. HasRisen (mid n) (new n))) e =
+    subst (λ (texts : List ℕ → Option (List ℕ)). Halts (OwesRefusal (NamedRunOwes program texts over options)) (IsSomeAnd over (λ n. HasRisen (mid n) (new n))) e) same c.in_err-ready_named-in-Run.ensures.halt in
+    let halts : Halts (OwesRefusal (Owed (Some (command_of c.args.request)) told)) (ReadFailed (Some (command_of c.args.request)) told old new) e =
+    subst (λ (r : Request). Halts (OwesRefusal (Owed (Some (command_of r)) told)) (ReadFailed (Some (command_of r)) told old new) e) (sym c.in-Run.is)
+    (halts_more e
     (λ r owed. run-owed told name source over options program (status_with r) (line_of r) is_source low only owed)
-    (λ risen. later-failed (Some (Run name over options)) told told old mid new (λ n. refl) c.fetched.ensures.counts (tables-failed told name source over options program mid new is_source low only risen)))
-    halts)
+    (λ risen. later-failed (Some (Run name over options)) told told old mid new (λ n. refl) c.fetched.ensures.counts (tables-failed told name source over options program mid new is_source low only risen))
+    part) in
+    search rules
 
-pub returns-clause-answer : goal.returns-clause-answer
-returns-clause-answer g c =
+pub returns-in-Run-clause-prepared : goal.returns-in-Run-clause-prepared
+returns-in-Run-clause-prepared g c =
+    let told : List ℕ → Option (List ℕ) = g.S.Shelf.text c.args.shelf.now in
+    let source : List ℕ = c.deref.result.now in
+    let name : List ℕ = c.in-Run.run'.program.now in
+    let over : Option (List ℕ) = option_map {T = Bor (List ℕ)} {U = List ℕ} (λ t. t.now) c.in-Run.run'.tables in
+    let options : Options = options_seen c.in-Run.run'.options in
+    let program : Program = c.in_ok-program.program in
+    let is_source : IfSome (told name) (λ t. source ≡ t) =
+    subst (λ (r : Request). IfSome (told (program_name (command_of r))) (λ t. source ≡ t)) c.in-Run.is
+    (subst (λ (n : List ℕ). IfSome (told n) (λ t. source ≡ t)) c.program.ensures
+    (subst (λ (s : List ℕ). IfSome (told c.program.result.now) (λ t. s ≡ t)) (sym c.deref.ensures.value) c.in_ok-source.ensures.told)) in
+    let low : length source ≤ MAX_SOURCE_BYTES = subst (λ (s : List ℕ). length s ≤ MAX_SOURCE_BYTES) (sym c.deref.ensures.value) c.in_ok-source.ensures.within in
+    let only : AcceptsOnly source program = c.in_ok-program.ensures.accepted in
+    let same : g.S.Shelf.text c.fetched.new.shelf ≡ told = λ i other. c.fetched.ensures.texts other i in
+    let run : Ready = c.in_ok-ready_named-in-Run.field-0 in
+    let ready : IsReady (NamedRunOwes program told over options) run.code run.held.items (options_seen run.options) =
+    subst (λ (texts : List ℕ → Option (List ℕ)). IsReady (NamedRunOwes program texts over options) run.code run.held.items (options_seen run.options)) same c.in_ok-ready_named-in-Run.ensures.ready in
+    subst (λ (r : Request). IsReady (Owed (Some (command_of r)) told) run.code run.held.items (options_seen run.options)) (sym c.in-Run.is)
+    (ready_more run.code run.held.items (options_seen run.options) (λ status text owes. run-owed told name source over options program status text is_source low only owes) ready)
+
+pub returns-clause-prepared : goal.returns-clause-prepared
+returns-clause-prepared g c =
     let told : List ℕ → Option (List ℕ) = g.S.Shelf.text c.args.shelf.now in
     let source : List ℕ = c.deref.result.now in
     let status : Status = c.in_ok-compiled-in-Compile.field-0.status in
