@@ -1,13 +1,10 @@
-use Rattle.std.proofs.Common.{◌≡◌, ◌≤◌, ℕ, false, List, length, ap, sym, subst, ◌∙◌, arith}
+use Rattle.std.proofs.Common.{false, List, length, ap, sym, subst, ◌∙◌}
 use Rattle.slices.specs.Holding.{Holding}
 use Rattle.tp_value.specs.declared.values.Outcome.{Outcome}
 use Rattle.loop_meaning.specs.Meaning.{meaning}
-use Rattle.tpal_syntax.specs.Listing.{Listing}
-use Rattle.tpal_machine.specs.declared.ends.Ending.{Ending}
-use Rattle.tpal_machine.specs.declared.ends.Ending.TheVariants.{At, Root}
+use Rattle.tpal_machine.specs.declared.ends.Ending.TheVariants.{Root}
 use Rattle.tpal_machine.specs.Owes.{Owes}
-use Rattle.tpal_machine.specs.State.{State, first_state}
-use Rattle.tpal_machine.proofs.Owing.{no_least}
+use Rattle.tpal_machine.specs.State.{first_state}
 use Rattle.schedule_core.specs.Counting.{tally_of}
 use Rattle.block_lower.specs.Owing.{AreHeld}
 use Rattle.tpal_tool.specs.Asking.{options_seen}

@@ -1,6 +1,5 @@
 use Rattle.std.proofs.Common.{refl, subst}
 use Rattle.std.specs.Prelude.{Result, IfErr, IfOk}
-use Rattle.tp_value.specs.declared.values.NoMemory.{NoMemory}
 use Rattle.tpal_tool.specs.declared.answer.Answer.{Answer}
 use Rattle.tpal_tool.specs.declared.refusal.Halt.{Halt}
 use Rattle.tpal_tool.specs.Answering.{Halts, OwesRefusal, whole_of}

@@ -12,7 +12,7 @@ use Rattle.tpal_tool.specs.Lines.{line_of}
 use Rattle.tpal_tool.specs.Owed.{NamedRunOwes, Owed, ReadFailed, program_failed}
 use Rattle.tpal_tool.specs.Shelf.{HasRisen}
 use Rattle.tpal_tool.specs.Verdict.{AcceptsOnly}
-use Rattle.tpal_tool.specs.Words.{Options, Run, program_name, workers_asked}
+use Rattle.tpal_tool.specs.Words.{Options, Run, program_name}
 use Rattle.tpal_tool.specs.Preparing.{IsReady}
 use Rattle.tpal_tool.proofs.Endings.{compiled-owed, later-failed, run-owed, tables-failed}
 use Rattle.tpal_tool.proofs.Finishing.{ready_more}
