@@ -22,7 +22,6 @@ struct Plan {
 }
 
 /// The first configuration of a program's code, where nothing is given.
-#[tactic(auto, using(block_lower::proofs::Owed::owes_anyhow))]
 fn first(alloc: Global, on: &Compiled, plan: Plan) -> Result<Config, Fail>
     requires owes { OwesMeaning on.now.program on.now.code }
     requires heartbeat { (1 ≤ plan.heartbeat) × (plan.heartbeat ≤ MAX_BEAT) }
