@@ -2,8 +2,9 @@
 # What heartbeats cost compiled programs that one worker runs: those that `lower` of crates/benches
 # counts, and larger ones, at heartbeats from 1 to 10^9. Prints for each, against the run at 10^9: the
 # processor time, the least of RUNS with all in turn, the x86 instructions that callgrind counts (not
-# for the larger ones), the machine's instructions, and the tasks and skipped beats. Words behind the
-# script choose programs by their names. PROGRAM is a built `tpal`, else the repository's is built.
+# for the larger ones, nor for a program that it can't run), the machine's instructions, and the tasks
+# and skipped beats. Words behind the script choose programs by their names. PROGRAM is a built `tpal`,
+# else the repository's is built.
 set -eu
 cd "$(dirname "$0")/.."
 runs=${RUNS:-5}
@@ -68,8 +69,9 @@ def spent(beat):
 
 def executed(beat):
     command = ["valgrind", "--tool=callgrind", "--callgrind-out-file=/dev/null"] + words(beat)
-    told = subprocess.run(command, check=True, capture_output=True, text=True).stderr
-    return int(re.search(r"Collected : (\d+)", told).group(1))
+    told = subprocess.run(command, capture_output=True, text=True).stderr
+    found = re.search(r"Collected : (\d+)", told)
+    return int(found.group(1)) if found else None
 
 def shown(beat):
     told = subprocess.run(words(beat) + ["--show"], check=True, capture_output=True, text=True).stdout
@@ -89,6 +91,8 @@ for name, source in list(small.items()) + list(large.items()):
         for beat in beats:
             times[beat] = min(times[beat], spent(beat))
     steps = {beat: executed(beat) for beat in beats} if name in small else {}
+    if None in steps.values():
+        steps = {}
     plain = beats[0]
     print(f"{name}: {counts[plain]['instructions']} instructions, {times[plain]:.3f} s")
     for beat in beats[1:]:
