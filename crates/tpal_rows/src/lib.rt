@@ -26,6 +26,8 @@ mod rules;
 #[cfg(test)]
 mod running;
 #[cfg(test)]
+mod sample;
+#[cfg(test)]
 mod shown;
 #[cfg(test)]
 mod tables;

@@ -6,6 +6,10 @@ pub mod ThreeTexts
 pub mod Pieces
 -- how a call ends
 pub mod Endings
+-- what a call wrote that came to its end
+pub mod Answered
+-- the promises of the top call, from how it ends
+pub mod Promised
 -- from a run that is ready to what is owed
 pub mod Finishing
 -- why a part of a call halts, and why the whole does
