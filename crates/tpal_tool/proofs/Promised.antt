@@ -1,6 +1,6 @@
 -- The promises of the top call, from how it ends.
 use Rattle.std.proofs.Common.{◌≡◌, ℕ, List, ap, sym, ◌∙◌, arith, subst, inl, inr}
-use Rattle.std.specs.Prelude.{Option, Some, ◌⊎◌}
+use Rattle.std.specs.Prelude.{Option, Some, None, ◌⊎◌}
 use Rattle.tp_value.specs.declared.values.Table.{Table}
 use Rattle.loop_syntax.specs.declared.program.Program.{Program}
 use Rattle.loop_meaning.specs.Answers.{status_of}

@@ -26,20 +26,20 @@ pub returns-clause-ready : goal.returns-clause-ready
 returns-clause-ready c = λ told.
     let options : Options = options_seen c.args.request.options in
     let source : List ℕ = c.deref.result.now in
-    let tables : List ℕ = c.deref-3.result.now in
+    let tables : List ℕ = c.deref-2.result.now in
     let is_source : sample_source ≡ source = sym (c.deref.ensures.value ∙ c.in_ok-sample.ensures.source) in
     let low : length source ≤ MAX_SOURCE_BYTES = subst (λ (s : List ℕ). length s ≤ MAX_SOURCE_BYTES) (sym c.deref.ensures.value) c.in_ok-sample.ensures.source_fits in
-    let is_tables : sample_tables c.args.request.seed 1000 1000 ≡ tables = sym (c.deref-3.ensures.value ∙ c.in_ok-sample.ensures.tables) in
-    let few : length tables ≤ MAX_TABLES_BYTES = subst (λ (t : List ℕ). length t ≤ MAX_TABLES_BYTES) (sym c.deref-3.ensures.value) c.in_ok-sample.ensures.tables_fit in
+    let is_tables : sample_tables c.args.request.seed 1000 1000 ≡ tables = sym (c.deref-2.ensures.value ∙ c.in_ok-sample.ensures.tables) in
+    let few : length tables ≤ MAX_TABLES_BYTES = subst (λ (t : List ℕ). length t ≤ MAX_TABLES_BYTES) (sym c.deref-2.ensures.value) c.in_ok-sample.ensures.tables_fit in
     ok_map c.ready_over.result (λ run is. ready_more run.code run.held.items (options_seen run.options) (λ status text owes. sample-owed told c.args.request.seed options c.in_ok-program.program source tables status text is_source low c.in_ok-program.ensures.accepted is_tables few owes) is) c.ready_over.ensures.ready
 
 pub returns-clause-halt : goal.returns-clause-halt
 returns-clause-halt c = λ told.
     let options : Options = options_seen c.args.request.options in
     let source : List ℕ = c.deref.result.now in
-    let tables : List ℕ = c.deref-3.result.now in
+    let tables : List ℕ = c.deref-2.result.now in
     let is_source : sample_source ≡ source = sym (c.deref.ensures.value ∙ c.in_ok-sample.ensures.source) in
     let low : length source ≤ MAX_SOURCE_BYTES = subst (λ (s : List ℕ). length s ≤ MAX_SOURCE_BYTES) (sym c.deref.ensures.value) c.in_ok-sample.ensures.source_fits in
-    let is_tables : sample_tables c.args.request.seed 1000 1000 ≡ tables = sym (c.deref-3.ensures.value ∙ c.in_ok-sample.ensures.tables) in
-    let few : length tables ≤ MAX_TABLES_BYTES = subst (λ (t : List ℕ). length t ≤ MAX_TABLES_BYTES) (sym c.deref-3.ensures.value) c.in_ok-sample.ensures.tables_fit in
+    let is_tables : sample_tables c.args.request.seed 1000 1000 ≡ tables = sym (c.deref-2.ensures.value ∙ c.in_ok-sample.ensures.tables) in
+    let few : length tables ≤ MAX_TABLES_BYTES = subst (λ (t : List ℕ). length t ≤ MAX_TABLES_BYTES) (sym c.deref-2.ensures.value) c.in_ok-sample.ensures.tables_fit in
     err_map c.ready_over.result (λ h. halts_more h (λ r owes. sample-owed told c.args.request.seed options c.in_ok-program.program source tables (status_with r) (line_of r) is_source low c.in_ok-program.ensures.accepted is_tables few owes) (λ never. never)) c.ready_over.ensures.halt
