@@ -1,5 +1,5 @@
 use Rattle.std.proofs.Common.{◌≡◌, ◌≤◌, rules, ℕ, List, length, sym, subst, ◌∙◌}
-use Rattle.std.specs.Prelude.{Option, Some}
+use Rattle.std.specs.Prelude.{Some}
 use Rattle.tp_value.specs.declared.limits.TheConstants.{MAX_SOURCE_BYTES, MAX_TABLES_BYTES}
 use Rattle.sample_gen.specs.Texts.{sample_source, sample_tables}
 use Rattle.tpal_tool.specs.Answering.{Halts, OwesRefusal, status_with}
