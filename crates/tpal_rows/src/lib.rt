@@ -8,6 +8,8 @@ mod beats;
 #[cfg(test)]
 mod calls;
 #[cfg(test)]
+mod code_texts;
+#[cfg(test)]
 mod compiling;
 #[cfg(test)]
 mod examples;

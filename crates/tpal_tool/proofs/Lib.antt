@@ -22,8 +22,6 @@ pub mod TreeInputs
 pub mod GivenTables
 -- tables that are taken out of the given ones, one by one
 pub mod TakenTables
--- what is held of a table that was taken
-pub mod HeldTables
 -- the declared tables, one by one
 pub mod Declarations
 -- a program that breaks no rule gives its inputs different names
