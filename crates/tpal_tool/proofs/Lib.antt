@@ -14,8 +14,6 @@ pub mod Promised
 pub mod Finishing
 -- why a part of a call halts, and why the whole does
 pub mod Halting
--- the number of blocks that a program is counted with, by its tree alone
-pub mod TreeBlocks
 -- the inputs that a program misses, by its tree alone
 pub mod TreeInputs
 -- the tables of a text have as many cells as they should, and numbers in range
