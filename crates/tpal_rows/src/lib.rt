@@ -12,6 +12,8 @@ mod compiling;
 #[cfg(test)]
 mod examples;
 #[cfg(test)]
+mod faults;
+#[cfg(test)]
 mod fetches;
 #[cfg(test)]
 mod harness;
@@ -21,6 +23,8 @@ mod inputs;
 mod limits;
 #[cfg(test)]
 mod outside;
+#[cfg(test)]
+mod program_limits;
 #[cfg(test)]
 mod rules;
 #[cfg(test)]
