@@ -34,25 +34,33 @@ fn texts_of(alloc: Global, texts: &[(&str, &[u8])]) -> Result<Vec<(String, Vec<u
     Ok(list)
 }
 
-/// Calls with these words, which don't ask for several workers, over a shelf that has these texts by
-/// name, and a sink whose listed calls fail.
-pub fn call_over(
+/// The numbers of the calls of a shelf and of a sink that fail, each of the sink's with the bytes
+/// that it keeps.
+#[derive(Clone, Copy)]
+pub struct Failing<'a> {
+    pub fetches: &'a [u32],
+    pub writes: &'a [(u32, u32)],
+}
+
+/// Calls with these words, which don't ask for several workers, over a shelf that has these texts
+/// by name, where these calls of the shelf and of the sink fail.
+pub fn call_failing(
     alloc: Global,
     words: &[&str],
     texts: &[(&str, &[u8])],
-    fails: Vec<(u32, u32)>,
+    failing: Failing<'_>,
 ) -> Result<Called, AllocError> {
     let words = words_of(alloc, words)?;
     let texts = texts_of(alloc, texts)?;
     let mut shelf = MemShelf {
         texts,
-        fails: Vec::new(alloc),
+        fails: Vec::from_slice(alloc, failing.fetches)?,
         calls: 0,
         faults: 0,
     };
     let mut sink = MemSink {
         bytes: Vec::new(alloc),
-        fails,
+        fails: Vec::from_slice(alloc, failing.writes)?,
         calls: 0,
         faults: 0,
     };
@@ -68,6 +76,21 @@ pub fn call_over(
         fetches: shelf.calls,
         writes: calls,
     })
+}
+
+/// Calls with these words, which don't ask for several workers, over a shelf that has these texts
+/// by name, and a sink whose listed calls fail.
+pub fn call_over(
+    alloc: Global,
+    words: &[&str],
+    texts: &[(&str, &[u8])],
+    fails: Vec<(u32, u32)>,
+) -> Result<Called, AllocError> {
+    let failing = Failing {
+        fetches: &[],
+        writes: &fails,
+    };
+    call_failing(alloc, words, texts, failing)
 }
 
 /// Calls with any words over a shelf that has these texts by name, with that gate.

@@ -14,6 +14,8 @@ mod compiling;
 #[cfg(test)]
 mod examples;
 #[cfg(test)]
+mod faults;
+#[cfg(test)]
 mod fetches;
 #[cfg(test)]
 mod harness;
@@ -23,6 +25,8 @@ mod inputs;
 mod limits;
 #[cfg(test)]
 mod outside;
+#[cfg(test)]
+mod program_limits;
 #[cfg(test)]
 mod rules;
 #[cfg(test)]

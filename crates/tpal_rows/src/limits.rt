@@ -44,7 +44,13 @@ fn the_largest_output_is_written_in_pieces(rt: HostRuntime) -> Result<(), Fail> 
 fn a_second_piece_that_fails_leaves_the_first_and_what_it_kept(
     rt: HostRuntime,
 ) -> Result<(), Fail> {
-    let cases: [(u32, usize); 4] = [(0, 65_536), (1, 65_537), (7_001, 72_537), (99_999, 80_000)];
+    let cases: [(u32, usize); 5] = [
+        (0, 65_536),
+        (1, 65_537),
+        (100, 65_636),
+        (7_001, 72_537),
+        (99_999, 80_000),
+    ];
     let owed = repeated(rt.alloc(), "", "1\n", 40_000, "")?;
     for (kept, length) in cases {
         let fails = Vec::from_slice(rt.alloc(), &[(1, kept)])?;

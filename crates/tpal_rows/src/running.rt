@@ -58,6 +58,19 @@ pub const FIB: &str = "fn fib(n) {
 }
 main { let x = 0; call x = fib(10); print x; }";
 
+/// Pairs of calls below each other.
+pub const DEEP: &str = "fn f(n) {
+  let r = n;
+  if 0 < n {
+    let a = 0;
+    let b = 0;
+    both a = f(n - 1), b = f(0);
+    r = a + b;
+  }
+  return r;
+}
+main { let x = 0; call x = f(";
+
 /// A loop whose last iteration traps.
 pub const LATE_TRAP: &str = "main {
   let z = 0;
@@ -129,7 +142,13 @@ fn programs_without_tables_print(rt: HostRuntime) -> Result<(), Fail> {
 
 #[test]
 fn fuel_runs_out_in_order(rt: HostRuntime) -> Result<(), Fail> {
-    let cases: [(&str, &str, &str, Status); 8] = [
+    let cases: [(&str, &str, &str, Status); 9] = [
+        (
+            "main { loop i in 0..1 { } }",
+            "0",
+            "out of fuel\n",
+            Status::OutOfFuel,
+        ),
         ("main { loop i in 0..3 { } }", "3", "", Status::Done),
         (
             "main { loop i in 0..3 { } }",

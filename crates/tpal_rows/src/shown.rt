@@ -1,7 +1,7 @@
 // Runs that are shown: their code, their output and their counts.
 
-use crate::harness::{Called, call_over};
-use crate::running::{LATE_TRAP, SUM, TWO_TRAPS};
+use crate::harness::{Called, call_over, repeated};
+use crate::running::{DEEP, LATE_TRAP, SUM, TWO_TRAPS};
 use std::alloc::Global;
 use std::test::Fail;
 use tpal_tool::Status;
@@ -55,13 +55,14 @@ fn count(line: &[u8], word: &str) -> Option<u64> {
 #[test]
 fn a_run_is_shown_without_a_beat(rt: HostRuntime) -> Result<(), Fail> {
     let tables = "table a 4 1 1 2 3 4";
-    let options = ["--beat", "1000000000"];
-    let called = shown(rt.alloc(), SUM, tables, &options, Vec::new(rt.alloc()))?;
-    let rest = behind_code(rt.alloc(), SUM, &called)?;
-    assert_eq!(rt; called.status, Status::Done);
-    assert!(rt; rest.starts_with(b"10\ntasks 0 beats 0 skipped 0 instructions "));
-    assert!(rt; rest.ends_with(b" ticks 4\n"));
-    assert_eq!(rt; called.writes, 3);
+    for options in [["--beat", "1000000000"], ["--beat=1", "--forks=0"]] {
+        let called = shown(rt.alloc(), SUM, tables, &options, Vec::new(rt.alloc()))?;
+        let rest = behind_code(rt.alloc(), SUM, &called)?;
+        assert_eq!(rt; called.status, Status::Done);
+        assert!(rt; rest.starts_with(b"10\ntasks 0 beats 0 skipped 0 instructions "));
+        assert!(rt; rest.ends_with(b" ticks 4\n"));
+        assert_eq!(rt; called.writes, 3);
+    }
     Ok(())
 }
 
@@ -82,6 +83,25 @@ fn a_beat_makes_a_task_or_is_skipped(rt: HostRuntime) -> Result<(), Fail> {
         assert_eq!(rt; beats, tasks, "{beat}, {forks}");
         assert_eq!(rt; count(line, "ticks"), Some(4), "{beat}, {forks}");
     }
+    Ok(())
+}
+
+#[test]
+fn a_beat_without_a_free_record_is_skipped(rt: HostRuntime) -> Result<(), Fail> {
+    // Each call but the last forks, and the children wait: the last ones find no record.
+    let source = repeated(rt.alloc(), DEEP, "1000", 1, "); print x; }")?;
+    let source = str::from_utf8(&source).or(Err("a source"))?;
+    let called = shown(rt.alloc(), source, "", &["--beat=1"], Vec::new(rt.alloc()))?;
+    let rest = behind_code(rt.alloc(), source, &called)?;
+    let line = rest
+        .strip_prefix(b"0\n")
+        .ok_or("the output behind the code")?;
+    let tasks = count(line, "tasks").ok_or("tasks")?;
+    let skipped = count(line, "skipped").ok_or("skipped")?;
+    assert_eq!(rt; called.status, Status::Done);
+    assert!(rt; tasks >= 64 && skipped >= 1);
+    assert_eq!(rt; count(line, "beats"), tasks.checked_add(skipped));
+    assert_eq!(rt; count(line, "ticks"), Some(2001));
     Ok(())
 }
 

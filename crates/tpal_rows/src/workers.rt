@@ -1,8 +1,8 @@
 // Runs by several workers. What they print, and how they end, is what their meaning says.
 
 use crate::beats::ROWS;
-use crate::harness::call_beside;
-use crate::running::SUM;
+use crate::harness::{call_beside, repeated};
+use crate::running::{DEEP, SUM};
 use crossbeam_utils::Backoff;
 use std::sync::atomic::{AtomicBool, Ordering};
 use std::test::Fail;
@@ -33,6 +33,22 @@ fn no_number_of_workers_changes_what_is_printed(rt: HostRuntime) -> Result<(), F
             );
             assert_eq!(rt; called.status, status, "{workers}: {source}");
         }
+    }
+    Ok(())
+}
+
+#[test]
+fn pairs_of_calls_are_at_most_ten_thousand_deep(rt: HostRuntime) -> Result<(), Fail> {
+    let cases: [(&str, &[u8], Status); 2] = [
+        ("9999", b"0\n", Status::Done),
+        ("10000", b"trap Deep at 6:14\n", Status::Trap),
+    ];
+    for (calls, text, status) in cases {
+        let source = repeated(rt.alloc(), DEEP, calls, 1, "); print x; }")?;
+        let words = ["run", "p", "--beat", "1", "--workers", "4"];
+        let called = call_beside(&rt, &words, &[("p", &source)], &NoGate)?;
+        assert_eq!(rt; called.text.as_slice(), text, "{calls}");
+        assert_eq!(rt; called.status, status, "{calls}");
     }
     Ok(())
 }
