@@ -1,7 +1,6 @@
 -- The definitions, computed where the answers are known.
-use Rattle.std.proofs.Common.{◌≡◌, pos, [], ◌∷◌, map, refl, length}
+use Rattle.std.proofs.Common.{◌≡◌, pos, [], ◌∷◌, map, refl}
 use Rattle.sample_gen.specs.Cells.{state_after, sample_rows}
-use Rattle.sample_gen.specs.Texts.{sample_source}
 
 pub states_of_1 :
     map (state_after 1) (1 ∷ 2 ∷ 3 ∷ 4 ∷ [])
@@ -12,7 +11,3 @@ states_of_1 = refl
 pub cells_of_1 : sample_rows 1 2 2 ≡ (pos 496 ∷ pos 200 ∷ []) ∷ (pos 46 ∷ pos 195 ∷ []) ∷ []
 unfolding state_after
 cells_of_1 = refl
-
-pub length_of_source : length sample_source ≡ 503
-unfolding sample_source
-length_of_source = refl
