@@ -143,7 +143,7 @@ in_program p = 8 + sum_by in_table p.tables + sum_by in_func p.funcs + in_nodes 
 pub program_same : (p : Program) → blocks_of_program p ≡ in_program (program_of p)
 program_same p =
     two_same (two_same (ap (λ n. 8 + n) (sums_same blocks_of_decl in_table table_of decl_same
-                p.tables.items))
+    p.tables.items))
     (sums_same blocks_of_func in_func func_of func_same p.funcs.items))
     (list_same p.main.items)
 

@@ -18,9 +18,9 @@ is_column = record {
   full = refl;
   ranged = record {
     cells = All-cons InRange (pos 1) (pos 2 ∷ pos 3 ∷ pos 4 ∷ []) tt
-    (All-cons InRange (pos 2) (pos 3 ∷ pos 4 ∷ []) tt
-    (All-cons InRange (pos 3) (pos 4 ∷ []) tt
-    (All-cons InRange (pos 4) [] tt (All-nil InRange))));
+        (All-cons InRange (pos 2) (pos 3 ∷ pos 4 ∷ []) tt
+        (All-cons InRange (pos 3) (pos 4 ∷ []) tt
+        (All-cons InRange (pos 4) [] tt (All-nil InRange))));
     rows = tt;
     cols = tt;
   };

@@ -12,8 +12,7 @@ returns-then-blocks-clause-accepted c source reads_as =
 pub returns-clause-halt : goal.returns-clause-halt
 returns-clause-halt c source reads_as =
     let counted : c.block_count-blocks.result ≡ blocks_of_program c.args.program =
-    omega (arith, c.block_count-blocks.ensures, c.requires.few) in
-    (
+    omega (arith, c.block_count-blocks.ensures, c.requires.few) in (
       refl,
       too_many-only source c.args.program (blocks_line c.block_count-blocks.result) reads_as
           c.requires.unbroken (omega (arith, c.if-blocks.false, counted)) (ap blocks_line counted),
