@@ -88,7 +88,7 @@ pub fn held(alloc: Global, on: &Compiled) -> Result<Option<Vec<Held>>, NoMemory>
     match on.program.program().tables.as_slice() {
         [] => Ok(Some(Vec::new(alloc))),
         [TableDecl::Made(_, _, _)] => Ok(Some(vec![in alloc; Held::none(alloc, 0, 0)]?)),
-        [TableDecl::Input(name)] if name.text.as_slice() == b"a" => {
+        [TableDecl::Input(name)] if name.text.as_slice() == b"a".as_slice() => {
             let cells = Vec::from_slice(alloc, &[1, 2, 3, 4])?;
             Ok(Some(vec![in alloc; Held::whole(4, 1, cells)]?))
         }

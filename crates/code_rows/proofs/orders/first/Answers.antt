@@ -1,6 +1,7 @@
-use Rattle.std.proofs.Common.{◌≡◌, false, true, List, [], ◌∷◌, refl, sym, subst}
+use Rattle.std.proofs.Common.{◌≡◌, ℕ, ◌≤◌, false, List, [], ◌∷◌, refl, sym, subst, arith}
+use Rattle.std.proofs.lemmas.Int.{ints}
 use Rattle.std.proofs.lemmas.List.Elements.{All-cons, All-nil}
-use Rattle.std.specs.Prelude.{ℤ, All, pos}
+use Rattle.std.specs.Prelude.{All, pos}
 use Rattle.slices.specs.Holding.{Holding}
 use Rattle.tp_value.specs.declared.values.Table.{Table}
 use Rattle.loop_syntax.specs.declared.program.TableDecl.{TableDecl}
@@ -13,16 +14,19 @@ use Rattle.block_lower.proofs.Owed.{owes_anyhow}
 use Rattle.code_rows.specs.Owed.{column, given_to, owed}
 use Rattle.code_rows.proofs.orders.first.Goals as goal
 
+in_range : (n : ℕ) → n ≤ 4 → InRange (pos n)
+in_range n few = omega (arith, ints, few)
+
 is_column : IsTable column
 is_column = record {
   full = refl;
   ranged = record {
-    cells = All-cons InRange (pos 1) (pos 2 ∷ pos 3 ∷ pos 4 ∷ []) tt
-        (All-cons InRange (pos 2) (pos 3 ∷ pos 4 ∷ []) tt
-        (All-cons InRange (pos 3) (pos 4 ∷ []) tt
-        (All-cons InRange (pos 4) [] tt (All-nil InRange))));
-    rows = tt;
-    cols = tt;
+    cells = All-cons InRange (pos 1) (pos 2 ∷ pos 3 ∷ pos 4 ∷ []) (in_range 1 (omega arith))
+    (All-cons InRange (pos 2) (pos 3 ∷ pos 4 ∷ []) (in_range 2 (omega arith))
+    (All-cons InRange (pos 3) (pos 4 ∷ []) (in_range 3 (omega arith))
+    (All-cons InRange (pos 4) [] (in_range 4 (omega arith)) (All-nil InRange))));
+    rows = in_range 4 (omega arith);
+    cols = in_range 1 (omega arith);
   };
 }
 
