@@ -22,9 +22,9 @@ is_column = record {
   full = refl;
   ranged = record {
     cells = All-cons InRange (pos 1) (pos 2 ∷ pos 3 ∷ pos 4 ∷ []) (in_range 1 (omega arith))
-    (All-cons InRange (pos 2) (pos 3 ∷ pos 4 ∷ []) (in_range 2 (omega arith))
-    (All-cons InRange (pos 3) (pos 4 ∷ []) (in_range 3 (omega arith))
-    (All-cons InRange (pos 4) [] (in_range 4 (omega arith)) (All-nil InRange))));
+        (All-cons InRange (pos 2) (pos 3 ∷ pos 4 ∷ []) (in_range 2 (omega arith))
+        (All-cons InRange (pos 3) (pos 4 ∷ []) (in_range 3 (omega arith))
+        (All-cons InRange (pos 4) [] (in_range 4 (omega arith)) (All-nil InRange))));
     rows = in_range 4 (omega arith);
     cols = in_range 1 (omega arith);
   };
