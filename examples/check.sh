@@ -38,6 +38,16 @@ for program in *.tpal; do
   ends "$name" 0 "$name.out" run "$program" ${tables[@]+"${tables[@]}"}
 done
 
+# What a sample prints, whichever way its run goes.
+sample() {
+  printf '%s\n' -1841916167788486091 330540374171 524419 >"$work/text"
+  ends "a sample, $*" 0 "$work/text" sample 1 "$@"
+}
+
+sample
+sample --workers 4
+sample --workers=4 --beat=1
+
 owes 'a trap' 1 'main { print 7; print 1 / 0; }' '7\ntrap Divide at 1:25\n'
 owes 'a run out of fuel' 2 'main { while 1 { } }' 'out of fuel\n' --fuel 1000
 owes 'a refused program' 3 'main { print 1 + ; }' 'refused E3 at 1:18\n'
@@ -47,6 +57,7 @@ ends 'an absent file' 5 "$work/text" run "$work/absent"
 printf 'bad words\n' >"$work/text"
 ends 'no words' 7 "$work/text"
 ends 'a word too many' 7 "$work/text" compile hello.tpal hello.tpal
+ends 'no seed' 7 "$work/text" sample hello.tpal
 
 if [ -e /dev/full ]; then
   status=0

@@ -27,6 +27,7 @@ use Rattle.expr_lower.specs.Leaving.{moved}
 use Rattle.expr_lower.specs.Standing.{Remains}
 use Rattle.expr_lower.proofs.Registers.{register_set, register_other}
 use Rattle.expr_lower.proofs.Standing.{next, behind}
+use Rattle.handler_gen.proofs.Words.{word_same, word_other}
 use Rattle.block_lower.specs.Code.{Computes, Operand, number, computed, Arguments, no_argument, one_argument, parameter_cell, passed, store}
 use Rattle.block_lower.specs.Layout.{value_cell, kept_cell, Activation}
 use Rattle.block_lower.proofs.Results.{Result, result, then}
@@ -35,7 +36,6 @@ use Rattle.block_lower.proofs.Showing.{shows_words, shows_new}
 use Rattle.block_lower.proofs.Simple.{stores_in, still_shows}
 use Rattle.block_lower.proofs.Values.{ExprLaw, operand_is}
 use Rattle.block_lower.proofs.Variables.{AreHeld, var_names}
-use Rattle.block_lower.proofs.Words.{word_same, word_other}
 
 -- ---- numbers in cells
 

@@ -39,6 +39,7 @@ use Rattle.tpal_machine.proofs.Kit.{Back, on_calc}
 use Rattle.expr_lower.specs.Standing.{Remains}
 use Rattle.expr_lower.proofs.Registers.{register_set, register_other}
 use Rattle.expr_lower.proofs.Standing.{next, behind}
+use Rattle.handler_gen.proofs.Words.{word_same, word_other, words_as_many}
 use Rattle.block_lower.specs.Code.{Opens, call_entry, parameter_cell}
 use Rattle.block_lower.specs.Code.{store, to}
 use Rattle.block_lower.specs.Layout.{return_cell, levels_cell, value_cell, Entry}
@@ -57,7 +58,6 @@ use Rattle.block_lower.proofs.Scene.{Scene, Near, Shows, ShowsIn, header, runs_k
 use Rattle.block_lower.proofs.Showing.{as_many}
 use Rattle.block_lower.proofs.Simple.{stores_in}
 use Rattle.block_lower.proofs.Variables.{AreHeld, held_same, var_names}
-use Rattle.block_lower.proofs.Words.{word_same, word_other, words_as_many}
 
 -- ---- numbers
 

@@ -35,6 +35,7 @@ use Rattle.expr_lower.proofs.Standing.{at_end, behind, next}
 use Rattle.handler_gen.proofs.Marks.{on_prmpush}
 use Rattle.handler_gen.specs.LoopCuts.{loop_mark}
 use Rattle.handler_gen.specs.Sites.{first_label, split_label}
+use Rattle.handler_gen.proofs.Words.{word_other, word_same, words_as_many}
 use Rattle.block_lower.specs.Code.{store, to}
 use Rattle.block_lower.specs.DeepMarked.{next_begun}
 use Rattle.block_lower.specs.Layout.{Activation, base_register, bound_cell, levels_cell, value_cell}
@@ -51,7 +52,6 @@ use Rattle.block_lower.proofs.Scene.{ShowsIn}
 use Rattle.block_lower.proofs.Simple.{stores_in}
 use Rattle.block_lower.proofs.Values.{ExprLaw}
 use Rattle.block_lower.proofs.Variables.{held_same}
-use Rattle.block_lower.proofs.Words.{word_other, word_same, words_as_many}
 
 module _ {code : Listing} {heartbeat z : ℕ} {act : Activation} (d : Deep code heartbeat z act)
     (i : d.S.World) (st : meaning.State) (task : machine.State)

@@ -32,6 +32,7 @@ use Rattle.tpal_machine.proofs.Kit.{Back, on_calc, on_load}
 use Rattle.expr_lower.specs.Standing.{Remains}
 use Rattle.expr_lower.proofs.Registers.{register_other, register_set}
 use Rattle.expr_lower.proofs.Standing.{behind, next}
+use Rattle.handler_gen.proofs.Words.{word_other, word_same, words_as_many}
 use Rattle.block_lower.specs.Code.{load, store, to}
 use Rattle.block_lower.specs.DeepMarked.{next_begun}
 use Rattle.block_lower.specs.Layout.{Activation, levels_cell, value_cell}
@@ -47,7 +48,6 @@ use Rattle.block_lower.proofs.Scene.{Same, ShowsIn}
 use Rattle.block_lower.proofs.Showing.{as_many}
 use Rattle.block_lower.proofs.Simple.{stores, stores_in}
 use Rattle.block_lower.proofs.Variables.{AreHeld, held_in_range, held_same}
-use Rattle.block_lower.proofs.Words.{word_other, word_same, words_as_many}
 
 module _ {code : Listing} {heartbeat z : ℕ} {act : Activation} (d : Deep code heartbeat z act)
     (stood : Bool) (n : ℕ) (m j : ℤ) (i : Piece d.S.World) (st : meaning.State)

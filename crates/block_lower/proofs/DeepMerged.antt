@@ -43,6 +43,7 @@ use Rattle.join_gen.specs.LoopJoins.{Combines, JoinsLoop, ops_of, with_numbers}
 use Rattle.expr_lower.specs.declared.scope.Scope.{Scope}
 use Rattle.expr_lower.specs.Scopes.{HasTable}
 use Rattle.block_lower.specs.Layout.{Activation, levels_cell}
+use Rattle.block_lower.proofs.AtHandlers.{MergesTo}
 use Rattle.block_lower.proofs.Changing.{Changed, changed_back, changed_more, changed_trans}
 use Rattle.block_lower.proofs.Changing.{iterations_change}
 use Rattle.block_lower.proofs.CutTables.{rest_tables}
@@ -65,7 +66,6 @@ use Rattle.block_lower.proofs.JoinsSides.{left_side}
 use Rattle.block_lower.proofs.MergedOutputs.{merge_printed, printing, printing_ended}
 use Rattle.block_lower.proofs.MergedStacks.{HasMerged, rest_holds}
 use Rattle.block_lower.proofs.OldestStacks.{merged_has}
-use Rattle.block_lower.proofs.OwnCuts.{MergesTo}
 use Rattle.block_lower.proofs.OwnWork.{own_rest}
 use Rattle.block_lower.proofs.PairPromises.{begun_rest, is_begun_by, output_of}
 use Rattle.block_lower.proofs.Parts.{IsKnown, rest_extent}

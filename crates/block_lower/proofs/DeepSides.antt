@@ -36,7 +36,6 @@ use Rattle.block_lower.specs.Layout.{Activation, cursor_cell, levels_cell, value
 use Rattle.block_lower.proofs.Activations.{StandsFrom, clear_above}
 use Rattle.block_lower.proofs.Changing.{Changed, agree_fewer}
 use Rattle.block_lower.proofs.CutGaps.{is_short}
-use Rattle.block_lower.proofs.CutStacks.{HasLoop}
 use Rattle.block_lower.proofs.CutTables.{child_tables}
 use Rattle.block_lower.proofs.DeepScenes.{Deep, between, before_of, can_of, cells_are, clear_of}
 use Rattle.block_lower.proofs.DeepScenes.{enough_of, goal_of, marks_of, outer_of, own_marks}
@@ -47,7 +46,7 @@ use Rattle.block_lower.proofs.JoinsRuns.{accs_round}
 use Rattle.block_lower.proofs.JoinsSides.{child_side, left_side}
 use Rattle.block_lower.proofs.Moves.{calm}
 use Rattle.block_lower.proofs.OldestCuts.{IsOldestCut}
-use Rattle.block_lower.proofs.OldestStacks.{child_has, child_header, child_top}
+use Rattle.block_lower.proofs.OldestStacks.{HasLoop, child_has, child_header, child_top}
 use Rattle.block_lower.proofs.OwnWork.{IsCutSite, OwnCut, own_child}
 use Rattle.block_lower.proofs.Pieces.{Apart, Host, Piece}
 use Rattle.block_lower.proofs.Regions.{AreShown, Region}

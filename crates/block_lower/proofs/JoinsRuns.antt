@@ -187,7 +187,7 @@ module _ (p : Program) (fuel room : ℕ) (l : ParLoop) (again begin : List Note)
 
 -- ---- variables with accumulators
 
-assign_other : (vs : List Variable) (x y : List ℕ) (n : ℤ) → bytes_eq x y ≡ false
+pub assign_other : (vs : List Variable) (x y : List ℕ) (n : ℤ) → bytes_eq x y ≡ false
     → lookup (assign vs x n) y ≡ lookup vs y
 assign_other [] x y n differ = refl
 assign_other (v ∷ vs) x y n differ = go (bytes_eq v.name x) refl (assign_other vs x y n differ)

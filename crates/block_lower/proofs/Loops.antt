@@ -42,6 +42,7 @@ use Rattle.expr_lower.specs.Leaving.{moved, moved_to}
 use Rattle.expr_lower.specs.Standing.{Remains}
 use Rattle.expr_lower.proofs.Registers.{register_set, register_other}
 use Rattle.expr_lower.proofs.Standing.{next, behind}
+use Rattle.handler_gen.proofs.Words.{word_same, word_other}
 use Rattle.block_lower.specs.Code.{Computes, Opens, to, store, load, below_test, step_up}
 use Rattle.block_lower.specs.Layout.{value_cell, bound_cell, Activation}
 use Rattle.block_lower.proofs.Choices.{enters, leaving}
@@ -55,7 +56,6 @@ use Rattle.block_lower.proofs.Showing.{shows_ticked, shows_left}
 use Rattle.block_lower.proofs.Simple.{stores, still_shows}
 use Rattle.block_lower.proofs.Ticks.{ticks}
 use Rattle.block_lower.proofs.Values.{ExprLaw, computes, literal_value}
-use Rattle.block_lower.proofs.Words.{word_same, word_other}
 
 -- ---- the scene of a loop's body: its variable and its bound are kept
 

@@ -46,6 +46,7 @@ use Rattle.expr_lower.specs.Leaving.{Keeps, moved}
 use Rattle.expr_lower.specs.Standing.{Remains}
 use Rattle.expr_lower.proofs.Registers.{register_set, register_other}
 use Rattle.expr_lower.proofs.Standing.{next, behind}
+use Rattle.handler_gen.proofs.Words.{word_same}
 use Rattle.block_lower.specs.Code.{Computes, store, load}
 use Rattle.block_lower.specs.Layout.{kept_cell, Activation}
 use Rattle.block_lower.specs.Main.{Makes, no_table, input_table, made_table, made_kept_table, table_name}
@@ -59,7 +60,6 @@ use Rattle.block_lower.specs.Owing.{IsTable, AreDeclared, AreNamed, IsWholeOf, A
 use Rattle.block_lower.proofs.Regions.{AreShown, Region, everywhere, wholly_shown}
 use Rattle.block_lower.proofs.Tables.{AreWhole}
 use Rattle.block_lower.proofs.Values.{ExprLaw, computes}
-use Rattle.block_lower.proofs.Words.{word_same}
 
 -- ---- tables that are wholly held
 

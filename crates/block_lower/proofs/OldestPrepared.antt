@@ -1,6 +1,6 @@
 -- A diverted task whose oldest mark is that of a `par` comes to its handler, with the rows of
 -- carries in their registers.
-use Rattle.std.proofs.Common.{◌≡◌, ℕ, ◌+◌, ◌≤◌, Bool, true, false, cond, All, List, [], ◌∷◌}
+use Rattle.std.proofs.Common.{◌≡◌, ℕ, suc, ◌+◌, ◌≤◌, Bool, true, false, cond, All, List, [], ◌∷◌}
 use Rattle.std.proofs.Common.{length, refl, ap, sym, subst, ◌∙◌, arith, Some}
 use Rattle.std.proofs.lemmas.List.{length-set}
 use Rattle.std.specs.Prelude.{pos, slice_get, slice_set}
@@ -43,10 +43,25 @@ use Rattle.block_lower.proofs.Moves.{opened, calm}
 use Rattle.block_lower.proofs.OldestCuts.{IsOldestCut}
 use Rattle.block_lower.proofs.OldestVariables.{fixed_lookup}
 use Rattle.block_lower.proofs.OwnWork.{OwnCut, IsCutSite}
-use Rattle.block_lower.proofs.Prepared.{IsPrepared, as_many_carries}
-use Rattle.block_lower.proofs.RowLoads.{AreFound, loads_rows, no_rows, rows_read}
+use Rattle.block_lower.proofs.RowLoads.{AreFound, HaveRows, loads_rows, no_rows, rows_read}
 use Rattle.block_lower.proofs.Seeing.{seen_variable}
 use Rattle.block_lower.proofs.Variables.{var_names}
+
+-- a task that comes to the handler's first block: the rows of the carries are in their registers
+pub record IsPrepared (c : OwnCut) (state : State) (words : List Word) (beat : BeatState) : Type 0
+  where
+    pub size : length words ≡ 32
+    pub base : register words 28 ≡ Int (pos c.z)
+    pub high : (r : ℕ) → 30 ≤ r → register words r ≡ register state.registers r
+    pub quiet : beat.quiet ≡ state.beat.quiet
+    pub granted : beat.granted ≡ state.beat.granted
+    pub rows : HaveRows c.vars 0 c.loop.carries.items words
+
+-- as many carries as before
+pub as_many_carries : (scope : Scope) (before : ℕ) (cs : List Carry)
+    → length (carries_from scope before cs) ≡ length cs
+as_many_carries scope before [] = refl
+as_many_carries scope before (c ∷ cs) = ap suc (as_many_carries scope (suc before) cs)
 
 -- the rows of carries are found, where they are variables round the loop that it doesn't reduce
 rows_found : (scope : Scope) (names tables : List (List ℕ)) (s : StackValue) (z : ℕ)

@@ -1,9 +1,8 @@
 -- What the parts of a cut have on their stacks, where more may stand above the activation of the
 -- loop that is cut.
 use Rattle.std.proofs.Common.{◌≡◌, ◌≢◌, ℕ, ◌+◌, ◌-◌, ◌<◌, ◌≤◌, Bool, true, false, cond, All, List}
-use Rattle.std.proofs.Common.{[]}
-use Rattle.std.proofs.Common.{◌∷◌, ◌++◌, length, Some, None, drop, take, refl, ap, sym, subst, ◌∙◌}
-use Rattle.std.proofs.Common.{arith}
+use Rattle.std.proofs.Common.{[], ◌∷◌, ◌++◌, length, Some, None, drop, take, refl, ap, sym, subst}
+use Rattle.std.proofs.Common.{◌∙◌, arith}
 use Rattle.std.proofs.lemmas.List.{length-drop, length-set, length-take-le}
 use Rattle.std.specs.Prelude.{ℤ, pos, nat_le, filter, slice_set}
 use Rattle.std.specs.List.{AllByRecursion}
@@ -14,7 +13,8 @@ use Rattle.loop_meaning.specs.declared.value.Variable.{Variable}
 use Rattle.loop_rules.specs.Names.{is_in, operator_of}
 use Rattle.frame_machine.specs.Joins.{SameRound, units_for}
 use Rattle.frame_machine.specs.Lawful.{Distinct}
-use Rattle.stack_marks.specs.Stacks.{StackValue, rest_of, without_oldest, word_at}
+use Rattle.stack_marks.specs.Stacks.{StackValue, rest_of, without_oldest, word_at, child_of}
+use Rattle.stack_marks.specs.Stacks.{with_word}
 use Rattle.stack_marks.specs.declared.mark.Mark.{Mark}
 use Rattle.tp_value.specs.declared.Op.{Op}
 use Rattle.tpal_syntax.specs.Listing.{Listing}
@@ -25,15 +25,14 @@ use Rattle.expr_lower.specs.Scopes.{offset_of}
 use Rattle.handler_gen.specs.LoopCuts.{left_cells, child_cells, loop_mark, with_units}
 use Rattle.handler_gen.specs.Sites.{IsLoopSite}
 use Rattle.handler_gen.proofs.Cells.{Has, marks_units}
-use Rattle.handler_gen.proofs.CutCells.{child_2, child_cursor, child_rec, child_word}
-use Rattle.handler_gen.proofs.CutCells.{has_child_2, left_bound, left_rec, left_word}
+use Rattle.handler_gen.proofs.CutCells.{child_2, child_cursor, child_rec, child_word, has_child_2}
+use Rattle.handler_gen.proofs.CutCells.{left_bound, left_rec, left_word, child_of_word}
 use Rattle.handler_gen.proofs.Marks.{le_true}
 use Rattle.handler_gen.proofs.Offsets.{bound_in, cells_of, cursor_in, rec_in}
 use Rattle.join_gen.specs.LoopJoins.{with_numbers}
 use Rattle.block_lower.specs.Fitting.{level_of}
 use Rattle.block_lower.specs.Layout.{Activation, value_cell}
 use Rattle.block_lower.proofs.Activations.{StandsFrom}
-use Rattle.block_lower.proofs.CutStacks.{HasLoop, begun_word, units_base, units_many}
 use Rattle.block_lower.proofs.Fixed.{AreFixed, fixed_same}
 use Rattle.block_lower.proofs.MergedStacks.{HasMerged, rest_has, rest_many, rest_word}
 use Rattle.block_lower.proofs.OldestCuts.{IsOldestCut}
@@ -46,11 +45,30 @@ use Rattle.block_lower.proofs.Seeing.{cell_of_level, seen_variable}
 use Rattle.block_lower.proofs.Sides.{numbers_in}
 use Rattle.block_lower.proofs.SiteCells.{accs_are, as_many, bound_accs, bound_is, bound_rec}
 use Rattle.block_lower.proofs.SiteCells.{below_accs, cells_are, cursor_accs, cursor_bound}
-use Rattle.block_lower.proofs.SiteCells.{cursor_is}
-use Rattle.block_lower.proofs.SiteCells.{cursor_rec, rec_accs, rec_is, reduced, reduced_in, sees}
-use Rattle.block_lower.proofs.SiteCells.{variable_in, variable_no_cursor, variable_no_rec}
+use Rattle.block_lower.proofs.SiteCells.{cursor_is, cursor_rec, rec_accs, rec_is, reduced}
+use Rattle.block_lower.proofs.SiteCells.{reduced_in, sees, variable_in, variable_no_cursor}
+use Rattle.block_lower.proofs.SiteCells.{variable_no_rec, variable_no_bound}
 use Rattle.block_lower.proofs.UnbrokenSpots.{at_level}
 use Rattle.block_lower.proofs.Variables.{AreHeld, held_same}
+use Rattle.reduce_ops.specs.Reduction.{unit}
+use Rattle.stack_marks.specs.Causes.{Holds}
+use Rattle.tpal_syntax.specs.declared.sites.LoopSite.{LoopSite}
+use Rattle.handler_gen.proofs.Words.{word_other, words_as_many}
+
+-- A stack begins with the activation of a loop. The loop has a record, these iterations are left,
+-- the variables have these values, and these marks stand. All else in the activation is as on the
+-- stack that was cut.
+pub record HasLoop (c : OwnCut) (k : ℕ) (next end : ℤ) (vs : List Variable) (marks : List Mark)
+    (s t : StackValue) : Type 0 where
+  pub base : t.base ≡ c.z
+  pub marked : t.marks ≡ marks
+  pub rec : word_at t (pos (c.z + c.site.rec)) ≡ Some (Rec k)
+  pub cursor : word_at t (pos (c.z + c.site.cursor)) ≡ Some (Int next)
+  pub bound : word_at t (pos (c.z + c.site.bound)) ≡ Some (Int end)
+  pub vars : AreHeld t c.z 0 vs
+  pub others : (off : ℕ) → off < c.site.cells → off ≢ c.site.rec → off ≢ c.site.cursor
+      → off ≢ c.site.bound → All (λ x. off ≢ x) (cells_of c.site.accs)
+      → word_at t (pos (c.z + off)) ≡ word_at s (pos (c.z + off))
 
 -- A stack begins with the activation of a loop, which has a record and another bound, and these
 -- marks stand. All else from there on is as on the stack that was cut.
@@ -73,6 +91,31 @@ all_from : (z : ℕ) (ms : List Mark) → AllByRecursion (StandsFrom z) ms
 all_from z [] from = refl
 all_from z (m ∷ ms) from =
     rw (le_true z m.at from.0) (ap (λ (rest : List Mark). m ∷ rest) (all_from z ms from.1))
+
+-- ---- stores
+
+-- units leave the base of a stack and the number of its cells
+units_base : (accs : List (ℕ × Op)) (s : StackValue) (z : ℕ) → (with_units accs z s).base ≡ s.base
+units_base [] s z = refl
+units_base (a ∷ accs) s z = units_base accs (with_word s (pos (z + a.0)) (Int (unit a.1))) z
+
+units_many : (accs : List (ℕ × Op)) (s : StackValue) (z : ℕ)
+    → length (with_units accs z s).cells ≡ length s.cells
+units_many [] s z = refl
+units_many (a ∷ accs) s z =
+    units_many accs (with_word s (pos (z + a.0)) (Int (unit a.1))) z
+    ∙ words_as_many s (z + a.0) (Int (unit a.1))
+
+-- the child before its units are stored
+begun_word : (site : LoopSite) (z k : ℕ) (place : ℤ) (s : StackValue) (held : Holds s z site.cells)
+    (off : ℕ) → off < site.cells → off ≢ site.rec → off ≢ site.cursor
+    → word_at (child_2 site z k place s held) (pos (z + off)) ≡ word_at s (pos (z + off))
+begun_word site z k place s held off inside not_rec not_cursor =
+    word_other (with_word (child_of s z site.cells) (pos (z + site.rec)) (Rec k))
+    (z + site.cursor) (z + off) (Int place) (omega arith) (λ e. not_cursor (omega (arith, e)))
+    ∙ (word_other (child_of s z site.cells) (z + site.rec) (z + off) (Rec k) (omega arith)
+    (λ e. not_rec (omega (arith, e)))
+    ∙ child_of_word s z site.cells off held inside)
 
 module _ {code : Listing} {act : Activation} {names : List (List ℕ)} {depth cursor dispatch : ℕ}
     {c : OwnCut} (place : IsCutSite code act names depth cursor dispatch c) (k : ℕ) (state : State)
@@ -139,6 +182,32 @@ module _ {code : Listing} {act : Activation} {names : List (List ℕ)} {depth cu
       by_iteration true = left_shows left (own ∷ above) refl refl left_marks
       by_iteration false = left_shows (without_oldest left) above refl refl
           (ap (λ (marks : List Mark). drop 1 marks) left_marks)
+
+  left_at : (off : ℕ) → off ≢ c.site.rec → off ≢ c.site.bound
+      → word_at (own_halves c k state).left_stack (pos (c.z + off)) ≡ word_at s (pos (c.z + off))
+  left_at off not_rec not_bound =
+      left_has.others (c.z + off) (omega arith) (λ e. not_rec (omega (arith, e)))
+      (λ e. not_bound (omega (arith, e)))
+
+  pub left_cursor : word_at (own_halves c k state).left_stack (pos (c.z + c.site.cursor))
+      ≡ Some (Int c.next)
+  left_cursor = left_at c.site.cursor (cursor_rec c.site right) (cursor_bound c.site right)
+      ∙ at.cursor
+
+  -- variables that are held on the stack that is cut are held by the left
+  pub left_vars : (us : List Variable) → AreHeld s c.z 0 us
+      → AreHeld (own_halves c k state).left_stack c.z 0 us
+  left_vars us held =
+      held_same s (own_halves c k state).left_stack c.z 0 us
+      (λ x low high. left_at (value_cell x) (variable_no_rec place x) (variable_no_bound place x))
+      held
+
+  -- the cells in front of those of `par` loops are as before
+  pub left_header : (off : ℕ) → off < header
+      → word_at (own_halves c k state).left_stack (pos (c.z + off)) ≡ word_at s (pos (c.z + off))
+  left_header off below =
+      left_at off (λ e. absurd (omega (arith, e, below, rec_is place)))
+      (λ e. absurd (omega (arith, e, below, bound_is place)))
 
   -- ---- the child
 

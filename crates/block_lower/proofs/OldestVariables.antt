@@ -30,6 +30,7 @@ use Rattle.handler_gen.proofs.Words.{word_same, word_other}
 use Rattle.block_lower.specs.Names.{AreLaid, Sees}
 use Rattle.block_lower.specs.Sites.{accs_of}
 use Rattle.block_lower.proofs.Fixed.{AreFixed}
+use Rattle.block_lower.proofs.JoinsRuns.{assign_other}
 use Rattle.block_lower.proofs.ReducedCells.{cells_differ, held_by_cells, is_named}
 use Rattle.block_lower.proofs.Variables.{AreHeld, cell_names, names_assign, var_names}
 
@@ -74,21 +75,6 @@ lookup_assigned (v ∷ vs) x n is =
         → lookup (assign (v ∷ vs) x n) x ≡ n
     go true e behind = rw e (rw e refl)
     go false e behind = rw e (rw e (behind (rw e at is)))
-
-lookup_unassigned : (vs : List Variable) (x y : List ℕ) (n : ℤ) → bytes_eq x y ≡ false
-    → lookup (assign vs x n) y ≡ lookup vs y
-lookup_unassigned [] x y n differ = refl
-lookup_unassigned (v ∷ vs) x y n differ =
-    go (bytes_eq v.name x) refl (lookup_unassigned vs x y n differ)
-  where
-    go : (b : Bool) → bytes_eq v.name x ≡ b → lookup (assign vs x n) y ≡ lookup vs y
-        → lookup (cond b (record { name = v.name; value = n } ∷ vs) (v ∷ assign vs x n)) y
-        ≡ lookup (v ∷ vs) y
-    go true same behind =
-        let other : bytes_eq v.name y ≡ false =
-        ap (λ z. bytes_eq z y) ((bytes_eq-Decides v.name x).0 same) ∙ differ in
-        rw other refl
-    go false same behind = ap (λ m. cond (bytes_eq v.name y) v.value m) behind
 
 assign_ranged : (vs : List Variable) (x : List ℕ) (n : ℤ) → InRange n → All VariableInRange vs
     → All VariableInRange (assign vs x n)
@@ -171,7 +157,7 @@ module _ (scope : Scope) (names tables : List (List ℕ)) (sees : Sees scope nam
             (λ q. other (cells_differ scope names tables sees x target in_x
             (is_named scope names tables sees target seen.0) (omega (arith, q))))
             ∙ (known x in_x (rw e free)
-            ∙ ap (λ (m : ℤ). Some (Int m)) (sym (lookup_unassigned vs target x (unit r.op) e)))
+            ∙ ap (λ (m : ℤ). Some (Int m)) (sym (assign_other vs target x (unit r.op) e)))
           where
             other : x ≡ target → ⊥
             other is =

@@ -1,19 +1,15 @@
 -- What the handler of a `par` cuts of it, told by the values of the variables round the loop.
-use Rattle.std.specs.Prelude.{◌≡◌, ◌≢◌, ℕ, ◌+◌, ◌<◌, ◌≤◌, ℤ, pos, ◌-ℤ◌, ◌≤ℤ◌, int_lt, Bool, List}
-use Rattle.std.specs.Prelude.{[], ◌∷◌, map, false, length, Some, None}
+use Rattle.std.specs.Prelude.{◌≡◌, ◌≢◌, ℕ, ◌<◌, ◌≤◌, ℤ, int_lt, Bool, List}
+use Rattle.std.specs.Prelude.{[], ◌∷◌, map, false, length}
 use Rattle.beat_count.specs.BeatState.{BeatState}
 use Rattle.loop_syntax.specs.declared.Carry.{Carry}
 use Rattle.loop_syntax.specs.declared.Carry.TheVariants as carry
 use Rattle.loop_syntax.specs.declared.ParLoop.{ParLoop}
 use Rattle.loop_meaning.specs.declared.value.Variable.{Variable}
-use Rattle.loop_meaning.specs.InRange.{InRange}
-use Rattle.stack_marks.specs.Causes.{Holds}
-use Rattle.stack_marks.specs.Stacks.{word_at}
-use Rattle.tp_value.specs.declared.limits.TheConstants.{MAX_PAR_LENGTH, MAX_PAR_NESTING}
+use Rattle.tp_value.specs.declared.limits.TheConstants.{MAX_PAR_NESTING}
 use Rattle.tpal_syntax.specs.Conditions.{is_ready}
 use Rattle.tpal_syntax.specs.declared.sites.LoopSite.{LoopSite}
 use Rattle.tpal_syntax.specs.declared.words.Word.{Word}
-use Rattle.tpal_syntax.specs.declared.words.Word.TheVariants.{Int}
 use Rattle.tpal_syntax.specs.Listing.{Listing}
 use Rattle.tpal_machine.specs.declared.cut.TableCut.{TableCut}
 use Rattle.tpal_machine.specs.declared.cut.TableCut.TheVariants.{ByRows, ByCells}
@@ -24,16 +20,15 @@ use Rattle.expr_lower.specs.declared.scope.Scope.{Scope}
 use Rattle.expr_lower.specs.Standing.{AreAt}
 use Rattle.expr_lower.specs.Scopes.{table_number}
 use Rattle.frame_machine.specs.Lawful.{RowsFixed}
-use Rattle.frame_machine.specs.Splitting.{cut_of}
 use Rattle.handler_gen.specs.Blocks.{dispatch_block}
 use Rattle.handler_gen.specs.Halves.{Halves, Work, left_part, child_part, rest_part}
-use Rattle.handler_gen.specs.LoopCuts.{loop_halves, loop_mark}
+use Rattle.handler_gen.specs.LoopCuts.{loop_halves}
 use Rattle.handler_gen.specs.Sites.{first_label, none_label, target_label}
 use Rattle.block_lower.specs.Layout.{Activation, value_cell}
 use Rattle.block_lower.specs.Marked.{IsSite}
-use Rattle.block_lower.proofs.Scene.{IsDiverted, header}
+use Rattle.block_lower.proofs.Scene.{header}
 use Rattle.block_lower.proofs.Sides.{carried, row_number}
-use Rattle.block_lower.proofs.Variables.{AreHeld, var_names}
+use Rattle.block_lower.proofs.Variables.{var_names}
 
 -- A cut of a `par` whose site stands in the activation at z: the iterations next, .., end - 1
 -- aren't begun, and the upper part begins at the middle. The variables round the loop have these
@@ -109,20 +104,3 @@ pub record IsCutSite (code : Listing) (act : Activation) (names : List (List ℕ
   pub cursor_apart : (x : ℕ) → x < length names → value_cell x ≢ cursor
   pub cursor_high : header ≤ cursor
   pub room : value_cell (length names) ≤ act.size
-
--- A diverted task whose only mark is that of a loop, in whose activation the loop shows the
--- iterations that aren't begun, and the variables have their values.
-pub record IsOwnCut (dispatch : ℕ) (c : OwnCut) (state : State) : Type 0 where
-  pub diverted : IsDiverted dispatch state
-  pub size : length state.registers ≡ 32
-  pub free : state.pending ≡ None
-  pub unmet : state.met ≡ None
-  pub marked : state.stack.marks ≡ loop_mark c.site c.z ∷ []
-  pub held : Holds state.stack c.z c.site.cells
-  pub cursor : word_at state.stack (pos (c.z + c.site.cursor)) ≡ Some (Int c.next)
-  pub bound : word_at state.stack (pos (c.z + c.site.bound)) ≡ Some (Int c.end)
-  pub next_in_range : InRange c.next
-  pub end_in_range : InRange c.end
-  pub short : (c.end -ℤ c.next) ≤ℤ pos MAX_PAR_LENGTH
-  pub cut : cut_of c.next c.end ≡ Some c.middle
-  pub vars : AreHeld state.stack c.z 0 c.vars

@@ -34,7 +34,7 @@ use Rattle.block_lower.proofs.Calls.{Keeping}
 use Rattle.block_lower.proofs.Moves.{opened}
 use Rattle.block_lower.proofs.PairChildren.{child_part, child_scene, its_value, uncut, value_end}
 use Rattle.block_lower.proofs.PairChildren.{value_notes}
-use Rattle.block_lower.proofs.PairCuts.{IsChild, pair_child}
+use Rattle.block_lower.proofs.PairCuts.{IsPairChild, pair_child}
 use Rattle.block_lower.proofs.PairPlaces.{CutsChild, PairAt, calls}
 use Rattle.block_lower.proofs.PairPromises.{call_ending, side_ends}
 use Rattle.block_lower.proofs.PairRuns.{call_end}
@@ -121,7 +121,7 @@ module _ {code : Listing} {heartbeat z : ℕ} {act : Activation} (q : PairAt cod
         q.p.funcs.items q.g q.second there) where
       pub child_owed : (vs : List Variable) (ts : List Table) (ms : List ℤ) (state : machine.State)
           → CutsChild q n region vs ts ms state → (words : List Word) (beat : BeatState)
-          → IsChild code q.site z n state words beat
+          → IsPairChild code q.site z n state words beat
           → Bound code heartbeat false 0 (pair_child q.site z n state words beat)
           (call_ending (child_part n (shared_region region))
           (call_end (calls q q.g.text.items q.g.place ms [] (child_start vs ts))))

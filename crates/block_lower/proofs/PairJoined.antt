@@ -24,6 +24,7 @@ use Rattle.tpal_machine.specs.State as machine
 use Rattle.expr_lower.specs.Standing.{Remains}
 use Rattle.handler_gen.specs.Blocks.{call_target}
 use Rattle.join_gen.specs.CallJoins.{AreSidesOfCalls}
+use Rattle.handler_gen.proofs.Words.{word_other, word_same, words_as_many}
 use Rattle.block_lower.specs.Layout.{Activation, kept_cell, kept_value, levels_cell, value_cell}
 use Rattle.block_lower.proofs.Called.{with_value}
 use Rattle.block_lower.proofs.MergedStacks.{rest_many, rest_word}
@@ -45,7 +46,6 @@ use Rattle.block_lower.proofs.Scene.{ShowsIn}
 use Rattle.block_lower.proofs.Showing.{as_many}
 use Rattle.block_lower.proofs.Tables.{table_names}
 use Rattle.block_lower.proofs.Variables.{AreHeld, held_same, var_names}
-use Rattle.block_lower.proofs.Words.{word_other, word_same, words_as_many}
 
 module _ {code : Listing} {heartbeat z : ℕ} {act : Activation} (q : PairAt code heartbeat z act)
   where

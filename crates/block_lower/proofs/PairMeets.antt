@@ -30,6 +30,7 @@ use Rattle.handler_gen.specs.Blocks.{call_target}
 use Rattle.handler_gen.specs.Sites.{joined_label}
 use Rattle.handler_gen.proofs.Reaching.{reached}
 use Rattle.join_gen.specs.CallJoins.{AreSidesOfCalls, JoinsCalls, Meets}
+use Rattle.handler_gen.proofs.Words.{words_as_many}
 use Rattle.block_lower.specs.Code.{Opens, call_exit, to}
 use Rattle.block_lower.specs.Layout.{Activation, kept_by_both, kept_cell, kept_value}
 use Rattle.block_lower.specs.Pairs.{call_enters, pair_joined}
@@ -37,7 +38,6 @@ use Rattle.block_lower.proofs.Activations.{popped_pushed, pushed_length}
 use Rattle.block_lower.proofs.Calls.{base_less, base_more}
 use Rattle.block_lower.proofs.Moves.{jumps, opened}
 use Rattle.block_lower.proofs.Simple.{stores_in}
-use Rattle.block_lower.proofs.Words.{words_as_many}
 
 module _ (code : Listing) (heartbeat z : ℕ) (act : Activation) (site : CallSite)
     (joins : JoinsCalls code heartbeat site) (size return : ℕ)

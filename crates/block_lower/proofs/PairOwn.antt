@@ -25,12 +25,12 @@ use Rattle.frame_machine.specs.FrameLaws.{child_start}
 use Rattle.handler_gen.specs.CallCuts.{call_mark}
 use Rattle.handler_gen.specs.Sites.{target_label}
 use Rattle.block_lower.specs.Layout.{Activation, levels_cell, value_cell}
+use Rattle.block_lower.proofs.AtHandlers.{MergesTo}
 use Rattle.block_lower.proofs.Activations.{marks_from}
-use Rattle.block_lower.proofs.OwnCuts.{MergesTo}
 use Rattle.block_lower.proofs.PairBoth.{Both, Low, R, Up, both_early, ending_of_both, left_of}
 use Rattle.block_lower.proofs.PairBoth.{left_side, limit_is, rest, right_of, right_side, target_is}
 use Rattle.block_lower.proofs.PairChildren.{uncut}
-use Rattle.block_lower.proofs.PairCuts.{IsChild, PairForkOwed, pair_child, pair_cut_owed, pair_left}
+use Rattle.block_lower.proofs.PairCuts.{IsPairChild, PairForkOwed, pair_child, pair_cut_owed, pair_left}
 use Rattle.block_lower.proofs.PairJoined.{BehindOwed, joined_owes}
 use Rattle.block_lower.proofs.PairPlaces.{ChildOwed, Firsts, PairAt, PairCut, Runs, calls}
 use Rattle.block_lower.proofs.PairPromises.{call_ending, call_ending_by, ends_no_root, is_end_of}
@@ -68,7 +68,7 @@ module _ {code : Listing} {heartbeat z : ℕ} {act : Activation} (q : PairAt cod
 
       module _ (n : ℕ) (words others : List Word) (beat later : BeatState)
           (gone : GoesBack code c.state (pair_left q.site z n c.state words beat))
-          (child_can : IsChild code q.site z n c.state others later) where
+          (child_can : IsPairChild code q.site z n c.state others later) where
         abbrev u : machine.State
         u = pair_left q.site z n c.state words beat
 
@@ -206,8 +206,8 @@ module _ {code : Listing} {heartbeat z : ℕ} {act : Activation} (q : PairAt cod
               by_ends true left_ends first true right_ends second = record {
                 p = left_side q c n;
                 q = right_side q c n;
-                left = first;
-                child = second;
+                left_owes = first;
+                child_owes = second;
                 merged = λ belongs. merges left_ends right_ends belongs;
               }
 

@@ -38,7 +38,7 @@ use Rattle.block_lower.proofs.Activations.{StandsFrom}
 use Rattle.block_lower.proofs.Arguments.{AreIn, are_in_same}
 use Rattle.block_lower.proofs.Calls.{Caller, Keeping, Kept}
 use Rattle.block_lower.proofs.PairChildren.{child_part}
-use Rattle.block_lower.proofs.PairCuts.{IsChild, IsCutPair, pair_child}
+use Rattle.block_lower.proofs.PairCuts.{IsPairChild, IsCutPair, pair_child}
 use Rattle.block_lower.proofs.PairPromises.{call_ending}
 use Rattle.block_lower.proofs.PairRuns.{call_end}
 use Rattle.block_lower.proofs.PairScenes.{IsFirst, OwnCutOwed, RunsFirst, behind_first, firsts}
@@ -200,7 +200,7 @@ module _ {code : Listing} {heartbeat z : ℕ} {act : Activation} (q : PairAt cod
         (n : ℕ) (region : Region) (vs : List Variable) (ts : List Table) (ms : List ℤ)
         (state : machine.State) → CutsChild n region vs ts ms state →
         (words : List Word) (beat : BeatState)
-        → IsChild code q.site z n state words beat
+        → IsPairChild code q.site z n state words beat
         → Bound code heartbeat false 0 (pair_child q.site z n state words beat)
         (call_ending (child_part n (shared_region region))
         (call_end (calls q.g.text.items q.g.place ms [] (child_start vs ts))))

@@ -31,6 +31,7 @@ use Rattle.expr_lower.proofs.Standing.{behind, next}
 use Rattle.handler_gen.specs.CallCuts.{call_mark}
 use Rattle.handler_gen.specs.Sites.{left_end_label}
 use Rattle.handler_gen.proofs.Marks.{on_prmpop}
+use Rattle.handler_gen.proofs.Words.{word_other, word_same, word_there}
 use Rattle.block_lower.specs.Code.{call_exit, store, to}
 use Rattle.block_lower.specs.Layout.{Activation, base_register, kept_cell, kept_value, return_cell}
 use Rattle.block_lower.specs.Layout.{value_cell}
@@ -54,7 +55,6 @@ use Rattle.block_lower.proofs.Scene.{Scene, Shows, ShowsIn}
 use Rattle.block_lower.proofs.Showing.{shows_new}
 use Rattle.block_lower.proofs.Sides.{Part}
 use Rattle.block_lower.proofs.Simple.{stores_in}
-use Rattle.block_lower.proofs.Words.{word_other, word_same, word_there}
 
 -- the value of the first call
 pub record FirstValue : Type 0 where

@@ -32,6 +32,7 @@ use Rattle.expr_lower.proofs.Registers.{register_other, register_set}
 use Rattle.expr_lower.proofs.Standing.{behind, next}
 use Rattle.handler_gen.specs.CallCuts.{call_mark}
 use Rattle.handler_gen.proofs.Marks.{on_prmpush}
+use Rattle.handler_gen.proofs.Words.{words_as_many}
 use Rattle.block_lower.specs.Code.{load, store}
 use Rattle.block_lower.specs.Layout.{Activation, base_register, kept_by_both, kept_cell, kept_mark}
 use Rattle.block_lower.specs.Layout.{levels_cell, return_cell, value_cell}
@@ -40,7 +41,6 @@ use Rattle.block_lower.proofs.Activations.{clear_above}
 use Rattle.block_lower.proofs.Arguments.{wider}
 use Rattle.block_lower.proofs.Scene.{Scene, ShowsIn}
 use Rattle.block_lower.proofs.Simple.{stores_in}
-use Rattle.block_lower.proofs.Words.{words_as_many}
 
 -- a number of levels and a label to return to, in the first cells of an activation
 abbrev pub given_stack : ℕ → ℕ → ℤ → ℕ → StackValue → StackValue

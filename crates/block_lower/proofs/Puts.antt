@@ -33,6 +33,7 @@ use Rattle.expr_lower.specs.Standing.{Remains, AreAt}
 use Rattle.expr_lower.proofs.CellReads.{range_law, Trapped, Passed}
 use Rattle.expr_lower.proofs.Registers.{register_set, register_other}
 use Rattle.expr_lower.proofs.Standing.{next, behind}
+use Rattle.handler_gen.proofs.Words.{word_same, word_other}
 use Rattle.block_lower.specs.Code as code_of
 use Rattle.block_lower.specs.Code.{Computes, IsTable, put_tested, store, load}
 use Rattle.block_lower.specs.Layout.{kept_cell, Activation}
@@ -45,7 +46,6 @@ use Rattle.block_lower.proofs.Showing.{shows_words, shows_new, shows_tables}
 use Rattle.block_lower.proofs.Simple.{stores_in, still_shows}
 use Rattle.block_lower.proofs.TableSteps.{on_put}
 use Rattle.block_lower.proofs.Values.{ExprLaw, computes, shown, holds_with}
-use Rattle.block_lower.proofs.Words.{word_same, word_other}
 
 -- ---- a cell set, by the tests
 

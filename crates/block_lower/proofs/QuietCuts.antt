@@ -36,12 +36,13 @@ use Rattle.join_gen.specs.LoopJoins.{JoinsLoop}
 use Rattle.block_lower.specs.Code.{to}
 use Rattle.block_lower.specs.Layout.{Activation}
 use Rattle.block_lower.specs.Marked.{side_test, unmark}
+use Rattle.block_lower.proofs.AtHandlers.{MergesTo, place_kept}
 use Rattle.block_lower.proofs.CutGaps.{Halved, halved}
 use Rattle.block_lower.proofs.Gaps.{IsGap, gap_more, gap_none}
 use Rattle.block_lower.proofs.JoinsModes.{covered}
 use Rattle.block_lower.proofs.JoinsSides.{child_side, left_side}
 use Rattle.block_lower.proofs.Moves.{jumps, opened}
-use Rattle.block_lower.proofs.OwnCuts.{ForkOwed, MergesTo, cut_owed, place_kept}
+use Rattle.block_lower.proofs.OldestOwed.{PartsOwed, oldest_cut_owed}
 use Rattle.block_lower.proofs.OwnWork.{OwnCut, has_iteration, own_child, own_left, own_rest}
 use Rattle.block_lower.proofs.Pieces.{Apart, Piece}
 use Rattle.block_lower.proofs.Promises.{CanRun, Promise, lesser}
@@ -192,13 +193,7 @@ module _ (code : Listing) (heartbeat z : ℕ) (act : Activation) (q : ParAt code
 
             gone : GoesBack code other left
             gone =
-                place_kept code heartbeat
-                (sides.place code heartbeat z act q S lowest k vs named fuel p room b.first allows m
-                j
-                i st other h) other
-                (sides.at code heartbeat z act q S lowest k vs named fuel p room b.first allows m j
-                i
-                st other h) left block_is refl keeps
+                place_kept q.site.label q.is_site.handler.1.0 other h.turned left block_is refl keeps
 
         left_owes : CanRun code left
             → Bound code heartbeat false 0 left (ending.At c Left (side_by q.is_site.scope q.loop
@@ -257,7 +252,7 @@ module _ (code : Listing) (heartbeat z : ℕ) (act : Activation) (q : ParAt code
     e = P.ending i (result (ran (suc h.n) m st))
 
     forks_owed : P.given i (result (ran (suc h.n) m st)) → (c : ℕ)
-        → ForkOwed code heartbeat own other e c
+        → PartsOwed code heartbeat own other e c
     forks_owed given c = record {
       p = side_by q.is_site.scope q.loop (left_side q.loop c region middle st)
           (result (ran h.below m st)).end;
@@ -265,9 +260,10 @@ module _ (code : Listing) (heartbeat z : ℕ) (act : Activation) (q : ParAt code
           (result (ran (suc h.above) middle
           (sides.upper_state code heartbeat z act q S lowest k vs named fuel p room b.first allows m
           j i st other h))).end;
-      left = λ words beat keeps granted can. left_owes c words beat keeps can;
-      child = λ words beat size base loud granted can. child_owes c words beat size base can;
-      merged = λ belongs.
+      so = true;
+      left = λ words beat keeps can. left_owes c words beat keeps can;
+      child = λ words beat size base can. child_owes c words beat size base can;
+      merged = λ so belongs.
           subst (λ (n : ℕ). MergesTo code heartbeat (own_rest own c other)
           (merging.low_end code heartbeat z act q S lowest k vs named fuel p room b.first allows m j
           i st other h joins c belongs)
@@ -288,7 +284,7 @@ module _ (code : Listing) (heartbeat z : ℕ) (act : Activation) (q : ParAt code
     split_owed back =
         P.turned_closes i (result (ran (suc h.n) m st)) other
         (λ given can.
-        cut_owed code heartbeat
+        oldest_cut_owed code heartbeat
         (sides.place code heartbeat z act q S lowest k vs named fuel p room b.first allows m j i st
         other h) other
         (sides.at code heartbeat z act q S lowest k vs named fuel p room b.first allows m j i st

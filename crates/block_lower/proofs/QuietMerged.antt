@@ -39,6 +39,7 @@ use Rattle.handler_gen.proofs.Reaching.{reached}
 use Rattle.join_gen.specs.LoopJoins.{Combines, JoinsLoop, ops_of, with_numbers}
 use Rattle.expr_lower.specs.Scopes.{HasTable}
 use Rattle.block_lower.specs.Layout.{Activation, bound_cell, levels_cell, value_cell}
+use Rattle.block_lower.proofs.AtHandlers.{MergesTo}
 use Rattle.block_lower.proofs.CutTables.{rest_tables}
 use Rattle.block_lower.proofs.Fixed.{round_fixed, round_on}
 use Rattle.block_lower.proofs.Joins.{HasRest, IsRestAt, child_end, left_end, merge_ends, merge_goes}
@@ -47,9 +48,10 @@ use Rattle.block_lower.proofs.JoinsCuts.{cut_here, may_cut_here}
 use Rattle.block_lower.proofs.JoinsModes.{each_carried}
 use Rattle.block_lower.proofs.JoinsRuns.{output_kept, tables_named, whole_round}
 use Rattle.block_lower.proofs.Meeting.{met_behind}
-use Rattle.block_lower.proofs.MergedStacks.{HasMerged, merged_has, rest_holds}
-use Rattle.block_lower.proofs.OwnCuts.{MergesTo}
-use Rattle.block_lower.proofs.OwnWork.{IsCutSite, IsOwnCut, OwnCut, own_rest}
+use Rattle.block_lower.proofs.MergedStacks.{HasMerged, rest_holds}
+use Rattle.block_lower.proofs.OldestCuts.{IsOldestCut}
+use Rattle.block_lower.proofs.OldestStacks.{merged_has}
+use Rattle.block_lower.proofs.OwnWork.{IsCutSite, OwnCut, own_rest}
 use Rattle.block_lower.proofs.Parts.{IsKnown}
 use Rattle.block_lower.proofs.Pieces.{Apart, Host, Piece}
 use Rattle.block_lower.proofs.Promises.{CanRun, Promise, lesser, promising}
@@ -107,7 +109,7 @@ module _ (code : Listing) (heartbeat z : ℕ) (act : Activation) (q : ParAt code
       state
       h
 
-  at_cut : IsOwnCut S.dispatch own state
+  at_cut : IsOldestCut S.dispatch own [] state
   at_cut = at code heartbeat z act q S lowest k vs named fuel p room first allows m j i st state h
 
   abbrev region : Region
@@ -270,8 +272,8 @@ module _ (code : Listing) (heartbeat z : ℕ) (act : Activation) (q : ParAt code
           (with_numbers q.site.accs z ns rest.stack))
           (sym (merged_numbers code p q.modes q.loop fuel cutting rules loop_cut q.is_site.scope
           region q.site rest rest_held rest_at done))
-          (merged_has at_place state at_cut whole.state.vars same_round
-          allows.may.rules.distinct ranged.vars)
+          (merged_has at_place c state at_cut allows.may.rules.distinct whole.state.vars same_round
+          ranged.vars)
 
       cells_are : q.site.cells ≡ act.size
       cells_are = ap (λ (s : LoopSite). s.cells) q.is_site.is

@@ -35,6 +35,7 @@ use Rattle.expr_lower.proofs.Standing.{at_end, behind, next}
 use Rattle.handler_gen.proofs.Marks.{on_prmpush}
 use Rattle.handler_gen.specs.LoopCuts.{loop_mark}
 use Rattle.handler_gen.specs.Sites.{over_label, split_label}
+use Rattle.handler_gen.proofs.Words.{word_other, word_same, words_as_many}
 use Rattle.block_lower.specs.Code.{Opens, to}
 use Rattle.block_lower.specs.Layout.{Activation, base_register, bound_cell, levels_cell, value_cell}
 use Rattle.block_lower.specs.Marked.{length_test, marked_begin}
@@ -51,7 +52,6 @@ use Rattle.block_lower.proofs.Turned.{RunsBody, T}
 use Rattle.block_lower.proofs.Turning.{ParAt, clear_of, mark_is, rec_is}
 use Rattle.block_lower.proofs.Values.{ExprLaw}
 use Rattle.block_lower.proofs.Variables.{held_same, var_names}
-use Rattle.block_lower.proofs.Words.{word_other, word_same, words_as_many}
 
 module _ (code : Listing) (heartbeat z : ℕ) (act : Activation) (q : ParAt code act)
     (S : Scene code heartbeat z) (lowest : S.lowest ≤ length q.names) (k : meaning.State → Result)

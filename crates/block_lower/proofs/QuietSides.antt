@@ -32,17 +32,19 @@ use Rattle.handler_gen.specs.Sites.{first_label, none_label, over_label}
 use Rattle.block_lower.specs.Code.{Opens, to}
 use Rattle.block_lower.specs.Layout.{Activation, bound_cell, levels_cell, value_cell}
 use Rattle.block_lower.proofs.Activations.{clear_above}
-use Rattle.block_lower.proofs.CutStacks.{HasLoop, child_has, child_top, header_kept, left_has}
-use Rattle.block_lower.proofs.CutStacks.{left_top, marks_left}
 use Rattle.block_lower.proofs.CutTables.{child_tables, left_tables}
-use Rattle.block_lower.proofs.Fixed.{AreFixed, fixed_round, round_back, round_fixed}
+use Rattle.block_lower.proofs.Fixed.{AreFixed, fixed_round, held_fixed, round_back, round_fixed}
 use Rattle.block_lower.proofs.Gaps.{IsGap}
 use Rattle.block_lower.proofs.CutGaps.{is_short}
 use Rattle.block_lower.proofs.JoinsModes.{Serves, left_serves, serves_round, upper_serves}
 use Rattle.block_lower.proofs.JoinsRuns.{accs_round}
 use Rattle.block_lower.proofs.JoinsSides.{child_side, left_side}
 use Rattle.block_lower.proofs.Moves.{calm}
-use Rattle.block_lower.proofs.OwnWork.{IsCutSite, IsOwnCut, OwnCut, has_iteration, own_child}
+use Rattle.block_lower.proofs.OldestCuts.{IsOldestCut}
+use Rattle.block_lower.proofs.OldestStacks.{HasLeft, HasLoop, child_has, child_header, child_top}
+use Rattle.block_lower.proofs.OldestStacks.{left_cursor, left_has, left_header, left_vars}
+use Rattle.block_lower.proofs.OldestStacks.{marks_behind}
+use Rattle.block_lower.proofs.OwnWork.{IsCutSite, OwnCut, has_iteration, own_child}
 use Rattle.block_lower.proofs.OwnWork.{own_left}
 use Rattle.block_lower.proofs.Pieces.{Apart, Host, Piece}
 use Rattle.block_lower.proofs.Regions.{Region}
@@ -53,7 +55,7 @@ use Rattle.block_lower.proofs.Tables.{listed_names, table_names}
 use Rattle.block_lower.proofs.Turned.{T}
 use Rattle.block_lower.proofs.Turning.{FixedIn, ParAt, clear_of, enough_of, marks_of, outer_of}
 use Rattle.block_lower.proofs.Turning.{own_marks, region_of}
-use Rattle.block_lower.proofs.Variables.{var_names}
+use Rattle.block_lower.proofs.Variables.{AreHeld, held_in_range, var_names}
 
 -- What the rules of a program say of a `par` where it stands: it may be cut, its numbers are in
 -- range, and no two tables have one name.
@@ -166,13 +168,14 @@ module _ (code : Listing) (heartbeat z : ℕ) (act : Activation) (q : ParAt code
     bound_is : q.site.bound ≡ bound_cell level
     bound_is = ap (λ (s : LoopSite). s.bound) q.is_site.is
 
-    pub at : IsOwnCut S.dispatch own_cut state
+    pub at : IsOldestCut S.dispatch own_cut [] state
     at = record {
       diverted = h.turned;
       size = h.shows.size;
       free = h.shows.free;
       unmet = h.shows.unmet;
       marked = h.shows.marked ∙ h.oldest;
+      above = tt;
       held = (h.shows.low, omega (arith, cells_are, h.shows.top));
       cursor = ap (λ o. word_at state.stack (pos (z + o))) cursor_is ∙ h.shows.keeps.next;
       bound = ap (λ o. word_at state.stack (pos (z + o))) bound_is ∙ h.shows.keeps.bound;
@@ -180,8 +183,12 @@ module _ (code : Listing) (heartbeat z : ℕ) (act : Activation) (q : ParAt code
       end_in_range = h.in_j;
       short = is_short h.n m j h.gap h.short;
       cut = h.cuts;
-      vars = h.shows.vars;
+      fixed = held_fixed q.loop.reduces.items state.stack z 0 st.vars h.shows.vars;
+      ranged = held_in_range state.stack z 0 st.vars h.shows.vars;
     }
+
+    names_distinct : Distinct q.names
+    names_distinct = allows.may.rules.distinct
 
     -- ---- what is held serves
 
@@ -232,14 +239,17 @@ module _ (code : Listing) (heartbeat z : ℕ) (act : Activation) (q : ParAt code
 
       module _ (keeps : KeepsPlace state words beat) (marked : Bool)
           (is : has_iteration own_cut ≡ marked) where
-        has : HasLoop own_cut c m middle st.vars (marks_left own_cut) state.stack left.stack
-        has = left_has place c state at
+        has : HasLeft own_cut c (marks_behind own_cut []) state.stack left.stack
+        has = left_has place c state at names_distinct
 
         top_left : left.stack.base + length left.stack.cells ≡ z + act.size
-        top_left = left_top place c state at ∙ h.shows.top
+        top_left = has.top ∙ h.shows.top
+
+        vars_left : AreHeld left.stack z 0 st.vars
+        vars_left = left_vars place c state at names_distinct st.vars h.shows.vars
 
         by_mark : (b : Bool) → has_iteration own_cut ≡ b
-            → marks_left own_cut ≡ own_marks code heartbeat z act q S lowest b
+            → marks_behind own_cut [] ≡ own_marks code heartbeat z act q S lowest b
         by_mark true e = rw e refl
         by_mark false e = rw e refl
 
@@ -266,8 +276,8 @@ module _ (code : Listing) (heartbeat z : ℕ) (act : Activation) (q : ParAt code
               st.tables listed distinct_tables h.shows.held;
           can = tt;
           ranged = h.shows.ranged;
-          levels = header_kept place c state at m middle st.vars (marks_left own_cut) left.stack has
-              levels_cell (omega arith) ∙ h.shows.levels;
+          levels = left_header place c state at names_distinct levels_cell (omega arith)
+              ∙ h.shows.levels;
           unmarked =
               ap (λ (ms : List Mark). is_marked_from ms (z + act.size))
               (has.marked ∙ by_mark marked is)
@@ -278,14 +288,15 @@ module _ (code : Listing) (heartbeat z : ℕ) (act : Activation) (q : ParAt code
           top = top_left;
           low = omega (arith, has.base);
           room = omega (arith, top_left, h.shows.top, h.shows.room);
-          vars = has.vars;
+          vars = vars_left;
           keeps = record {
             outer = tt;
             rec = has.rec;
-            next = ap (λ o. word_at left.stack (pos (z + o))) (sym cursor_is) ∙ has.cursor;
+            next = ap (λ o. word_at left.stack (pos (z + o))) (sym cursor_is)
+                ∙ left_cursor place c state at names_distinct;
             bound = ap (λ o. word_at left.stack (pos (z + o))) (sym bound_is) ∙ has.bound;
             fixed = round_fixed q.loop.reduces.items left.stack z vs st.vars distinct round
-                has.vars;
+                vars_left;
             enough = serves_round q.modes q.loop q.names st.vars vs m middle
                 (left_region st.vars middle q.loop.carries.items region) allows.may.rules.rows
                 (round_back q.loop.reduces.items vs st.vars round)
@@ -325,10 +336,10 @@ module _ (code : Listing) (heartbeat z : ℕ) (act : Activation) (q : ParAt code
       module _ (size : length words ≡ 32) (base : register words 31 ≡ word.Int (pos z)) where
         has_child : HasLoop own_cut c middle j upper_state.vars (loop_mark q.site z ∷ [])
             state.stack child.stack
-        has_child = child_has place c state at
+        has_child = child_has place c state at names_distinct
 
         top_child : child.stack.base + length child.stack.cells ≡ z + act.size
-        top_child = child_top place c state at ∙ ap (λ n. z + n) cells_are
+        top_child = child_top place c state at names_distinct ∙ ap (λ n. z + n) cells_are
 
         pub shows_child : ShowsIn code heartbeat z act fuel (Turning true middle j)
             (Apart upper_part) q.names upper_state child
@@ -354,8 +365,8 @@ module _ (code : Listing) (heartbeat z : ℕ) (act : Activation) (q : ParAt code
               st.tables listed distinct_tables h.shows.held;
           can = tt;
           ranged = h.shows.ranged;
-          levels = header_kept place c state at middle j upper_state.vars (loop_mark q.site z ∷ [])
-              child.stack has_child levels_cell (omega arith) ∙ h.shows.levels;
+          levels = child_header place c state at names_distinct levels_cell (omega arith)
+              ∙ h.shows.levels;
           unmarked =
               ap (λ (ms : List Mark). is_marked_from ms (z + act.size)) has_child.marked
               ∙ clear_above (own_marks code heartbeat z act q S lowest true)

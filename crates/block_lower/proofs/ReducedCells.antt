@@ -8,22 +8,17 @@ use Rattle.std.specs.Prelude.{ℤ, pos, slice_index_or}
 use Rattle.std.specs.List.{AllByRecursion}
 use Rattle.std.specs.declared.alloc.Global.{Global}
 use Rattle.loop_meaning.specs.declared.value.Variable.{Variable}
-use Rattle.loop_meaning.specs.Frames.{with_accs}
 use Rattle.loop_meaning.specs.InRange.{VariableInRange}
-use Rattle.loop_meaning.specs.State.{lookup, assign}
+use Rattle.loop_meaning.specs.State.{lookup}
 use Rattle.loop_rules.specs.Names.{is_in, operator_of}
 use Rattle.loop_syntax.specs.declared.Reduce.{Reduce}
-use Rattle.frame_machine.specs.Joins.{units_for}
 use Rattle.frame_machine.specs.Lawful.{Distinct}
-use Rattle.reduce_ops.specs.Reduction.{unit}
-use Rattle.reduce_ops.specs.Laws.{unit_fits}
 use Rattle.stack_marks.specs.Stacks.{StackValue, word_at, with_word}
 use Rattle.tp_value.specs.declared.Op.{Op}
 use Rattle.tpal_syntax.specs.declared.words.Word.{Word}
 use Rattle.tpal_syntax.specs.declared.words.Word.TheVariants.{Int}
 use Rattle.expr_lower.specs.declared.scope.Scope.{Scope}
 use Rattle.expr_lower.specs.Scopes.{HasVariable, cell_in, has_cell_in, offset_of}
-use Rattle.handler_gen.specs.LoopCuts.{with_units}
 use Rattle.handler_gen.proofs.Cells.{Has, has_set}
 use Rattle.handler_gen.proofs.Offsets.{cells_of}
 use Rattle.handler_gen.proofs.Words.{word_same, word_other, words_as_many}
@@ -34,7 +29,7 @@ use Rattle.block_lower.specs.Sites.{accs_of}
 use Rattle.block_lower.proofs.Seeing.{cell_of_level, has_cell}
 use Rattle.block_lower.proofs.Sides.{numbers_in}
 use Rattle.block_lower.proofs.UnbrokenSpots.{at_level}
-use Rattle.block_lower.proofs.Variables.{AreHeld, cell_names, held_assign, names_assign, var_names}
+use Rattle.block_lower.proofs.Variables.{AreHeld, cell_names, var_names}
 
 -- ---- variables by their cells
 
@@ -88,30 +83,6 @@ held_by_cells s z (c ∷ cs) level (u ∷ us) laid named distinct ranged shown =
         ap (λ (b : Bool). word_at s (pos (z + cond b c.1 (cell_in cs x)))) (sym other)
         ∙ (shown x (rw other has)
         ∙ ap (λ (b : Bool). Some (Int (cond b u.value (lookup us x)))) e)
-
--- ---- units
-
--- where the reduced variables are set to their units
-pub units_held : (scope : Scope) (rs : List Reduce) (s : StackValue) (z n : ℕ)
-    (vs : List Variable) → AreLaid 0 scope.cells.items
-    → cell_names scope.cells.items ≡ var_names vs
-    → AllByRecursion (λ (r : Reduce). HasVariable scope r.target.text.items) rs → Has s z n
-    → All (λ x. x < n) (cells_of (accs_of scope rs)) → AreHeld s z 0 vs
-    → AreHeld (with_units (accs_of scope rs) z s) z 0 (with_accs rs (units_for rs) vs)
-units_held scope [] s z n vs laid named seen has inside held = held
-units_held scope (r ∷ rs) s z n vs laid named seen has inside held =
-    let x : List ℕ = r.target.text.items in
-    let cell : ℕ = offset_of scope x in
-    let own : cell < n = All-head (λ (y : ℕ). y < n) cell (cells_of (accs_of scope rs)) inside in
-    let t : StackValue = with_word s (pos (z + cell)) (Int (unit r.op)) in
-    units_held scope rs t z n (assign vs x (unit r.op)) laid
-    (named ∙ sym (names_assign vs x (unit r.op))) seen.1
-    (has_set s z n (z + cell) (Int (unit r.op)) has)
-    (All-tail (λ (y : ℕ). y < n) cell (cells_of (accs_of scope rs)) inside)
-    (held_assign s t z scope.cells.items 0 vs x (unit r.op) laid named seen.0 (unit_fits r.op)
-    (word_same s (z + cell) (Int (unit r.op)) (omega (arith, has.low))
-    (omega (arith, has.high, own)))
-    (λ a ne. word_other s (z + cell) a (Int (unit r.op)) (omega (arith, has.low)) ne) held)
 
 -- ---- numbers
 

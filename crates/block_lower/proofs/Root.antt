@@ -42,6 +42,7 @@ use Rattle.tpal_machine.specs.Step.{Ends, advanced}
 use Rattle.tpal_machine.proofs.Kit.{Back, on_salloc, halts}
 use Rattle.expr_lower.specs.Standing.{Remains}
 use Rattle.expr_lower.proofs.Standing.{next, behind, at_end}
+use Rattle.handler_gen.proofs.Words.{word_same, words_as_many}
 use Rattle.block_lower.specs.Code.{store}
 use Rattle.block_lower.specs.Layout.{levels_cell, Activation}
 use Rattle.block_lower.specs.Main.{IsProgram, table_name}
@@ -61,7 +62,6 @@ use Rattle.block_lower.proofs.Results.{then_end}
 use Rattle.block_lower.proofs.Scene.{Scene, Owed}
 use Rattle.block_lower.proofs.Simple.{stores_in}
 use Rattle.block_lower.proofs.Values.{ExprLaw}
-use Rattle.block_lower.proofs.Words.{word_same, words_as_many}
 
 abbrev outcome_of_end : End → Outcome
 outcome_of_end (Fin s) = record { stop = Done; output = s.output; ticks = s.ticks }

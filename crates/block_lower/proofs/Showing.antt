@@ -18,6 +18,7 @@ use Rattle.loop_meaning.specs.declared.value.Variable.{Variable}
 use Rattle.loop_meaning.specs.InRange.{InRange, TableInRange}
 use Rattle.loop_meaning.specs.State as meaning
 use Rattle.loop_meaning.specs.State.{assign, declare}
+use Rattle.handler_gen.proofs.Words.{word_same, word_other, words_as_many}
 use Rattle.block_lower.specs.Code.{IsCell}
 use Rattle.block_lower.specs.Layout.{levels_cell, value_cell, Activation}
 use Rattle.block_lower.proofs.Results.{left}
@@ -25,7 +26,6 @@ use Rattle.block_lower.proofs.Scene.{Scene, Shows}
 use Rattle.block_lower.proofs.Regions.{AreShown}
 use Rattle.block_lower.proofs.Tables.{table_names}
 use Rattle.block_lower.proofs.Variables.{var_names, held_same, held_declare, held_assign, held_take, names_declare, names_assign, names_take}
-use Rattle.block_lower.proofs.Words.{word_same, word_other, words_as_many}
 
 as_many_names : (vs : List Variable) → length vs ≡ length (var_names vs)
 as_many_names [] = refl

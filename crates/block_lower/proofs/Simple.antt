@@ -26,13 +26,13 @@ use Rattle.tpal_machine.proofs.Kit.{Back, on_store, on_print}
 use Rattle.expr_lower.specs.Leaving.{Keeps, moved}
 use Rattle.expr_lower.specs.Standing.{Remains}
 use Rattle.expr_lower.proofs.Standing.{next, behind}
+use Rattle.handler_gen.proofs.Words.{word_there, word_same}
 use Rattle.block_lower.specs.Code.{Computes, Operand, IsCell, store}
 use Rattle.block_lower.specs.Layout.{value_cell, Activation}
 use Rattle.block_lower.proofs.Results.{Result, result, then}
 use Rattle.block_lower.proofs.Scene.{Scene, ShowsIn, Owed}
 use Rattle.block_lower.proofs.Showing.{shows_words, shows_new, shows_declared, shows_assigned, shows_output}
 use Rattle.block_lower.proofs.Values.{ExprLaw, computes, operand_is}
-use Rattle.block_lower.proofs.Words.{word_there, word_same}
 
 module _ (code : Listing) (heartbeat z : ℕ) (act : Activation) (fuel : ℕ) where
   -- a store to a cell of the activation

@@ -33,6 +33,7 @@ use Rattle.tpal_machine.proofs.Kit.{Back, on_calc, on_load}
 use Rattle.expr_lower.specs.Standing.{Remains}
 use Rattle.expr_lower.proofs.Registers.{register_set, register_other}
 use Rattle.expr_lower.proofs.Standing.{next, behind}
+use Rattle.handler_gen.proofs.Words.{word_other, word_same, words_as_many}
 use Rattle.block_lower.specs.Code.{below_test, load, next_turn, step_up, store, to}
 use Rattle.block_lower.specs.Layout.{Activation, bound_cell, levels_cell, value_cell}
 use Rattle.block_lower.proofs.Choices.{leaving}
@@ -48,7 +49,6 @@ use Rattle.block_lower.proofs.Ticks.{ticks}
 use Rattle.block_lower.proofs.Turning.{KeptOf, ParAt, enough_of, outer_stable, pieces, rec_is}
 use Rattle.block_lower.proofs.Turning.{turning}
 use Rattle.block_lower.proofs.Variables.{held_same, var_names}
-use Rattle.block_lower.proofs.Words.{word_other, word_same, words_as_many}
 
 -- ---- results, one behind another
 

@@ -1,7 +1,11 @@
 // What follows from the definitions of the code of statements. The functions do nothing: their
 // contracts are the laws, for those who reason about codes.
 
+ghost use Rattle.std.specs.Prelude.{◌≡◌, ◌*◌, ◌≤◌, length};
 ghost use Rattle.loop_check.specs.Unbroken.{NoneBroken};
+ghost use Rattle.loop_parse.specs.Text.{Reads};
+ghost use Rattle.loop_syntax.specs.Tree.{program_of};
+ghost use Rattle.block_lower.specs.Count.{blocks_of_program};
 ghost use Rattle.block_lower.specs.Main.{IsProgram};
 ghost use Rattle.block_lower.specs.Owing.{OwesMeaning};
 
@@ -17,3 +21,17 @@ pub fn program_owes(program: &Program, code: &Code)
 {
     let _blocks = code.blocks();
 }
+
+/// Where a program lies in memory is no matter: programs with one tree are counted with as many
+/// blocks.
+pub fn only_the_tree_counts(program: &Program, other: &Program)
+    ensures { program_of program.now ≡ program_of other.now
+        → blocks_of_program program.now ≡ blocks_of_program other.now }
+{}
+
+/// The program of a text is counted with at most 64 blocks for each byte of the text, so its count
+/// stays far below the numbers of 64 bits.
+pub fn texts_have_few_blocks(source: &[u8], program: &Program)
+    ensures { Reads source.now (program_of program.now)
+        → blocks_of_program program.now ≤ 64 * length source.now }
+{}

@@ -1,7 +1,8 @@
 // From a source text to a program and its code, and what the code's first task holds.
 
-ghost use Rattle.std.specs.Prelude.{◌≡◌, ◌≤◌, [], length, IfOk, IfSome};
+ghost use Rattle.std.specs.Prelude.{◌≡◌, ◌≤◌, length, IfOk, IfSome};
 ghost use Rattle.block_lower.specs.Owing.{AreHeld, AreNamed, OwesMeaning};
+ghost use Rattle.code_rows.specs.Owed.{given_to};
 
 use block_lower::lower;
 use loop_check::{Checked, check};
@@ -71,20 +72,26 @@ pub fn columns(alloc: Global, tables: &[CodeTable], column: &[i64]) -> Result<Ve
     Ok(all)
 }
 
-/// What the first task holds, where nothing is given: for programs that declare no table, or one
-/// that is made.
+/// What the first task holds: of an input named `a` a column of 1 to 4, and nothing of a table that
+/// is made. For programs that declare one table at most.
 pub fn held(alloc: Global, on: &Compiled) -> Result<Option<Vec<Held>>, NoMemory>
     requires owes { OwesMeaning on.now.program on.now.code }
     ensures named { IfOk result
-        (λ found. IfSome found (λ all. AreNamed on.now.program.tables.items [])) }
+        (λ found. IfSome found
+        (λ all. AreNamed on.now.program.tables.items (given_to on.now.program.tables.items))) }
     ensures held { IfOk result
-        (λ found. IfSome found (λ all. AreHeld on.now.program.tables.items [] all.items)) }
+        (λ found. IfSome found
+        (λ all. AreHeld on.now.program.tables.items (given_to on.now.program.tables.items) all.items)) }
     ensures tables { IfOk result
         (λ found. IfSome found (λ all. length all.items ≡ length on.now.code.tables)) }
 {
     match on.program.program().tables.as_slice() {
         [] => Ok(Some(Vec::new(alloc))),
         [TableDecl::Made(_, _, _)] => Ok(Some(vec![in alloc; Held::none(alloc, 0, 0)]?)),
+        [TableDecl::Input(name)] if name.text.as_slice() == b"a" => {
+            let cells = Vec::from_slice(alloc, &[1, 2, 3, 4])?;
+            Ok(Some(vec![in alloc; Held::whole(4, 1, cells)]?))
+        }
         _ => Ok(None),
     }
 }

@@ -10,6 +10,8 @@ mod compiling;
 #[cfg(test)]
 mod forking;
 #[cfg(test)]
+mod limits;
+#[cfg(test)]
 mod lowering;
 #[cfg(test)]
 mod orders;

@@ -60,7 +60,13 @@ fn outcome_of(alloc: Global, source: &[u8], fuel: u64) -> Result<Option<Outcome>
 }
 
 /// Whether a source with so much fuel prints this and stops so.
-fn prints(alloc: Global, source: &[u8], fuel: u64, output: &[u8], stop: Stop) -> Result<bool, Fail>
+pub fn prints(
+    alloc: Global,
+    source: &[u8],
+    fuel: u64,
+    output: &[u8],
+    stop: Stop,
+) -> Result<bool, Fail>
     requires { fuel ≤ 1000000000000 }
 {
     let outcome = outcome_of(alloc, source, fuel)?.ok_or("an outcome")?;
@@ -81,7 +87,8 @@ const DONE: [(&[u8], &[u8]); 12] = [
         b"7\n",
     ),
     (
-        b"main { let x = -2; if x == 0 { print 0; } else { if x < 0 { print -1; } else { print 1; } } print x; }",
+        b"main { let x = -2; if x == 0 { print 0; } else { if x < 0 { print -1; } else { print 1; \
+          } } print x; }",
         b"-1\n-2\n",
     ),
     (
@@ -93,70 +100,95 @@ const DONE: [(&[u8], &[u8]); 12] = [
         b"2\n3\n4\n",
     ),
     (
-        b"main { let n = 3; let s = 0; loop i in 0..n { n = 9; loop j in i..3 { s = s + 10 * i + j; } } print s; }",
+        b"main { let n = 3; let s = 0; loop i in 0..n { n = 9; \
+          loop j in i..3 { s = s + 10 * i + j; } } print s; }",
         b"48\n",
     ),
     (
-        b"main { let s = 0; loop i in 0..3 { let a = i; if a == 1 { let b = 5; s = s + b; } else { let c = 1; s = s + c; } let d = s; s = d; } print s; }",
+        b"main { let s = 0; loop i in 0..3 { let a = i; if a == 1 { let b = 5; s = s + b; \
+          } else { let c = 1; s = s + c; } let d = s; s = d; } print s; }",
         b"7\n",
     ),
     (
-        b"main { let a = 0; while a < 2 { let b = 0; while b < 3 { b = b + 1; if b == 2 { print a * 10 + b; } } a = a + 1; } }",
+        b"main { let a = 0; while a < 2 { let b = 0; while b < 3 { b = b + 1; \
+          if b == 2 { print a * 10 + b; } } a = a + 1; } }",
         b"2\n12\n",
     ),
 ];
 
 const FORMS: [(&[u8], &[u8]); 13] = [
     (
-        b"main { let s = 1; par i in 1..6 reduce s by mul { fold s with i; } print s; par i in 3..0 { } }",
+        b"main { let s = 1; par i in 1..6 reduce s by mul { fold s with i; } print s; \
+          par i in 3..0 { } }",
         b"120\n",
     ),
     (
-        b"input a; main { let s = 10; par i in 0..rows(a) reduce s by add { fold s with a[i][0]; } print s; }",
+        b"input a; main { let s = 10; par i in 0..rows(a) reduce s by add { fold s with a[i][0]; \
+          } print s; }",
         b"15\n",
     ),
     (
-        b"input a; main { let m = 9; let n = -9; par i in 0..3 reduce m by min, n by max { fold m with a[i][0]; fold n with a[i][0]; } print m; print n; }",
+        b"input a; main { let m = 9; let n = -9; \
+          par i in 0..3 reduce m by min, n by max { fold m with a[i][0]; fold n with a[i][0]; \
+          } print m; print n; }",
         b"-2\n4\n",
     ),
     (
-        b"table t[2][3]; main { par i in 0..2 carry t[i] { par j in 0..3 carry t[i][j] { t[i][j] = (i + 1) * (j + 1); } } emit t; }",
+        b"table t[2][3]; main { par i in 0..2 carry t[i] { par j in 0..3 carry t[i][j] { \
+          t[i][j] = (i + 1) * (j + 1); } } emit t; }",
         b"1 2 3\n2 4 6\n",
     ),
     (
-        b"input a; table b[cols(a)][rows(a)]; main { loop i in 0..3 { b[0][i] = a[i][0]; } emit b; emit a; }",
+        b"input a; table b[cols(a)][rows(a)]; main { loop i in 0..3 { b[0][i] = a[i][0]; \
+          } emit b; emit a; }",
         b"4 -2 3\n4\n-2\n3\n",
     ),
     (
-        b"table t[2][0+(0+(0+(0+(0+(0+(0+(0+(0+(0+(0+(0+(0+(0+(0+(0+(0+(0+(0+(0+(0+(0+(0+(3)))))))))))))))))))))))]; main { t[1][0+(0+(0+(0+(0+(0+(0+(0+(0+(0+(0+(0+(0+(0+(0+(0+(0+(0+(0+(0+(0+(0+(0+(1)))))))))))))))))))))))] = 0+(0+(0+(0+(0+(0+(0+(0+(0+(0+(0+(0+(0+(0+(0+(0+(0+(0+(0+(0+(0+(0+(0+(7))))))))))))))))))))))); emit t; }",
+        b"table t[2][0+(0+(0+(0+(0+(0+(0+(0+(0+(0+(0+(0+(0+(0+(0+(0+(0+(0+(0+(0+(0+(0+(0+\
+          (3)))))))))))))))))))))))]; main { \
+          t[1][0+(0+(0+(0+(0+(0+(0+(0+(0+(0+(0+(0+(0+(0+(0+(0+(0+(0+(0+(0+(0+(0+(0+\
+          (1)))))))))))))))))))))))] = \
+          0+(0+(0+(0+(0+(0+(0+(0+(0+(0+(0+(0+(0+(0+(0+(0+(0+(0+(0+(0+(0+(0+(0+\
+          (7))))))))))))))))))))))); emit t; }",
         b"0 0 0\n0 7 0\n",
     ),
     (
-        b"fn f(a, b) { a = a - b; return 10 * a + b; } main { let x = 7; call x = f(x, 2); print x; }",
+        b"fn f(a, b) { a = a - b; return 10 * a + b; } main { let x = 7; call x = f(x, 2); \
+          print x; }",
         b"52\n",
     ),
     (
-        b"fn f(a) { let r = a; if a { call r = f(a - 1); r = r + a; } return r; } main { let x = 0; call x = f(100); print x; }",
+        b"fn f(a) { let r = a; if a { call r = f(a - 1); r = r + a; } return r; \
+          } main { let x = 0; call x = f(100); print x; }",
         b"5050\n",
     ),
     (
-        b"fn f(a) { return 2 * a; } main { let x = 1; let y = 2; both x = f(y), y = f(x); print x; print y; }",
+        b"fn f(a) { return 2 * a; } main { let x = 1; let y = 2; both x = f(y), y = f(x); \
+          print x; print y; }",
         b"4\n2\n",
     ),
     (
-        b"fn g(a) { return a + 1; } fn f() { let u = 0; let v = 0; both u = g(1), v = h(3, 4); return 10 * u + v; } fn h(a, b) { let c = 0; call c = g(b); return a * c; } main { let x = 0; call x = f(); print x; }",
+        b"fn g(a) { return a + 1; } fn f() { let u = 0; let v = 0; both u = g(1), v = h(3, 4); \
+          return 10 * u + v; } fn h(a, b) { let c = 0; call c = g(b); return a * c; \
+          } main { let x = 0; call x = f(); print x; }",
         b"35\n",
     ),
     (
-        b"input a; fn f(i) { return a[i][0] * a[i][0]; } main { let s = 0; par i in 0..rows(a) reduce s by add { let r = 0; call r = f(i); fold s with r; } print s; }",
+        b"input a; fn f(i) { return a[i][0] * a[i][0]; } main { let s = 0; \
+          par i in 0..rows(a) reduce s by add { let r = 0; call r = f(i); fold s with r; \
+          } print s; }",
         b"29\n",
     ),
     (
-        b"fn f(a, b, c, d, e, g, h, i) { return a + 10 * (b + 10 * (c + 10 * (d + 10 * (e + 10 * (g + 10 * (h + 10 * i)))))); } main { let x = 0; let y = 0; both x = f(1, 2, 3, 4, 5, 6, 7, 8), y = f(8, 7, 6, 5, 4, 3, 2, 1); print x; print y; }",
+        b"fn f(a, b, c, d, e, g, h, i) { \
+          return a + 10 * (b + 10 * (c + 10 * (d + 10 * (e + 10 * (g + 10 * (h + 10 * i)))))); \
+          } main { let x = 0; let y = 0; both x = f(1, 2, 3, 4, 5, 6, 7, 8), y = f(8, 7, 6, 5, 4, \
+          3, 2, 1); print x; print y; }",
         b"87654321\n12345678\n",
     ),
     (
-        b"main { let s = 0; par i in 0..2 reduce s by add { par j in 0..3 reduce s by add { fold s with 10 * i + j; } } print s; }",
+        b"main { let s = 0; par i in 0..2 reduce s by add { par j in 0..3 reduce s by add { \
+          fold s with 10 * i + j; } } print s; }",
         b"36\n",
     ),
 ];
@@ -184,7 +216,8 @@ fn programs_with_tables_and_calls_print(rt: HostRuntime) -> Result<(), Fail> {
 }
 
 const FIBONACCI: &[u8] =
-    b"fn f(n) { let r = n; if 1 < n { let a = 0; let b = 0; both a = f(n - 1), b = f(n - 2); r = a + b; } return r; } main { let x = 0; call x = f(10); print x; }";
+    b"fn f(n) { let r = n; if 1 < n { let a = 0; let b = 0; both a = f(n - 1), b = f(n - 2); \
+      r = a + b; } return r; } main { let x = 0; call x = f(10); print x; }";
 
 const LATE: &[u8] = b"main { let z = 0; par i in 0..4 { let q = 1; if i == 3 { q = 1 / z; } } }";
 
@@ -300,13 +333,17 @@ fn each_kind_of_trap_stops_at_its_place(rt: HostRuntime) -> Result<(), Fail> {
             35,
         ),
         (
-            b"table t[2][0+(0+(0+(0+(0+(0+(0+(0+(0+(0+(0+(0+(0+(0+(0+(0+(0+(0+(0+(0+(0+(0+(0+(2)))))))))))))))))))))))]; main { t[2][0+(0+(0+(0+(0+(0+(0+(0+(0+(0+(0+(0+(0+(0+(0+(0+(0+(0+(0+(0+(0+(0+(0+(1)))))))))))))))))))))))] = 5; }",
+            b"table t[2][0+(0+(0+(0+(0+(0+(0+(0+(0+(0+(0+(0+(0+(0+(0+(0+(0+(0+(0+(0+(0+(0+(0+\
+              (2)))))))))))))))))))))))]; main { \
+              t[2][0+(0+(0+(0+(0+(0+(0+(0+(0+(0+(0+(0+(0+(0+(0+(0+(0+(0+(0+(0+(0+(0+(0+\
+              (1)))))))))))))))))))))))] = 5; }",
             TrapKind::Index,
             115,
         ),
         (b"table t[-1][1]; main { }", TrapKind::Size, 7),
         (
-            b"fn f(n) { let r = 0; call r = f(n); return r; } main { let x = 0; call x = f(1); print x; }",
+            b"fn f(n) { let r = 0; call r = f(n); return r; } main { let x = 0; call x = f(1); \
+              print x; }",
             TrapKind::Deep,
             31,
         ),
@@ -331,7 +368,8 @@ fn blocks_are_counted(rt: HostRuntime) -> Result<(), Fail> {
             8 + 8 + 24 + 64 + 16,
         ),
         (
-            b"fn f(n) { return n; } main { let x = 0; let y = 0; both x = f(1), y = f(x + 2); par i in 0..2 { let q = 1; } }",
+            b"fn f(n) { return n; } main { let x = 0; let y = 0; both x = f(1), y = f(x + 2); \
+              par i in 0..2 { let q = 1; } }",
             8 + 16 + 24 + 24 + 96 + 104,
         ),
     ];

@@ -21,7 +21,7 @@ struct Plan {
     workers: u32,
 }
 
-/// The first configuration of a program's code, where nothing is given.
+/// The first configuration of a program's code, over what it is given.
 fn first(alloc: Global, on: &Compiled, plan: Plan) -> Result<Config, Fail>
     requires owes { OwesMeaning on.now.program on.now.code }
     requires heartbeat { (1 ≤ plan.heartbeat) × (plan.heartbeat ≤ MAX_BEAT) }
@@ -202,7 +202,7 @@ const SUM: &[u8] =
     b"main { let s = 0; par i in 0..100 reduce s by add { fold s with i; } print s; }";
 
 // Sources with what each prints, and the iterations of its loops and its calls together.
-const DONE: [(&[u8], &[u8], u64); 14] = [
+const DONE: [(&[u8], &[u8], u64); 15] = [
     (SUM, b"4950\n", 100),
     // x becomes 2 * x + i, for i from 0 to 4: 32 * x + 26
     (
@@ -328,6 +328,17 @@ const DONE: [(&[u8], &[u8], u64); 14] = [
         }",
         b"18\n",
         30,
+    ),
+    // the cells of a given column
+    (
+        b"input a;
+        main {
+            let s = 0;
+            par i in 0..rows(a) reduce s by add { fold s with a[i][0]; }
+            print s;
+        }",
+        b"10\n",
+        4,
     ),
 ];
 

@@ -20,6 +20,3 @@ mod steps;
 pub use assembling::assemble;
 pub use fault::AsmFault;
 pub use laws::one_fault_a_text;
-
-#[cfg(test)]
-mod tests;

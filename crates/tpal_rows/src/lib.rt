@@ -8,6 +8,8 @@ mod beats;
 #[cfg(test)]
 mod calls;
 #[cfg(test)]
+mod code_texts;
+#[cfg(test)]
 mod compiling;
 #[cfg(test)]
 mod examples;
@@ -29,6 +31,8 @@ mod program_limits;
 mod rules;
 #[cfg(test)]
 mod running;
+#[cfg(test)]
+mod sample;
 #[cfg(test)]
 mod shown;
 #[cfg(test)]

@@ -13,7 +13,7 @@ fn writes(alloc: Global, words: &[&str], text: &str, status: Status) -> Result<b
 
 #[test]
 fn words_that_are_not_of_the_form_are_bad(rt: HostRuntime) -> Result<(), Fail> {
-    let cases: [&[&str]; 18] = [
+    let cases: [&[&str]; 17] = [
         &[],
         &["run"],
         &["run", "--"],
@@ -30,7 +30,6 @@ fn words_that_are_not_of_the_form_are_bad(rt: HostRuntime) -> Result<(), Fail> {
         &["compile", "p", "t"],
         &["compile", "p", "--fuel", "1"],
         &["compile", "-p"],
-        &["sample", "1"],
         &["--help"],
     ];
     for words in cases {

@@ -12,6 +12,7 @@ use Rattle.tpal_tool.specs.declared.status.Status.{Status}
 use Rattle.tpal_tool.specs.Answering.{Halts, OwesRefusal, RefusesLength, RefusesMissing, RefusesSource, RefusesTables, RefusesTablesLength, status_with}
 use Rattle.tpal_tool.specs.Lines.{line_of}
 use Rattle.tpal_tool.specs.Owed.{NamedRunOwes, long, Owed, RunOwes, faulty_tables, missing}
+use Rattle.tpal_tool.specs.Told.{told_source}
 use Rattle.tpal_tool.specs.Words.{Command, Options, program_name}
 use Rattle.tpal_tool.proofs.Endings.{refused-owed, too_long-owed}
 
@@ -40,11 +41,11 @@ refuses_over program told None options r never = elim never [ ]
 refuses_over program told (Some name) options r (is, is_long) = long refl is_long is.0 is.1
 
 -- a source text that is too long
-pub refuses_long : (told : List ℕ → Option (List ℕ)) (command : Command) (r : Refusal) → RefusesLength (told (program_name command)) MAX_SOURCE_BYTES (program_name command) r → OwesRefusal (Owed (Some command) told) r
-refuses_long told command r (is, is_long) = too_long-owed told command (status_with r) (line_of r) is_long is.0 is.1
+pub refuses_long : (told : List ℕ → Option (List ℕ)) (command : Command) (name : List ℕ) → program_name command ≡ Some name → (r : Refusal) → RefusesLength (told name) MAX_SOURCE_BYTES name r → OwesRefusal (Owed (Some command) told) r
+refuses_long told command name named r (is, is_long) = too_long-owed told command name (status_with r) (line_of r) named is_long is.0 is.1
 
 -- a source text that is refused
-pub refuses_source : (told : List ℕ → Option (List ℕ)) (command : Command) (source : List ℕ) → IfSome (told (program_name command)) (λ t. source ≡ t) → length source ≤ MAX_SOURCE_BYTES → (r : Refusal) → RefusesSource source r → OwesRefusal (Owed (Some command) told) r
+pub refuses_source : (told : List ℕ → Option (List ℕ)) (command : Command) (source : List ℕ) → IfSome (told_source told command) (λ t. t ≡ source) → length source ≤ MAX_SOURCE_BYTES → (r : Refusal) → RefusesSource source r → OwesRefusal (Owed (Some command) told) r
 refuses_source told command source is_source low r (is, only) = refused-owed told command source (status_with r) (line_of r) is_source low only is
 
 -- what is written of a refusal is what is owed

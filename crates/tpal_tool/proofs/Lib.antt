@@ -6,20 +6,20 @@ pub mod ThreeTexts
 pub mod Pieces
 -- how a call ends
 pub mod Endings
+-- what a call wrote that came to its end
+pub mod Answered
+-- the promises of the top call, from how it ends
+pub mod Promised
 -- from a run that is ready to what is owed
 pub mod Finishing
 -- why a part of a call halts, and why the whole does
 pub mod Halting
--- the number of blocks that a program is counted with, by its tree alone
-pub mod TreeBlocks
 -- the inputs that a program misses, by its tree alone
 pub mod TreeInputs
 -- the tables of a text have as many cells as they should, and numbers in range
 pub mod GivenTables
 -- tables that are taken out of the given ones, one by one
 pub mod TakenTables
--- what is held of a table that was taken
-pub mod HeldTables
 -- the declared tables, one by one
 pub mod Declarations
 -- a program that breaks no rule gives its inputs different names

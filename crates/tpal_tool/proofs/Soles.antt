@@ -21,7 +21,7 @@ use Rattle.loop_check.specs.Checking as parallel
 use Rattle.loop_check.specs.Unbroken.{NoneBroken}
 use Rattle.loop_check.proofs.Firsts as parallels
 use Rattle.block_lower.specs.Count.{blocks_of_program}
-use Rattle.tpal_tool.proofs.TreeBlocks.{blocks_of_tree}
+use Rattle.block_lower.proofs.TreeBlocks.{blocks_of_tree}
 
 -- ---- faults of the lexer
 

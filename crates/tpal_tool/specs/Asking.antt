@@ -9,9 +9,9 @@ use Rattle.tpal_tool.specs.declared.words.WordKind.{WordKind}
 use Rattle.tpal_tool.specs.declared.words.WordKind.TheVariants as kind
 use Rattle.tpal_tool.specs.declared.words.NextWord.{NextWord}
 use Rattle.tpal_tool.specs.declared.words.NextWord.TheVariants as next
-use Rattle.tpal_tool.specs.Words.{Options, Command, Run, Compile, Chosen, Given}
-use Rattle.tpal_tool.specs.Words.{Kind, Positional, EndOfOptions, Show, ValueNext, ValueIs, Unlisted}
-use Rattle.tpal_tool.specs.Words.{Due, AnyWord, ValueOf}
+use Rattle.tpal_tool.specs.Words.{Options, Command, Run, Compile, Sample, Chosen, Given}
+use Rattle.tpal_tool.specs.Words.{Kind, Positional, EndOfOptions, Show, ValueNext, ValueIs}
+use Rattle.tpal_tool.specs.Words.{Unlisted, Due, AnyWord, ValueOf}
 
 -- how a run goes
 abbrev pub options_seen : RunOptions → Options
@@ -23,6 +23,7 @@ abbrev pub command_of : Request → Command
 command_of (asked.Run run) =
     Run run.program.now (option_map (λ t. t.now) run.tables) (options_seen run.options)
 command_of (asked.Compile program) = Compile program.now
+command_of (asked.Sample sample) = Sample sample.seed (options_seen sample.options)
 
 abbrev pub chosen_of : request.Chosen → Chosen
 chosen_of c =
@@ -31,8 +32,8 @@ chosen_of c =
 abbrev pub given_of : Gathered → Given
 given_of g =
     record {
-      program = option_map (λ t. t.now) g.program;
-      tables = option_map (λ t. t.now) g.tables;
+      first_word = option_map (λ t. t.now) g.first_word;
+      second_word = option_map (λ t. t.now) g.second_word;
       options = chosen_of g.options;
     }
 

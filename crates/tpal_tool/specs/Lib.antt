@@ -13,8 +13,12 @@ pub mod Asking
 pub mod Lines
 -- what a source text comes to: a program, or a refusal
 pub mod Verdict
+-- the texts that a command is about: those of a shelf, or the sample's
+pub mod Told
 -- what a call owes, and how it ends
 pub mod Owed
+-- what the top call promises: why it ends without what it owes, and which answer comes where
+pub mod Promises
 -- what a source text reads as
 pub mod Reading
 -- what the parts of a call answer: texts, a status, or why they halt

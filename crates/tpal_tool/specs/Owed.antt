@@ -25,8 +25,10 @@ use Rattle.tpal_tool.specs.Lines.{bad_words_line, counts_line, missing_line, tab
 use Rattle.tpal_tool.specs.Lines.{too_long_line}
 use Rattle.tpal_tool.specs.Shelf.{HasRisen}
 use Rattle.tpal_tool.specs.Sink.{Appended, PrefixAppended}
+use Rattle.tpal_tool.specs.Told.{IsProgramOf, text_over, told_source, told_tables}
 use Rattle.tpal_tool.specs.Verdict.{RefusesOnly, AcceptsOnly}
 use Rattle.tpal_tool.specs.Words.{Options, Command, Run, Compile, program_name, tables_name}
+use Rattle.tpal_tool.specs.Words.{run_options}
 
 -- ---- what a program owes
 
@@ -43,7 +45,8 @@ pub record Ran (program : Program) (code : Listing) (inputs : List Table) (optio
       → SoloRun code options.beat options.forks (first_state holdings options.fuel) outcome tally
 
 -- the text of a code, then that of an outcome, and then the line of these counts
-pub record ShowsRun (code : Listing) (outcome : Outcome) (tally : Tally) (text : List ℕ) : Type 0 where
+pub record ShowsRun (code : Listing) (outcome : Outcome) (tally : Tally) (text : List ℕ) :
+    Type 0 where
   pub bytes : List ℕ
   pub code_text : CodeText bytes code.tables code.blocks
   pub whole : text ≡ bytes ++ text_of outcome ++ counts_line tally outcome.ticks
@@ -93,18 +96,19 @@ pub record CompilesTo (program : Program) (text : List ℕ) : Type 0 where
 
 -- ---- what a call owes
 
--- what a call owes whose words ask for this, or are not of the form, where the texts that they name
--- are these
+-- what a call owes whose words ask for this, or are not of the form, where the texts that it is
+-- about are these
 pub data Owes (wanted : Option Command) (source tables : List ℕ) (status : Status) (text : List ℕ) :
     Type 0 where
   bad_words : wanted ≡ None
       → status ≡ BadWords
       → text ≡ bad_words_line
       → Owes wanted source tables status text
-  too_long : {command : Command} → wanted ≡ Some command → MAX_SOURCE_BYTES < length source →
-      status ≡ Refused
-      → text ≡ too_long_line (program_name command)
-      → Owes wanted source tables status text
+  too_long : {command : Command} {name : List ℕ}
+      → wanted ≡ Some command
+      → program_name command ≡ Some name
+      → MAX_SOURCE_BYTES < length source →
+      status ≡ Refused → text ≡ too_long_line name → Owes wanted source tables status text
   refused : {command : Command}
       → wanted ≡ Some command
       → length source ≤ MAX_SOURCE_BYTES
@@ -123,32 +127,23 @@ pub data Owes (wanted : Option Command) (source tables : List ℕ) (status : Sta
       → AcceptsOnly source program
       → MAX_TABLES_BYTES < length tables →
       status ≡ Refused → text ≡ too_long_line over → Owes wanted source tables status text
-  ran : {name : List ℕ} {over : Option (List ℕ)} {options : Options} {program : Program}
-      → wanted ≡ Some (Run name over options) →
+  ran : {command : Command} {options : Options} {program : Program}
+      → wanted ≡ Some command
+      → run_options command ≡ Some options →
       length source ≤ MAX_SOURCE_BYTES
       → AcceptsOnly source program
       → length tables ≤ MAX_TABLES_BYTES →
       RunOwes program tables options status text → Owes wanted source tables status text
 
--- the tables text is that of the name, where it is told; without a name it is empty
-abbrev pub IsTables : (List ℕ → Option (List ℕ)) → Option (List ℕ) → List ℕ → Type 0
-IsTables told None tables = tables ≡ []
-IsTables told (Some name) tables = IfSome (told name) (λ text. text ≡ tables)
-
--- and it is told
-abbrev pub IsToldTables : (List ℕ → Option (List ℕ)) → Option (List ℕ) → List ℕ → Type 0
-IsToldTables told None tables = tables ≡ []
-IsToldTables told (Some name) tables = told name ≡ Some tables
-
--- the texts of the names that are asked for are these, where they are told
+-- the texts that are asked for are these, where they are told
 pub record AreTexts (wanted : Option Command) (told : List ℕ → Option (List ℕ))
     (source tables : List ℕ) : Type 0 where
   pub is_source : (command : Command)
       → wanted ≡ Some command
-      → IfSome (told (program_name command)) (λ text. text ≡ source)
+      → IfSome (told_source told command) (λ text. text ≡ source)
   pub is_tables : (command : Command)
       → wanted ≡ Some command
-      → IsTables told (tables_name command) tables
+      → IfSome (told_tables told command) (λ text. text ≡ tables)
 
 -- ---- how a call ends
 
@@ -177,23 +172,22 @@ pub record CutShort (wanted : Option Command) (told : List ℕ → Option (List 
 
 -- a name that is asked for: that of the program's text, or that of the tables' text
 abbrev pub Names : Command → List ℕ → Type 0
-Names command name = (name ≡ program_name command) ⊎ (tables_name command ≡ Some name)
+Names command name = (program_name command ≡ Some name) ⊎ (tables_name command ≡ Some name)
 
 -- the count of the faults of a name rose: that of the program's text, or, where that text was
 -- accepted, that of the tables' text
 pub data ReadFailed (wanted : Option Command) (told : List ℕ → Option (List ℕ))
     (old new : List ℕ → ℕ) : Type 0 where
-  program_failed : {command : Command}
+  program_failed : {command : Command} {name : List ℕ}
       → wanted ≡ Some command
-      → HasRisen (old (program_name command)) (new (program_name command)) →
+      → program_name command ≡ Some name
+      → HasRisen (old name) (new name) →
       ReadFailed wanted told old new
   tables_failed : {name over : List ℕ} {options : Options} {program : Program}
-      → wanted ≡ Some (Run name (Some over) options) →
-      (source : List ℕ)
-      → IfSome (told name) (λ text. text ≡ source)
-      → length source ≤ MAX_SOURCE_BYTES
-      → AcceptsOnly source program →
-      HasRisen (old over) (new over) → ReadFailed wanted told old new
+      → wanted ≡ Some (Run name (Some over) options)
+      → IsProgramOf (told name) program
+      → HasRisen (old over) (new over) →
+      ReadFailed wanted told old new
 
 -- a status with which the whole text was written
 abbrev pub IsFinal : Status → Type 0
@@ -259,6 +253,8 @@ pub data NamedRunOwes (program : Program) (told : List ℕ → Option (List ℕ)
       → IfSome (told name) (λ tables. MAX_TABLES_BYTES < length tables) →
       status ≡ Refused → text ≡ too_long_line name →
       NamedRunOwes program told over options status text
-  fits : (tables : List ℕ) → IsTables told over tables → length tables ≤ MAX_TABLES_BYTES →
+  fits : (tables : List ℕ)
+      → IfSome (text_over told over) (λ text. text ≡ tables)
+      → length tables ≤ MAX_TABLES_BYTES →
       RunOwes program tables options status text →
       NamedRunOwes program told over options status text

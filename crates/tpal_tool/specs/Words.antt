@@ -1,7 +1,8 @@
 -- The words of a call.
-use Rattle.std.specs.Prelude.{ℕ, Bool, true, false, not, ◌&&◌, ◌==◌, nat_le, is_some, is_none}
-use Rattle.std.specs.Prelude.{List, [], ◌∷◌, length, take, drop, Option, Some, None, option_map}
-use Rattle.std.specs.Prelude.{unwrap_or, bytes_eq, codes, if◌then◌else◌}
+use Rattle.std.specs.Prelude.{ℕ, ◌-◌, ◌^◌, Bool, true, false, not, ◌&&◌, ◌==◌, nat_le, is_some}
+use Rattle.std.specs.Prelude.{is_none, List, [], ◌∷◌, length, take, drop, Option, Some, None}
+use Rattle.std.specs.Prelude.{option_map, option_and_then, unwrap_or, bytes_eq, codes}
+use Rattle.std.specs.Prelude.{if◌then◌else◌}
 use Rattle.std.specs.Str.{all_ascii_digits}
 use Rattle.std.specs.Str.Parse.{digits_value_after}
 use Rattle.tp_value.specs.declared.limits.TheConstants.{MAX_BEAT, MAX_FORKS, MAX_FUEL, MAX_WORKERS}
@@ -19,26 +20,42 @@ pub record Options : Type 0 where
   pub fuel : ℕ
   pub show : Bool
 
--- a run of a program, over the tables of a text where one is named; or the code of a program
+-- a run of a program, over the tables of a text where one is named; the code of a program; or a run
+-- of the sample of a seed
 pub data Command : Type 0 where
   Run : (program : List ℕ) → (tables : Option (List ℕ)) → (options : Options) → Command
   Compile : (program : List ℕ) → Command
+  Sample : (seed : ℕ) → (options : Options) → Command
 
--- the name of the program's text
-abbrev pub program_name : Command → List ℕ
-program_name (Run program tables options) = program
-program_name (Compile program) = program
+-- the name of the program's text, where one is named
+abbrev pub program_name : Command → Option (List ℕ)
+program_name (Run program tables options) = Some program
+program_name (Compile program) = Some program
+program_name (Sample seed options) = None
 
 -- the name of the tables' text, where one is named
 abbrev pub tables_name : Command → Option (List ℕ)
 tables_name (Run program tables options) = tables
 tables_name (Compile program) = None
+tables_name (Sample seed options) = None
+
+-- how a run goes, where one is asked for
+abbrev pub run_options : Command → Option Options
+run_options (Run program tables options) = Some options
+run_options (Compile program) = None
+run_options (Sample seed options) = Some options
+
+-- the name of the program's text, where words name one
+abbrev pub program_asked : Option Command → Option (List ℕ)
+program_asked None = None
+program_asked (Some command) = program_name command
 
 -- the workers that are asked for
 abbrev pub workers_asked : Option Command → ℕ
 workers_asked None = 1
 workers_asked (Some (Run program tables options)) = options.workers
 workers_asked (Some (Compile program)) = 1
+workers_asked (Some (Sample seed options)) = options.workers
 
 -- ---- numbers
 
@@ -120,24 +137,24 @@ pub record Chosen : Type 0 where
   pub fuel : Option ℕ
   pub show : Bool
 
--- the words so far: one or two positional words, and the options
+-- the words so far: up to two positional words, and the options
 pub record Given : Type 0 where
-  pub program : Option (List ℕ)
-  pub tables : Option (List ℕ)
+  pub first_word : Option (List ℕ)
+  pub second_word : Option (List ℕ)
   pub options : Chosen
 
 abbrev pub nothing_chosen : Chosen
 nothing_chosen = record { beat = None; workers = None; forks = None; fuel = None; show = false }
 
 abbrev pub nothing_given : Given
-nothing_given = record { program = None; tables = None; options = nothing_chosen }
+nothing_given = record { first_word = None; second_word = None; options = nothing_chosen }
 
--- a positional word more: the program, then the tables, then none
+-- a positional word more, of two at most
 abbrev pub with_word : List ℕ → Given → Option Given
 with_word word given =
-    if is_some given.tables then None
-    else (if is_some given.program then Some (record given { tables = Some word })
-    else Some (record given { program = Some word }))
+    if is_some given.second_word then None
+    else (if is_some given.first_word then Some (record given { second_word = Some word })
+    else Some (record given { first_word = Some word }))
 
 -- the value of an option, which is given once
 abbrev pub with_number : Valued → ℕ → Chosen → Option Chosen
@@ -224,7 +241,8 @@ options_of chosen =
 -- `run` takes a program, tables or none, and options
 abbrev pub run_of : Given → Option Command
 run_of given =
-    option_map (λ program. Run program given.tables (options_of given.options)) given.program
+    option_map (λ program. Run program given.second_word (options_of given.options))
+    given.first_word
 
 -- whether no option was given
 abbrev pub is_plain : Chosen → Bool
@@ -235,7 +253,18 @@ is_plain chosen =
 -- `compile` takes a program alone
 abbrev pub compile_of : Given → Option Command
 compile_of given =
-    if is_none given.tables && is_plain given.options then option_map Compile given.program
+    if is_none given.second_word && is_plain given.options then option_map Compile given.first_word
+    else None
+
+-- the seed that a word spells: a number of 32 bits
+abbrev pub seed_of : List ℕ → Option ℕ
+seed_of word = number_up_to (2 ^ 32 - 1) word
+
+-- `sample` takes a seed alone, and the options of a run but `--show`
+abbrev pub sample_run_of : Given → Option Command
+sample_run_of given =
+    if is_none given.second_word && not given.options.show then option_map
+    (λ seed. Sample seed (options_of given.options)) (option_and_then seed_of given.first_word)
     else None
 
 -- what good words ask for: the first is the command
@@ -245,4 +274,6 @@ asked (command ∷ words) =
     if bytes_eq command (codes "run") then on_given (with_rest AnyWord words nothing_given) run_of
     else (if bytes_eq command (codes "compile") then on_given
     (with_rest AnyWord words nothing_given) compile_of
-    else None)
+    else (if bytes_eq command (codes "sample") then on_given
+    (with_rest AnyWord words nothing_given) sample_run_of
+    else None))

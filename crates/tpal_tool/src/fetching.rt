@@ -4,8 +4,8 @@ ghost use Rattle.std.specs.Prelude.{◌≡◌, ◌≤◌, ℕ, List, IfErr, IfOk
 ghost use Rattle.std.specs.Prelude.{option_map};
 ghost use Rattle.tp_value.specs.declared.limits.TheConstants.{MAX_TABLES_BYTES};
 ghost use Rattle.tpal_tool.specs.Answering.{Halts, RefusesLength, RefusesTablesLength};
-ghost use Rattle.tpal_tool.specs.Owed.{IsTables};
 ghost use Rattle.tpal_tool.specs.Shelf.{HasRisen};
+ghost use Rattle.tpal_tool.specs.Told.{text_over};
 
 use crate::refusal::{Halt, Refusal};
 use crate::shelf::{Shelf, ShelfFault};
@@ -19,7 +19,8 @@ pub fn fetched<S: Shelf>(
     limit: u32,
     shelf: &mut S,
 ) -> Result<Vec<u8>, Halt>
-    ensures told { IfOk result (λ text. IfSome (S.text shelf.old name.now) (λ told. text.items ≡ told)) }
+    ensures told { IfOk result
+        (λ text. IfSome (S.text shelf.old name.now) (λ told. text.items ≡ told)) }
     ensures within { IfOk result (λ text. length text.items ≤ limit) }
     ensures halt { IfErr result
         (Halts (RefusesLength (S.text shelf.old name.now) limit name.now)
@@ -45,7 +46,8 @@ pub fn fetched_tables<S: Shelf>(
     shelf: &mut S,
 ) -> Result<Vec<u8>, Halt>
     ensures told { IfOk result
-        (λ text. IsTables (S.text shelf.old) (option_map (λ t. t.now) name.entry) text.items) }
+        (λ text. IfSome (text_over (S.text shelf.old) (option_map (λ t. t.now) name.entry))
+        (λ told. told ≡ text.items)) }
     ensures within { IfOk result (λ text. length text.items ≤ MAX_TABLES_BYTES) }
     ensures halt { IfErr result
         (Halts (RefusesTablesLength (S.text shelf.old) (option_map (λ t. t.now) name.entry))

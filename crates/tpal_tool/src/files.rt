@@ -26,7 +26,8 @@ impl<R: Files> Shelf for FileShelf<R> {
 
     fn fetch(&mut self, alloc: Global, name: &str, limit: u32) -> Result<Vec<u8>, ShelfFault>
         ensures within { IfOk result (λ bytes. length bytes.items ≤ limit) }
-        ensures failed { IsErrOf result ShelfFault.Failed → HasRisen self.old.faults self.new.faults }
+        ensures failed { IsErrOf result ShelfFault.Failed
+            → HasRisen self.old.faults self.new.faults }
         ensures counts { self.old.faults ≤ self.new.faults }
 
         // What it leaves.

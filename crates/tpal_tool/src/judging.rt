@@ -1,6 +1,7 @@
 // From a source text to a program that can be compiled, or a refusal.
 
-ghost use Rattle.std.specs.Prelude.{◌≡◌, ◌≤◌, ℕ, List, IfErr, IfOk, length};
+ghost use Rattle.std.specs.Prelude.{◌≡◌, ◌-◌, ◌<◌, ◌≤◌, ◌^◌, ℕ, List, IfErr, IfOk, length};
+ghost use Rattle.block_lower.specs.Count.{blocks_of_program};
 ghost use Rattle.loop_rules.specs.Unbroken.{IsResolved};
 ghost use Rattle.loop_check.specs.Unbroken.{NoneBroken};
 ghost use Rattle.tpal_tool.specs.Answering.{Halts, RefusesSource};
@@ -51,7 +52,8 @@ fn checked(alloc: Global, program: Resolved) -> Result<Checked, Halt>
 
 /// A program that breaks no rule, where its code has few enough blocks.
 fn fitting(program: Checked) -> Result<Checked, Halt>
-    requires { NoneBroken program }
+    requires unbroken { NoneBroken program }
+    requires few { blocks_of_program program < 2 ^ 64 - 1 }
     ensures accepted { (source : List ℕ)
         → ReadsAs source program
         → IfOk result (AcceptsOnly source) }
@@ -62,10 +64,6 @@ fn fitting(program: Checked) -> Result<Checked, Halt>
     let blocks = block_count(&program);
     if blocks <= MAX_BLOCKS as u64 {
         return Ok(program);
-    }
-    // The count stands still there, and no memory holds such a program.
-    if blocks == u64::MAX {
-        return Err(Halt::NoMemory);
     }
     Err(Halt::Refused(Refusal::Blocks(blocks)))
 }

@@ -35,6 +35,15 @@ pub struct RunRequest<'a> {
     pub options: RunOptions,
 }
 
+/// A run of the sample that the words of a call ask for.
+#[derive(Clone, Copy)]
+pub struct SampleRequest {
+    /// The seed of the sample.
+    pub seed: u32,
+    /// How the run goes.
+    pub options: RunOptions,
+}
+
 /// What the words of a call ask for.
 #[derive(Clone, Copy)]
 pub enum Request<'a> {
@@ -42,6 +51,8 @@ pub enum Request<'a> {
     Run(RunRequest<'a>),
     /// The code of the program whose text has that name.
     Compile(&'a str),
+    /// A run of the sample of a seed.
+    Sample(SampleRequest),
 }
 
 /// An option that has a value.
@@ -80,9 +91,9 @@ pub struct Chosen {
 #[derive(Clone, Copy)]
 pub struct Gathered<'a> {
     /// The first positional word.
-    pub program: Option<&'a str>,
+    pub first_word: Option<&'a str>,
     /// The second one, which stands only behind the first.
-    pub tables: Option<&'a str>,
+    pub second_word: Option<&'a str>,
     /// The options.
     pub options: Chosen,
 }

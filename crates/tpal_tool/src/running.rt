@@ -69,7 +69,8 @@ pub fn ready_run(
     })
 }
 
-/// The texts of a run: what it printed, and where it is shown the code before and the counts behind.
+/// The texts of a run: what it printed, and where it is shown the code before and the counts
+/// behind.
 fn texts_of(alloc: Global, code: &Code, report: Report, show: bool) -> Result<Texts, NoMemory>
     ensures plain { show ≡ false
         → IfOk result (λ texts. whole_of texts ≡ text_of report.outcome) }

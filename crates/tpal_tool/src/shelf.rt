@@ -35,7 +35,8 @@ pub trait Shelf {
 
     /// The text of a name, of at most `limit` bytes.
     fn fetch(&mut self, alloc: Global, name: &str, limit: u32) -> Result<Vec<u8>, ShelfFault>
-        ensures told { IfOk result (λ bytes. IfSome (text self.old name.now) (λ told. bytes.items ≡ told)) }
+        ensures told { IfOk result
+            (λ bytes. IfSome (text self.old name.now) (λ told. bytes.items ≡ told)) }
         ensures within { IfOk result (λ bytes. length bytes.items ≤ limit) }
 
         ensures failed { IsErrOf result ShelfFault.Failed

@@ -33,7 +33,8 @@ impl Shelf for MemShelf {
             (λ bytes. IfSome (text_of self.old.texts.items name.now) (λ told. bytes.items ≡ told)) }
         ensures within { IfOk result (λ bytes. length bytes.items ≤ limit) }
 
-        ensures failed { IsErrOf result ShelfFault.Failed → HasRisen self.old.faults self.new.faults }
+        ensures failed { IsErrOf result ShelfFault.Failed
+            → HasRisen self.old.faults self.new.faults }
         ensures long { IsErrOf result ShelfFault.Long
             → IfSome (text_of self.old.texts.items name.now) (λ told. limit < length told) }
 
@@ -43,10 +44,12 @@ impl Shelf for MemShelf {
 
         // It fails where it is told to, and at absent names.
         ensures fails { IsErrOf result ShelfFault.Failed
-            ↔ (Contains self.old.fails.items self.old.calls ⊎ IsNone (text_of self.old.texts.items name.now)) }
+            ↔ (Contains self.old.fails.items self.old.calls
+            ⊎ IsNone (text_of self.old.texts.items name.now)) }
 
         // What it leaves.
-        ensures after_ok { OnOk result (self.new ≡ record self.old { calls = call_after self.old.calls }) }
+        ensures after_ok { OnOk result
+            (self.new ≡ record self.old { calls = call_after self.old.calls }) }
         ensures after_failed { IsErrOf result ShelfFault.Failed
             → self.new
             ≡ record self.old
@@ -88,7 +91,8 @@ impl Shelf for SureShelf {
     ghost faults = { λ _ _. 0 };
 
     fn fetch(&mut self, alloc: Global, name: &str, limit: u32) -> Result<Vec<u8>, ShelfFault>
-        ensures told { IfOk result (λ bytes. bytes.items ≡ text_or_empty self.old.texts.items name.now) }
+        ensures told { IfOk result
+            (λ bytes. bytes.items ≡ text_or_empty self.old.texts.items name.now) }
         ensures within { IfOk result (λ bytes. length bytes.items ≤ limit) }
 
         ensures never_fails { result ≢ Err ShelfFault.Failed }

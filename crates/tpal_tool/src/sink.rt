@@ -36,7 +36,8 @@ pub trait Sink {
     fn write(&mut self, piece: &[u8]) -> Result<(), SinkFault>
         ensures appended { OnOk result (Appended (written self.old) (written self.new) piece.now) }
 
-        ensures failed { IsErrOf result SinkFault.Failed → HasRisen (faults self.old) (faults self.new) }
+        ensures failed { IsErrOf result SinkFault.Failed
+            → HasRisen (faults self.old) (faults self.new) }
         ensures prefix { IsErrOf result SinkFault.Failed
             → PrefixAppended (written self.old) (written self.new) piece.now }
         ensures no_memory { IsErrOf result SinkFault.NoMemory

@@ -31,7 +31,8 @@ impl Sink for MemSink {
         ensures appended { OnOk result
             (Appended (Some self.old.bytes.items) (Some self.new.bytes.items) piece.now) }
 
-        ensures failed { IsErrOf result SinkFault.Failed → HasRisen self.old.faults self.new.faults }
+        ensures failed { IsErrOf result SinkFault.Failed
+            → HasRisen self.old.faults self.new.faults }
         ensures prefix { IsErrOf result SinkFault.Failed
             → PrefixAppended (Some self.old.bytes.items) (Some self.new.bytes.items) piece.now }
         ensures no_memory { IsErrOf result SinkFault.NoMemory

@@ -30,7 +30,8 @@ impl<R: Print> Sink for OutSink<R> {
 
         // What it leaves.
         ensures after_ok { OnOk result (self.new ≡ self.old) }
-        ensures after_failed { OnErr result (self.new ≡ record self.old { faults = count_after self.old.faults }) }
+        ensures after_failed { OnErr result
+            (self.new ≡ record self.old { faults = count_after self.old.faults }) }
     {
         match write_whole(&mut io::writer(&self.rt), piece) {
             Ok(()) => Ok(()),
@@ -45,7 +46,8 @@ impl<R: Print> Sink for OutSink<R> {
 // Writes all of a piece, one write after another. A write that takes nothing is an error.
 fn write_whole<W: Write>(to: &mut W, piece: &[u8]) -> io::Result<()>
     ensures whole { OnOk result (Appended (W.contents to.old) (W.contents to.new) piece.now) }
-    ensures prefix { OnErr result (PrefixAppended (W.contents to.old) (W.contents to.new) piece.now) }
+    ensures prefix { OnErr result
+        (PrefixAppended (W.contents to.old) (W.contents to.new) piece.now) }
 {
     let mut rest = piece;
     while !rest.is_empty() {

@@ -1,28 +1,18 @@
 // The top call.
 
-ghost use Rattle.std.specs.Prelude.{◌≡◌, ◌≢◌, ◌⊎◌, ◌↔◌, ℕ, ◌<◌, ◌≤◌, All, Option, List, [], IfErr};
-ghost use Rattle.std.specs.Prelude.{IfOk, IfSome, IsSomeAnd, Some, None, false, true, length, map};
-ghost use Rattle.std.specs.Prelude.{option_map, string_bytes};
-ghost use Rattle.tp_value.specs.declared.limits.TheConstants.{MAX_BLOCKS};
-ghost use Rattle.tp_value.specs.declared.limits.TheConstants.{MAX_SOURCE_BYTES, MAX_TABLES_BYTES};
-ghost use Rattle.tp_value.specs.declared.values.Table.{Table};
-ghost use Rattle.loop_syntax.specs.declared.program.Program.{Program};
+ghost use Rattle.std.specs.Prelude.{◌≡◌, ℕ, ◌≤◌, Option, List, IfErr, IfOk, IsSomeAnd, Some, None};
+ghost use Rattle.std.specs.Prelude.{false, true, length, map, option_map, string_bytes};
+ghost use Rattle.tp_value.specs.declared.limits.TheConstants.{MAX_BLOCKS, MAX_TABLES_BYTES};
 ghost use Rattle.block_lower.specs.Count.{blocks_of_program};
-ghost use Rattle.loop_meaning.specs.Answers.{status_of};
-ghost use Rattle.loop_meaning.specs.Meaning.{meaning};
-ghost use Rattle.table_text.specs.declared.fault.TableFault.{TableFault};
-ghost use Rattle.table_text.specs.TablesText.{FirstTableFault, TablesOf};
 ghost use Rattle.tpal_tool.specs.Answering.{Halts, OwesRefusal, whole_of};
 ghost use Rattle.tpal_tool.specs.Asking.{command_of, options_seen};
-ghost use Rattle.tpal_tool.specs.Inputs.{first_missing};
-ghost use Rattle.tpal_tool.specs.Lines.{bad_words_line, missing_line, tables_line, too_long_line};
-ghost use Rattle.tpal_tool.specs.Owed.{CompilesTo, CutShort, Ends, Finished, IsFinal, IsToldTables};
-ghost use Rattle.tpal_tool.specs.Owed.{IsWritten, NamedRunOwes, Names, Owed, ReadFailed, RunOwes};
+ghost use Rattle.tpal_tool.specs.Owed.{CompilesTo, Ends, Finished, IsFinal, IsWritten};
+ghost use Rattle.tpal_tool.specs.Owed.{NamedRunOwes, Owed, ReadFailed, RunOwes};
 ghost use Rattle.tpal_tool.specs.Preparing.{HasWorkers, IsReady, Prepares};
+ghost use Rattle.tpal_tool.specs.Promises.{HasCause, RefusesRightly, RunsOrCompiles};
 ghost use Rattle.tpal_tool.specs.Shelf.{HasRisen};
-ghost use Rattle.tpal_tool.specs.Sink.{Appended};
-ghost use Rattle.tpal_tool.specs.Verdict.{Accepts, Refuses};
-ghost use Rattle.tpal_tool.specs.Words.{Command, Compile, Options, Run, asked, program_name};
+ghost use Rattle.tpal_tool.specs.Told.{IsProgramOf};
+ghost use Rattle.tpal_tool.specs.Words.{Command, Sample, asked, program_asked, program_name};
 ghost use Rattle.tpal_tool.specs.Words.{workers_asked};
 
 use crate::answer::{Answer, Texts, refused};
@@ -31,7 +21,7 @@ use crate::inputs::{have_all, tables_of};
 use crate::judging::judge;
 use crate::prepared::{Prepared, Ready};
 use crate::refusal::{Halt, Refusal};
-use crate::request::{Request, RunOptions, RunRequest};
+use crate::request::{Request, RunOptions, RunRequest, SampleRequest};
 use crate::running::{compile_program, ready_run, run_alone, run_in_pool};
 use crate::shelf::Shelf;
 use crate::sink::{Sink, SinkFault};
@@ -101,6 +91,39 @@ fn ready_named<S: Shelf>(
     ready_over(alloc, program, &tables, run.options)
 }
 
+/// The program of a name, from the shelf.
+fn named_program<S: Shelf>(alloc: Global, name: &str, shelf: &mut S) -> Result<Checked, Halt>
+    ensures program { IfOk result (IsProgramOf (S.text shelf.old name.now)) }
+    ensures halt { (command : Command)
+        → program_name command ≡ Some name.now
+        → IfErr result
+        (Halts (OwesRefusal (Owed (Some command) (S.text shelf.old)))
+        (HasRisen (S.faults shelf.old name.now) (S.faults shelf.new name.now))) }
+    ensures texts { (other : List ℕ) → S.text shelf.new other ≡ S.text shelf.old other }
+    ensures counts { (other : List ℕ) → S.faults shelf.old other ≤ S.faults shelf.new other }
+{
+    let source = fetched(alloc, name, MAX_SOURCE_BYTES, shelf)?;
+    judge(alloc, &source)
+}
+
+/// A run of the sample of a seed, made ready. It needs no shelf.
+fn ready_sample(alloc: Global, request: SampleRequest) -> Result<Ready, Halt>
+    ensures ready { (told : List ℕ → Option (List ℕ))
+        → IfOk result
+        (λ run. IsReady
+        (Owed (Some (Sample request.seed (options_seen request.options))) told) run.code
+        run.held.items (options_seen run.options)) }
+    ensures workers { IfOk result (λ run. run.options.workers ≡ request.options.workers) }
+    ensures halt { (told : List ℕ → Option (List ℕ))
+        → IfErr result
+        (Halts
+        (OwesRefusal (Owed (Some (Sample request.seed (options_seen request.options))) told)) ⊥) }
+{
+    let sample = sample_gen::sample(alloc, request.seed)?;
+    let program = judge(alloc, &sample.source)?;
+    ready_over(alloc, &program, &sample.tables, request.options)
+}
+
 /// What a request comes to before anything runs, with the texts that it names from the shelf.
 fn prepared_request<S: Shelf>(
     alloc: Global,
@@ -115,12 +138,18 @@ fn prepared_request<S: Shelf>(
         (Halts (OwesRefusal (Owed (Some (command_of request.entry)) (S.text shelf.old)))
         (ReadFailed (Some (command_of request.entry)) (S.text shelf.old) (S.faults shelf.old)
         (S.faults shelf.new))) }
+    ensures unread { program_name (command_of request.entry) ≡ None → shelf.new ≡ shelf.old }
 {
-    let source = fetched(alloc, request.program(), MAX_SOURCE_BYTES, shelf)?;
-    let program = judge(alloc, &source)?;
     match request {
-        Request::Run(run) => Ok(Prepared::Ready(ready_named(alloc, &program, run, shelf)?)),
-        Request::Compile(_) => Ok(Prepared::Answered(compiled(alloc, &program)?)),
+        Request::Run(run) => {
+            let program = named_program(alloc, run.program, shelf)?;
+            Ok(Prepared::Ready(ready_named(alloc, &program, run, shelf)?))
+        }
+        Request::Compile(name) => {
+            let program = named_program(alloc, name, shelf)?;
+            Ok(Prepared::Answered(compiled(alloc, &program)?))
+        }
+        Request::Sample(sample) => Ok(Prepared::Ready(ready_sample(alloc, sample)?)),
     }
 }
 
@@ -134,6 +163,8 @@ fn prepared<S: Shelf>(alloc: Global, words: &[String], shelf: &mut S) -> Result<
         (Halts (OwesRefusal (Owed (asked (map string_bytes words.now)) (S.text shelf.old)))
         (ReadFailed (asked (map string_bytes words.now)) (S.text shelf.old) (S.faults shelf.old)
         (S.faults shelf.new))) }
+    ensures unread { program_asked (asked (map string_bytes words.now)) ≡ None
+        → shelf.new ≡ shelf.old }
 {
     match asked(words) {
         None => Err(Halt::Refused(Refusal::Words)),
@@ -151,6 +182,8 @@ fn answer_alone<S: Shelf>(alloc: Global, words: &[String], shelf: &mut S) -> Res
         (Halts (OwesRefusal (Owed (asked (map string_bytes words.now)) (S.text shelf.old)))
         (ReadFailed (asked (map string_bytes words.now)) (S.text shelf.old) (S.faults shelf.old)
         (S.faults shelf.new))) }
+    ensures unread { program_asked (asked (map string_bytes words.now)) ≡ None
+        → shelf.new ≡ shelf.old }
 {
     match prepared(alloc, words, shelf)? {
         Prepared::Answered(answer) => Ok(answer),
@@ -174,6 +207,8 @@ fn answer_in_pool<R: Threads + Wait + Sync, S: Shelf, G: Gate + Sync>(
         (Halts (OwesRefusal (Owed (asked (map string_bytes words.now)) (S.text shelf.old)))
         (ReadFailed (asked (map string_bytes words.now)) (S.text shelf.old) (S.faults shelf.old)
         (S.faults shelf.new))) }
+    ensures unread { program_asked (asked (map string_bytes words.now)) ≡ None
+        → shelf.new ≡ shelf.old }
 {
     match prepared(alloc, words, shelf)? {
         Prepared::Answered(answer) => Ok(answer),
@@ -221,9 +256,11 @@ fn call_alone<S: Shelf, K: Sink>(
     sink: &mut K,
 ) -> Status
     requires { workers_asked (asked (map string_bytes words.now)) ≡ 1 }
-    ensures { Ends (asked (map string_bytes words.now)) (S.text shelf.old) (S.faults shelf.old)
-        (S.faults shelf.new) (K.written sink.old) (K.written sink.new) (K.faults sink.old)
-        (K.faults sink.new) result }
+    ensures ends { Ends (asked (map string_bytes words.now)) (S.text shelf.old)
+        (S.faults shelf.old) (S.faults shelf.new) (K.written sink.old) (K.written sink.new)
+        (K.faults sink.old) (K.faults sink.new) result }
+    ensures unread { program_asked (asked (map string_bytes words.now)) ≡ None
+        → shelf.new ≡ shelf.old }
 {
     let answer = answer_alone(alloc, words, shelf);
     ended(alloc, answer, sink)
@@ -237,9 +274,11 @@ fn call_in_pool<R: Threads + Wait + Sync + AllocGlobal, S: Shelf, K: Sink, G: Ga
     gate: &G,
 ) -> Status
     requires { 2 ≤ workers_asked (asked (map string_bytes words.now)) }
-    ensures { Ends (asked (map string_bytes words.now)) (S.text shelf.old) (S.faults shelf.old)
-        (S.faults shelf.new) (K.written sink.old) (K.written sink.new) (K.faults sink.old)
-        (K.faults sink.new) result }
+    ensures ends { Ends (asked (map string_bytes words.now)) (S.text shelf.old)
+        (S.faults shelf.old) (S.faults shelf.new) (K.written sink.old) (K.written sink.new)
+        (K.faults sink.old) (K.faults sink.new) result }
+    ensures unread { program_asked (asked (map string_bytes words.now)) ≡ None
+        → shelf.new ≡ shelf.old }
 {
     let answer = answer_in_pool(rt, rt.alloc(), words, shelf, gate);
     ended(rt.alloc(), answer, sink)
@@ -253,6 +292,7 @@ pub fn asks_for_many(words: &[String]) -> bool
     match asked(words) {
         Some(Request::Run(run)) => run.options.workers > 1,
         Some(Request::Compile(_)) => false,
+        Some(Request::Sample(sample)) => sample.options.workers > 1,
         None => false,
     }
 }
@@ -264,9 +304,11 @@ fn call<R: Threads + Wait + Sync + AllocGlobal, S: Shelf, K: Sink, G: Gate + Syn
     sink: &mut K,
     gate: &G,
 ) -> Status
-    ensures { Ends (asked (map string_bytes words.now)) (S.text shelf.old) (S.faults shelf.old)
-        (S.faults shelf.new) (K.written sink.old) (K.written sink.new) (K.faults sink.old)
-        (K.faults sink.new) result }
+    ensures ends { Ends (asked (map string_bytes words.now)) (S.text shelf.old)
+        (S.faults shelf.old) (S.faults shelf.new) (K.written sink.old) (K.written sink.new)
+        (K.faults sink.old) (K.faults sink.new) result }
+    ensures unread { program_asked (asked (map string_bytes words.now)) ≡ None
+        → shelf.new ≡ shelf.old }
 {
     if asks_for_many(words) {
         call_in_pool(rt, words, shelf, sink, gate)
@@ -290,118 +332,22 @@ pub fn tpal_alone<S: Shelf, K: Sink>(
         (K.written sink.new) result }
 
     // Each way to end without that has its cause.
-    ensures read_fault { result ≡ Status.ReadFault
-        → ReadFailed (asked (map string_bytes words.now)) (S.text shelf.old) (S.faults shelf.old)
-        (S.faults shelf.new) }
-    ensures read_fault_writes_nothing { result ≡ Status.ReadFault → Appended (K.written sink.old) (K.written sink.new) [] }
-    ensures write_fault { result ≡ Status.WriteFault → HasRisen (K.faults sink.old) (K.faults sink.new) }
-    ensures write_fault_prefix { result ≡ Status.WriteFault
-        → CutShort (asked (map string_bytes words.now)) (S.text shelf.old) (K.written sink.old)
-        (K.written sink.new) }
-    ensures no_memory { result ≡ Status.NoMemory
-        → Appended (K.written sink.old) (K.written sink.new) []
-        ⊎ CutShort (asked (map string_bytes words.now)) (S.text shelf.old) (K.written sink.old)
-        (K.written sink.new) }
+    ensures cause { HasCause (asked (map string_bytes words.now)) (S.text shelf.old)
+        (S.faults shelf.old) (S.faults shelf.new) (K.written sink.old) (K.written sink.new)
+        (K.faults sink.old) (K.faults sink.new) result }
 
     // Each refusal comes exactly where its cause stands.
-    ensures bad_words { IsFinal result
-        → (result ≡ Status.BadWords) ↔ (asked (map string_bytes words.now) ≡ None) }
-    ensures bad_words_line { result ≡ Status.BadWords
-        → Appended (K.written sink.old) (K.written sink.new) bad_words_line }
-    ensures too_long { (command : Command) (source : List ℕ) → IsFinal result
-        → asked (map string_bytes words.now) ≡ Some command
-        → S.text shelf.old (program_name command) ≡ Some source
-        → MAX_SOURCE_BYTES < length source
-        → (result ≡ Status.Refused)
-        × Appended (K.written sink.old) (K.written sink.new)
-        (too_long_line (program_name command)) }
-    ensures refused { (command : Command) (source line : List ℕ) → IsFinal result
-        → asked (map string_bytes words.now) ≡ Some command
-        → S.text shelf.old (program_name command) ≡ Some source
-        → length source ≤ MAX_SOURCE_BYTES → Refuses source line
-        → (result ≡ Status.Refused) × Appended (K.written sink.old) (K.written sink.new) line }
-    ensures tables_too_long { (name over source tables : List ℕ) (options : Options) (program : Program) → IsFinal result
-        → asked (map string_bytes words.now) ≡ Some (Run name (Some over) options)
-        → S.text shelf.old name ≡ Some source
-        → length source ≤ MAX_SOURCE_BYTES
-        → Accepts source program
-        → S.text shelf.old over ≡ Some tables
-        → MAX_TABLES_BYTES < length tables
-        → (result ≡ Status.Refused)
-        × Appended (K.written sink.old) (K.written sink.new) (too_long_line over) }
-
-    ensures faulty_tables { (name source tables : List ℕ) (over : Option (List ℕ))
-        (options : Options) (program : Program) (fault : TableFault)
-        → IsFinal result
-        → asked (map string_bytes words.now) ≡ Some (Run name over options)
-        → S.text shelf.old name ≡ Some source
-        → length source ≤ MAX_SOURCE_BYTES
-        → Accepts source program
-        → IsToldTables (S.text shelf.old) over tables
-        → length tables ≤ MAX_TABLES_BYTES
-        → FirstTableFault tables fault
-        → (result ≡ Status.Refused)
-        × Appended (K.written sink.old) (K.written sink.new) (tables_line fault) }
-
-    ensures missing { (name source tables input : List ℕ) (over : Option (List ℕ))
-        (options : Options) (program : Program) (inputs : List Table)
-        → IsFinal result
-        → asked (map string_bytes words.now) ≡ Some (Run name over options)
-        → S.text shelf.old name ≡ Some source
-        → length source ≤ MAX_SOURCE_BYTES
-        → Accepts source program
-        → IsToldTables (S.text shelf.old) over tables
-        → length tables ≤ MAX_TABLES_BYTES
-        → TablesOf tables inputs
-        → first_missing program.tables.items inputs ≡ Some input
-        → (result ≡ Status.Refused)
-        × Appended (K.written sink.old) (K.written sink.new) (missing_line input) }
+    ensures refuses { RefusesRightly (asked (map string_bytes words.now)) (S.text shelf.old)
+        (K.written sink.old) (K.written sink.new) result }
 
     // A program that is accepted runs over its tables text, or is compiled.
-    ensures ran { (name source tables text : List ℕ) (over : Option (List ℕ)) (options : Options) (program : Program)
-        (status : Status)
-        → IsFinal result
-        → asked (map string_bytes words.now) ≡ Some (Run name over options)
-        → S.text shelf.old name ≡ Some source
-        → length source ≤ MAX_SOURCE_BYTES
-        → Accepts source program
-        → IsToldTables (S.text shelf.old) over tables
-        → length tables ≤ MAX_TABLES_BYTES → RunOwes program tables options status text
-        → (result ≡ status)
-        × (options.show ≡ false → Appended (K.written sink.old) (K.written sink.new) text) }
-    ensures compiled { (name source : List ℕ) (program : Program) → IsFinal result
-        → asked (map string_bytes words.now) ≡ Some (Compile name)
-        → S.text shelf.old name ≡ Some source
-        → length source ≤ MAX_SOURCE_BYTES → Accepts source program
-        → result ≡ Status.Done }
+    ensures runs { RunsOrCompiles (asked (map string_bytes words.now)) (S.text shelf.old)
+        (S.faults shelf.old) (S.faults shelf.new) (K.written sink.old) (K.written sink.new)
+        (K.faults sink.old) (K.faults sink.new) result }
 
-    // Words of the form, a program that is accepted, tables that are of the form and have each
-    // input, and no counted fault: as the program's meaning ends, or no memory.
-    ensures runs { (name source tables : List ℕ) (over : Option (List ℕ)) (options : Options) (program : Program)
-        (inputs : List Table)
-        → asked (map string_bytes words.now) ≡ Some (Run name over options)
-        → S.text shelf.old name ≡ Some source
-        → length source ≤ MAX_SOURCE_BYTES
-        → Accepts source program
-        → IsToldTables (S.text shelf.old) over tables
-        → length tables ≤ MAX_TABLES_BYTES
-        → TablesOf tables inputs
-        → first_missing program.tables.items inputs ≡ None
-        → ((read : List ℕ)
-        → Names (Run name over options) read
-        → HasRisen (S.faults shelf.old read) (S.faults shelf.new read)
-        → ⊥)
-        → (HasRisen (K.faults sink.old) (K.faults sink.new) → ⊥)
-        → (result
-        ≡ status_of Status.Done Status.Trap Status.OutOfFuel (meaning program inputs options.fuel))
-        ⊎ (result ≡ Status.NoMemory) }
-    ensures compiles { (name source : List ℕ) (program : Program)
-        → asked (map string_bytes words.now) ≡ Some (Compile name)
-        → S.text shelf.old name ≡ Some source
-        → length source ≤ MAX_SOURCE_BYTES → Accepts source program
-        → (HasRisen (S.faults shelf.old name) (S.faults shelf.new name) → ⊥)
-        → (HasRisen (K.faults sink.old) (K.faults sink.new) → ⊥)
-        → (result ≡ Status.Done) ⊎ (result ≡ Status.NoMemory) }
+    // Words that name no program, as those of `sample`, leave the shelf alone.
+    ensures unread { program_asked (asked (map string_bytes words.now)) ≡ None
+        → shelf.new ≡ shelf.old }
 {
     text_is_read_one_way();
     call_alone(alloc, words, shelf, sink)
@@ -409,16 +355,18 @@ pub fn tpal_alone<S: Shelf, K: Sink>(
 
 /// Does what the words ask for, and writes what comes of it.
 ///
-/// The words are `run`, a name, and optionally a second name, with the options `--beat`, `--forks`
-/// `--fuel` and `--workers`, each with a number in one word with `=` or in two, and `--show`, each of
-/// them once and in any order; or `compile` and a name. `--` ends the options. All others are bad
-/// words. `run` runs the program whose text has the first name, over the tables text of the second,
-/// or over the empty one: by 1 to 16 workers, with a heartbeat of 1 to 1,000,000,000 instructions,
+/// The words are `run`, a name, and optionally a second name, with the options `--beat`, `--forks`,
+/// `--fuel` and `--workers`, each with a number in one word with `=` or in two, and `--show`, each
+/// of them once and in any order; or `sample`, a seed of at most 4,294,967,295, and these options
+/// but `--show`; or `compile` and a name. `--` ends the options. All others are bad words.
+///
+/// `run` runs the program whose text has the first name, over the tables text of the second, or
+/// over the empty one: by 1 to 16 workers, with a heartbeat of 1 to 1,000,000,000 instructions,
 /// each worker diverted at most `--forks` times, of at most 1,000,000, and with a fuel of at most
 /// 1,000,000,000,000 ticks. Where none is given these are 1, 10,000, 1,000,000 and 1,000,000,000.
-/// With `--show` the program's code
-/// stands before its output, and a line of counts behind it. `compile` writes the program's code.
-/// The texts are fetched from the shelf.
+/// With `--show` the program's code stands before its output, and a line of counts behind it.
+/// `sample` runs the program of `sample_gen` over the table of a million cells that the seed makes.
+/// `compile` writes the program's code. The texts are fetched from the shelf; `sample` needs none.
 ///
 /// `ReadFault` comes only where the count of the first name's faults rose, or, where the program
 /// was accepted, that of the second name's, and nothing is written then; `WriteFault` only where
@@ -440,118 +388,22 @@ pub fn tpal<R: Threads + Wait + Sync + AllocGlobal, S: Shelf, K: Sink, G: Gate +
         (K.written sink.new) result }
 
     // Each way to end without that has its cause.
-    ensures read_fault { result ≡ Status.ReadFault
-        → ReadFailed (asked (map string_bytes words.now)) (S.text shelf.old) (S.faults shelf.old)
-        (S.faults shelf.new) }
-    ensures read_fault_writes_nothing { result ≡ Status.ReadFault → Appended (K.written sink.old) (K.written sink.new) [] }
-    ensures write_fault { result ≡ Status.WriteFault → HasRisen (K.faults sink.old) (K.faults sink.new) }
-    ensures write_fault_prefix { result ≡ Status.WriteFault
-        → CutShort (asked (map string_bytes words.now)) (S.text shelf.old) (K.written sink.old)
-        (K.written sink.new) }
-    ensures no_memory { result ≡ Status.NoMemory
-        → Appended (K.written sink.old) (K.written sink.new) []
-        ⊎ CutShort (asked (map string_bytes words.now)) (S.text shelf.old) (K.written sink.old)
-        (K.written sink.new) }
+    ensures cause { HasCause (asked (map string_bytes words.now)) (S.text shelf.old)
+        (S.faults shelf.old) (S.faults shelf.new) (K.written sink.old) (K.written sink.new)
+        (K.faults sink.old) (K.faults sink.new) result }
 
     // Each refusal comes exactly where its cause stands.
-    ensures bad_words { IsFinal result
-        → (result ≡ Status.BadWords) ↔ (asked (map string_bytes words.now) ≡ None) }
-    ensures bad_words_line { result ≡ Status.BadWords
-        → Appended (K.written sink.old) (K.written sink.new) bad_words_line }
-    ensures too_long { (command : Command) (source : List ℕ) → IsFinal result
-        → asked (map string_bytes words.now) ≡ Some command
-        → S.text shelf.old (program_name command) ≡ Some source
-        → MAX_SOURCE_BYTES < length source
-        → (result ≡ Status.Refused)
-        × Appended (K.written sink.old) (K.written sink.new)
-        (too_long_line (program_name command)) }
-    ensures refused { (command : Command) (source line : List ℕ) → IsFinal result
-        → asked (map string_bytes words.now) ≡ Some command
-        → S.text shelf.old (program_name command) ≡ Some source
-        → length source ≤ MAX_SOURCE_BYTES → Refuses source line
-        → (result ≡ Status.Refused) × Appended (K.written sink.old) (K.written sink.new) line }
-    ensures tables_too_long { (name over source tables : List ℕ) (options : Options) (program : Program) → IsFinal result
-        → asked (map string_bytes words.now) ≡ Some (Run name (Some over) options)
-        → S.text shelf.old name ≡ Some source
-        → length source ≤ MAX_SOURCE_BYTES
-        → Accepts source program
-        → S.text shelf.old over ≡ Some tables
-        → MAX_TABLES_BYTES < length tables
-        → (result ≡ Status.Refused)
-        × Appended (K.written sink.old) (K.written sink.new) (too_long_line over) }
-
-    ensures faulty_tables { (name source tables : List ℕ) (over : Option (List ℕ))
-        (options : Options) (program : Program) (fault : TableFault)
-        → IsFinal result
-        → asked (map string_bytes words.now) ≡ Some (Run name over options)
-        → S.text shelf.old name ≡ Some source
-        → length source ≤ MAX_SOURCE_BYTES
-        → Accepts source program
-        → IsToldTables (S.text shelf.old) over tables
-        → length tables ≤ MAX_TABLES_BYTES
-        → FirstTableFault tables fault
-        → (result ≡ Status.Refused)
-        × Appended (K.written sink.old) (K.written sink.new) (tables_line fault) }
-
-    ensures missing { (name source tables input : List ℕ) (over : Option (List ℕ))
-        (options : Options) (program : Program) (inputs : List Table)
-        → IsFinal result
-        → asked (map string_bytes words.now) ≡ Some (Run name over options)
-        → S.text shelf.old name ≡ Some source
-        → length source ≤ MAX_SOURCE_BYTES
-        → Accepts source program
-        → IsToldTables (S.text shelf.old) over tables
-        → length tables ≤ MAX_TABLES_BYTES
-        → TablesOf tables inputs
-        → first_missing program.tables.items inputs ≡ Some input
-        → (result ≡ Status.Refused)
-        × Appended (K.written sink.old) (K.written sink.new) (missing_line input) }
+    ensures refuses { RefusesRightly (asked (map string_bytes words.now)) (S.text shelf.old)
+        (K.written sink.old) (K.written sink.new) result }
 
     // A program that is accepted runs over its tables text, or is compiled.
-    ensures ran { (name source tables text : List ℕ) (over : Option (List ℕ)) (options : Options) (program : Program)
-        (status : Status)
-        → IsFinal result
-        → asked (map string_bytes words.now) ≡ Some (Run name over options)
-        → S.text shelf.old name ≡ Some source
-        → length source ≤ MAX_SOURCE_BYTES
-        → Accepts source program
-        → IsToldTables (S.text shelf.old) over tables
-        → length tables ≤ MAX_TABLES_BYTES → RunOwes program tables options status text
-        → (result ≡ status)
-        × (options.show ≡ false → Appended (K.written sink.old) (K.written sink.new) text) }
-    ensures compiled { (name source : List ℕ) (program : Program) → IsFinal result
-        → asked (map string_bytes words.now) ≡ Some (Compile name)
-        → S.text shelf.old name ≡ Some source
-        → length source ≤ MAX_SOURCE_BYTES → Accepts source program
-        → result ≡ Status.Done }
+    ensures runs { RunsOrCompiles (asked (map string_bytes words.now)) (S.text shelf.old)
+        (S.faults shelf.old) (S.faults shelf.new) (K.written sink.old) (K.written sink.new)
+        (K.faults sink.old) (K.faults sink.new) result }
 
-    // Words of the form, a program that is accepted, tables that are of the form and have each
-    // input, and no counted fault: as the program's meaning ends, or no memory.
-    ensures runs { (name source tables : List ℕ) (over : Option (List ℕ)) (options : Options) (program : Program)
-        (inputs : List Table)
-        → asked (map string_bytes words.now) ≡ Some (Run name over options)
-        → S.text shelf.old name ≡ Some source
-        → length source ≤ MAX_SOURCE_BYTES
-        → Accepts source program
-        → IsToldTables (S.text shelf.old) over tables
-        → length tables ≤ MAX_TABLES_BYTES
-        → TablesOf tables inputs
-        → first_missing program.tables.items inputs ≡ None
-        → ((read : List ℕ)
-        → Names (Run name over options) read
-        → HasRisen (S.faults shelf.old read) (S.faults shelf.new read)
-        → ⊥)
-        → (HasRisen (K.faults sink.old) (K.faults sink.new) → ⊥)
-        → (result
-        ≡ status_of Status.Done Status.Trap Status.OutOfFuel (meaning program inputs options.fuel))
-        ⊎ (result ≡ Status.NoMemory) }
-    ensures compiles { (name source : List ℕ) (program : Program)
-        → asked (map string_bytes words.now) ≡ Some (Compile name)
-        → S.text shelf.old name ≡ Some source
-        → length source ≤ MAX_SOURCE_BYTES → Accepts source program
-        → (HasRisen (S.faults shelf.old name) (S.faults shelf.new name) → ⊥)
-        → (HasRisen (K.faults sink.old) (K.faults sink.new) → ⊥)
-        → (result ≡ Status.Done) ⊎ (result ≡ Status.NoMemory) }
+    // Words that name no program, as those of `sample`, leave the shelf alone.
+    ensures unread { program_asked (asked (map string_bytes words.now)) ≡ None
+        → shelf.new ≡ shelf.old }
 {
     text_is_read_one_way();
     call(rt, words, shelf, sink, gate)

@@ -3,13 +3,13 @@
 ghost use Rattle.std.specs.Prelude.{◌≡◌, ◌≤◌, IfSome, map, option_map, string_bytes};
 ghost use Rattle.tp_value.specs.declared.limits.TheConstants.{MAX_FUEL};
 ghost use Rattle.tpal_tool.specs.Words.{asked, compile_of, is_dashed, is_plain, kind_of, least_of};
-ghost use Rattle.tpal_tool.specs.Words.{most_of, number_up_to, options_of, run_of, spelled, value_of};
-ghost use Rattle.tpal_tool.specs.Words.{with_number, with_rest, with_show, with_value, with_word};
-ghost use Rattle.tpal_tool.specs.Words.{with_words};
+ghost use Rattle.tpal_tool.specs.Words.{most_of, number_up_to, options_of, run_of, sample_run_of};
+ghost use Rattle.tpal_tool.specs.Words.{seed_of, spelled, value_of, with_number, with_rest};
+ghost use Rattle.tpal_tool.specs.Words.{with_show, with_value, with_word, with_words};
 ghost use Rattle.tpal_tool.specs.Asking.{chosen_of, command_of, given_of, kind_seen, due_of};
 ghost use Rattle.tpal_tool.specs.Asking.{options_seen};
 
-use crate::request::{Chosen, Gathered, Request, RunOptions, RunRequest, Valued};
+use crate::request::{Chosen, Gathered, Request, RunOptions, RunRequest, SampleRequest, Valued};
 use tp_value::{MAX_BEAT, MAX_FORKS, MAX_FUEL, MAX_WORKERS};
 
 /// The heartbeat of a run that names none, in instructions.
@@ -23,22 +23,6 @@ pub const DEFAULT_FORKS: u64 = 1_000_000;
 
 /// The fuel of a run that names none, in ticks.
 pub const DEFAULT_FUEL: u64 = 1_000_000_000;
-
-impl<'a> Request<'a> {
-    ghost use Rattle.std.specs.Prelude.{◌≡◌};
-    ghost use Rattle.tpal_tool.specs.Asking.{command_of};
-    ghost use Rattle.tpal_tool.specs.Words.{program_name};
-
-    /// The name of the program's text.
-    pub fn program(self) -> &'a str
-        ensures { result.now ≡ program_name (command_of self.entry) }
-    {
-        match self {
-            Request::Run(run) => run.program,
-            Request::Compile(program) => program,
-        }
-    }
-}
 
 /// What a word behind the command is.
 #[derive(Clone, Copy)]
@@ -218,8 +202,8 @@ fn with_value<'a>(option: Valued, word: &[u8], given: Gathered<'a>) -> Option<Ga
     let number = value_of(option, word)?;
     let options = with_number(option, number, given.options)?;
     Some(Gathered {
-        program: given.program,
-        tables: given.tables,
+        first_word: given.first_word,
+        second_word: given.second_word,
         options,
     })
 }
@@ -239,8 +223,8 @@ fn with_show<'a>(given: Gathered<'a>) -> Option<Gathered<'a>>
         return None;
     }
     Some(Gathered {
-        program: given.program,
-        tables: given.tables,
+        first_word: given.first_word,
+        second_word: given.second_word,
         options: Chosen {
             beat,
             workers,
@@ -251,20 +235,20 @@ fn with_show<'a>(given: Gathered<'a>) -> Option<Gathered<'a>>
     })
 }
 
-/// One positional word more: the program, then the tables, then none.
+/// One positional word more, of two at most.
 fn with_word<'a>(word: &'a str, given: Gathered<'a>) -> Option<Gathered<'a>>
     ensures { option_map given_of result ≡ with_word word.now (given_of given.entry) }
 {
-    match (given.program, given.tables) {
+    match (given.first_word, given.second_word) {
         (_, Some(_)) => None,
         (Some(_), None) => Some(Gathered {
-            program: given.program,
-            tables: Some(word),
+            first_word: given.first_word,
+            second_word: Some(word),
             options: given.options,
         }),
         (None, None) => Some(Gathered {
-            program: Some(word),
-            tables: None,
+            first_word: Some(word),
+            second_word: None,
             options: given.options,
         }),
     }
@@ -329,8 +313,8 @@ fn run_of(given: Gathered) -> Option<Request>
     ensures { option_map command_of result ≡ run_of (given_of given.entry) }
 {
     Some(Request::Run(RunRequest {
-        program: given.program?,
-        tables: given.tables,
+        program: given.first_word?,
+        tables: given.second_word,
         options: options_of(given.options),
     }))
 }
@@ -350,10 +334,30 @@ fn is_plain(chosen: Chosen) -> bool
 fn compile_of(given: Gathered) -> Option<Request>
     ensures { option_map command_of result ≡ compile_of (given_of given.entry) }
 {
-    if given.tables.is_none() && is_plain(given.options) {
-        return Some(Request::Compile(given.program?));
+    if given.second_word.is_none() && is_plain(given.options) {
+        return Some(Request::Compile(given.first_word?));
     }
     None
+}
+
+/// The seed that a word spells.
+fn seed_of(word: &[u8]) -> Option<u32>
+    ensures { result ≡ seed_of word.now }
+{
+    let number = number_up_to(word, u64::from(u32::MAX))?;
+    Some(number as u32)
+}
+
+/// `sample` takes a seed alone, and the options of a run but `--show`.
+fn sample_run_of(given: Gathered) -> Option<Request>
+    ensures { option_map command_of result ≡ sample_run_of (given_of given.entry) }
+{
+    if given.second_word.is_some() || given.options.show {
+        return None;
+    }
+    let seed = seed_of(given.first_word?.as_bytes())?;
+    let options = options_of(given.options);
+    Some(Request::Sample(SampleRequest { seed, options }))
 }
 
 /// What the words of a call ask for, or None where they are not of the form.
@@ -362,8 +366,8 @@ pub fn asked(words: &[String]) -> Option<Request<'_>>
 {
     let (command, rest) = words.split_first()?;
     let given = Gathered {
-        program: None,
-        tables: None,
+        first_word: None,
+        second_word: None,
         options: Chosen {
             beat: None,
             workers: None,
@@ -375,6 +379,7 @@ pub fn asked(words: &[String]) -> Option<Request<'_>>
     match command.as_str() {
         "run" => run_of(with_rest(NextWord::Any, rest, given)?),
         "compile" => compile_of(with_rest(NextWord::Any, rest, given)?),
+        "sample" => sample_run_of(with_rest(NextWord::Any, rest, given)?),
         _ => None,
     }
 }

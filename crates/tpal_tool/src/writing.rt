@@ -16,9 +16,11 @@ pub const PIECE_BYTES: usize = 65_536;
 pub fn write_text<K: Sink>(sink: &mut K, text: &[u8]) -> Result<(), SinkFault>
     ensures whole { OnOk result (Appended (K.written sink.old) (K.written sink.new) text.now) }
 
-    ensures failed { IsErrOf result SinkFault.Failed → HasRisen (K.faults sink.old) (K.faults sink.new) }
+    ensures failed { IsErrOf result SinkFault.Failed
+        → HasRisen (K.faults sink.old) (K.faults sink.new) }
     ensures some { OnErr result (0 < length text.now) }
-    ensures prefix { OnErr result (PrefixAppended (K.written sink.old) (K.written sink.new) text.now) }
+    ensures prefix { OnErr result
+        (PrefixAppended (K.written sink.old) (K.written sink.new) text.now) }
 
     ensures empty { text.now ≡ [] → sink.new ≡ sink.old }
     ensures count { K.faults sink.old ≤ K.faults sink.new }
@@ -34,9 +36,11 @@ pub fn write_text<K: Sink>(sink: &mut K, text: &[u8]) -> Result<(), SinkFault>
 
 /// Writes texts, one behind the other and each on its own. After a fault nothing more is written.
 pub fn write_texts<K: Sink>(sink: &mut K, texts: &Texts) -> Result<(), SinkFault>
-    ensures whole { OnOk result (Appended (K.written sink.old) (K.written sink.new) (whole_of texts.now)) }
+    ensures whole { OnOk result
+        (Appended (K.written sink.old) (K.written sink.new) (whole_of texts.now)) }
 
-    ensures failed { IsErrOf result SinkFault.Failed → HasRisen (K.faults sink.old) (K.faults sink.new) }
+    ensures failed { IsErrOf result SinkFault.Failed
+        → HasRisen (K.faults sink.old) (K.faults sink.new) }
     ensures some { OnErr result (whole_of texts.now ≢ []) }
     ensures prefix { OnErr result
         (PrefixAppended (K.written sink.old) (K.written sink.new) (whole_of texts.now)) }

@@ -1,22 +1,50 @@
-use Rattle.std.proofs.Common.{false, List, [], sym, subst}
-use Rattle.std.proofs.lemmas.List.Elements.{All-nil}
+use Rattle.std.proofs.Common.{◌≡◌, false, true, List, [], ◌∷◌, refl, sym, subst}
+use Rattle.std.proofs.lemmas.List.Elements.{All-cons, All-nil}
+use Rattle.std.specs.Prelude.{ℤ, All, pos}
 use Rattle.slices.specs.Holding.{Holding}
+use Rattle.tp_value.specs.declared.values.Table.{Table}
+use Rattle.loop_syntax.specs.declared.program.TableDecl.{TableDecl}
+use Rattle.loop_syntax.specs.declared.program.TableDecl.TheVariants.{Input, Made}
+use Rattle.loop_meaning.specs.InRange.{InRange}
 use Rattle.tpal_machine.specs.Owes.{Owes}
 use Rattle.tpal_machine.specs.State.{first_state}
 use Rattle.block_lower.specs.Owing.{AreHeld, AreNamed, IsTable}
 use Rattle.block_lower.proofs.Owed.{owes_anyhow}
-use Rattle.code_rows.specs.Owed.{owed}
+use Rattle.code_rows.specs.Owed.{column, given_to, owed}
 use Rattle.code_rows.proofs.orders.first.Goals as goal
+
+is_column : IsTable column
+is_column = record {
+  full = refl;
+  ranged = record {
+    cells = All-cons InRange (pos 1) (pos 2 ∷ pos 3 ∷ pos 4 ∷ []) tt
+        (All-cons InRange (pos 2) (pos 3 ∷ pos 4 ∷ []) tt
+        (All-cons InRange (pos 3) (pos 4 ∷ []) tt
+        (All-cons InRange (pos 4) [] tt (All-nil InRange))));
+    rows = tt;
+    cols = tt;
+  };
+}
+
+-- what a program is given are tables
+are_tables : (declared : List TableDecl) → All IsTable (given_to declared)
+are_tables [] = All-nil IsTable
+are_tables (Input x ∷ []) = All-cons IsTable column [] is_column (All-nil IsTable)
+are_tables (Made x a b ∷ []) = All-nil IsTable
+are_tables (Input x ∷ e ∷ ds) = All-nil IsTable
+are_tables (Made x a b ∷ e ∷ ds) = All-nil IsTable
 
 -- the code owes the meaning, however many promotion points it enters
 pub returns-clause-sound : goal.returns-clause-sound
 returns-clause-sound c =
-    let named : AreNamed c.args.on.now.program.tables.items [] =
+    let declared : List TableDecl = c.args.on.now.program.tables.items in
+    let given : List Table = given_to declared in
+    let named : AreNamed declared given =
     rw c.in_ok-tables.ensures.ok_part at c.in_ok-held.ensures.named in
-    let held : AreHeld c.args.on.now.program.tables.items [] c.in_ok-tables.tables.items =
+    let held : AreHeld declared given c.in_ok-tables.tables.items =
     rw c.in_ok-tables.ensures.ok_part at c.in_ok-held.ensures.held in
     c.in_ok-first.ensures.sound (owed c.args.on.now.program)
     (subst (λ (holdings : List Holding). Owes c.args.on.now.code c.args.plan.heartbeat false 0
     (first_state holdings 1000000) (owed c.args.on.now.program)) (sym c.new.ensures)
-    (owes_anyhow c.args.on.now.program c.args.on.now.code c.requires.owes []
-    c.in_ok-tables.tables.items c.args.plan.heartbeat 1000000 (All-nil IsTable) named held))
+    (owes_anyhow c.args.on.now.program c.args.on.now.code c.requires.owes given
+    c.in_ok-tables.tables.items c.args.plan.heartbeat 1000000 (are_tables declared) named held))

@@ -5,7 +5,7 @@ use Rattle.slices.specs.Cells.{listed}
 use Rattle.tp_value.specs.declared.values.Table.{Table}
 use Rattle.loop_meaning.specs.State.{table_of}
 use Rattle.block_lower.specs.Owing.{IsTable, IsWholeOf}
-use Rattle.tpal_tool.proofs.HeldTables.{whole_of}
+use Rattle.block_lower.proofs.HeldTables.{whole_of}
 use Rattle.tpal_tool.proofs.TakenTables.{has_name, place, place_found, place_has, place_taken, table_of_all}
 use Rattle.tpal_tool.proofs.inputs.take_input.Goals as goal
 

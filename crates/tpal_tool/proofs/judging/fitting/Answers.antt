@@ -6,9 +6,14 @@ use Rattle.tpal_tool.proofs.judging.fitting.Goals as goal
 
 pub returns-then-blocks-clause-accepted : goal.returns-then-blocks-clause-accepted
 returns-then-blocks-clause-accepted c source reads_as =
-    accepted-only source c.args.program reads_as c.requires (omega (arith, c.if-blocks.true, c.block_count-blocks.ensures))
+    accepted-only source c.args.program reads_as c.requires.unbroken
+    (omega (arith, c.if-blocks.true, c.block_count-blocks.ensures))
 
 pub returns-clause-halt : goal.returns-clause-halt
 returns-clause-halt c source reads_as =
-    let counted : c.block_count-blocks.result ≡ blocks_of_program c.args.program = omega (arith, c.block_count-blocks.ensures, c.if-blocks-2.false, c.block_count-blocks.type_inv) in
-    (refl, too_many-only source c.args.program (blocks_line c.block_count-blocks.result) reads_as c.requires (omega (arith, c.if-blocks.false, counted)) (ap blocks_line counted))
+    let counted : c.block_count-blocks.result ≡ blocks_of_program c.args.program =
+    omega (arith, c.block_count-blocks.ensures, c.requires.few) in (
+      refl,
+      too_many-only source c.args.program (blocks_line c.block_count-blocks.result) reads_as
+          c.requires.unbroken (omega (arith, c.if-blocks.false, counted)) (ap blocks_line counted),
+    )

@@ -1,13 +1,13 @@
-// Texts and their faults.
+// Texts of codes and their faults.
 
 ghost use Rattle.std.specs.Prelude.{◌≡◌, ◌≤◌, length, MatchResult, Some};
 ghost use Rattle.tpal_syntax.specs.Text.{text_of};
 ghost use Rattle.tpal_asm.specs.declared.fault.AsmFault.TheVariants as faults;
 
-use crate::{AsmFault, assemble};
 use std::alloc::Global;
 use std::test::Fail;
 use tp_value::{MAX_BLOCKS, MAX_CODE_BYTES, NoMemory};
+use tpal_asm::{AsmFault, assemble};
 use tpal_print::print_code;
 use tpal_syntax::Code;
 

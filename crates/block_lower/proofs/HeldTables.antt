@@ -1,4 +1,4 @@
--- What is held of a table that was taken.
+-- What is held of a given table, where its cells are held whole.
 use Rattle.std.proofs.Common.{◌≡◌, ℕ, ◌+◌, ◌*◌, ◌<◌, Bool, true, false, cond, ◌&&◌, List, length, Some, None, refl, ap, ◌∙◌, arith, ltb-true, mul_comm}
 use Rattle.std.proofs.lemmas.Bool.{false≢true}
 use Rattle.std.specs.Prelude.{ℤ, pos, negsuc, nat_lt, slice_get}

@@ -3,16 +3,24 @@ use Rattle.std.proofs.Common.{◌≡◌, ◌∷◌, [], ℕ, ◌+◌, ◌*◌, L
 use Rattle.std.specs.List.{sum_by}
 use Rattle.std.proofs.lemmas.List.Sums.{sum_by-cons}
 use Rattle.loop_syntax.specs.declared.expression.Expr.{Expr}
-use Rattle.loop_syntax.specs.declared.expression.Expr.TheVariants.{Int, Var, Cell', Rows, Cols, Neg', Bin'}
+use Rattle.loop_syntax.specs.declared.expression.Expr.TheVariants.{Int, Var, Cell', Rows, Cols}
+use Rattle.loop_syntax.specs.declared.expression.Expr.TheVariants.{Neg', Bin'}
 use Rattle.loop_syntax.specs.declared.statement.Stmt.{Stmt, Row_of-Stmt, end_of-Stmt, more_of-Stmt}
-use Rattle.loop_syntax.specs.declared.statement.Stmt.TheVariants.{Let, Set, Put, If', While', Loop', Par', Fold, Call, Both, Print, Emit}
+use Rattle.loop_syntax.specs.declared.statement.Stmt.TheVariants.{Let, Set, Put, If', While', Loop'}
+use Rattle.loop_syntax.specs.declared.statement.Stmt.TheVariants.{Par', Fold, Call, Both, Print}
+use Rattle.loop_syntax.specs.declared.statement.Stmt.TheVariants.{Emit}
 use Rattle.loop_syntax.specs.declared.program.Func.{Func}
 use Rattle.loop_syntax.specs.declared.program.Program.{Program}
 use Rattle.loop_syntax.specs.declared.program.TableDecl.{TableDecl}
 use Rattle.loop_syntax.specs.declared.program.TableDecl.TheVariants.{Input, Made}
-use Rattle.loop_syntax.specs.Tree.{Tree, TInt, TVar, TCell, TRows, TCols, TNeg, TBin, tree_of, Node, NLet, NSet, NPut, NIf, NWhile, NLoop, NPar, NFold, NCall, NBoth, NPrint, NEmit, Nodes, Last, Then, nodes_of, TableTree, TInput, TMade, table_of, FuncTree, func_of, ProgramTree, program_of}
+use Rattle.loop_syntax.specs.Tree.{Tree, TInt, TVar, TCell, TRows, TCols, TNeg, TBin, tree_of, Node}
+use Rattle.loop_syntax.specs.Tree.{NLet, NSet, NPut, NIf, NWhile, NLoop, NPar, NFold, NCall, NBoth}
+use Rattle.loop_syntax.specs.Tree.{NPrint, NEmit, Nodes, Last, Then, nodes_of, TableTree, TInput}
+use Rattle.loop_syntax.specs.Tree.{TMade, table_of, FuncTree, func_of, ProgramTree, program_of}
 use Rattle.loop_rules.proofs.TreeNodes.{node_rows, rows_of, row_nodes}
-use Rattle.block_lower.specs.Count.{nodes, blocks_of_expr, blocks_of_exprs, blocks, blocks_of_all, blocks_of_list, blocks_of_func, blocks_of_decl, blocks_of_program}
+use Rattle.block_lower.specs.Count.{nodes, blocks_of_expr, blocks_of_exprs, blocks, blocks_of_all}
+use Rattle.block_lower.specs.Count.{blocks_of_list, blocks_of_func, blocks_of_decl}
+use Rattle.block_lower.specs.Count.{blocks_of_program}
 
 -- a sum is that of the same numbers
 two_same : {a b c d : ℕ} → a ≡ c → b ≡ d → a + b ≡ c + d
@@ -20,7 +28,7 @@ two_same {b = b} {c = c} p q = ap (λ n. n + b) p ∙ ap (λ n. c + n) q
 
 -- ---- expressions
 
-abbrev nodes_tree : Tree → ℕ
+abbrev pub nodes_tree : Tree → ℕ
 nodes_tree (TInt n place) = 1
 nodes_tree (TVar x) = 1
 nodes_tree (TCell t a b) = 1 + nodes_tree a + nodes_tree b
@@ -32,24 +40,31 @@ nodes_tree (TBin o place a b) = 1 + nodes_tree a + nodes_tree b
 nodes_same : (e : Expr) → nodes e ≡ nodes_tree (tree_of e)
 nodes_same (Int n place) = refl
 nodes_same (Var x) = refl
-nodes_same (Cell' t p a q b) = ap (λ n. 1 + n + nodes b) (nodes_same a) ∙ ap (λ n. 1 + nodes_tree (tree_of a) + n) (nodes_same b)
+nodes_same (Cell' t p a q b) =
+    ap (λ n. 1 + n + nodes b) (nodes_same a)
+    ∙ ap (λ n. 1 + nodes_tree (tree_of a) + n) (nodes_same b)
 nodes_same (Rows t) = refl
 nodes_same (Cols t) = refl
 nodes_same (Neg' p a place) = ap (λ n. 1 + n) (nodes_same a)
-nodes_same (Bin' o place p a q b) = ap (λ n. 1 + n + nodes b) (nodes_same a) ∙ ap (λ n. 1 + nodes_tree (tree_of a) + n) (nodes_same b)
+nodes_same (Bin' o place p a q b) =
+    ap (λ n. 1 + n + nodes b) (nodes_same a)
+    ∙ ap (λ n. 1 + nodes_tree (tree_of a) + n) (nodes_same b)
 
-abbrev in_tree : Tree → ℕ
+abbrev pub in_tree : Tree → ℕ
 in_tree e = 8 * nodes_tree e
 
 expr_same : (e : Expr) → blocks_of_expr e ≡ in_tree (tree_of e)
 expr_same e = ap (λ n. 8 * n) (nodes_same e)
 
 -- sums over lists whose items have the same numbers
-sums_same : {X Y : Type 0} (f : X → ℕ) (g : Y → ℕ) (to : X → Y) → ((x : X) → f x ≡ g (to x)) → (xs : List X) → sum_by f xs ≡ sum_by g (map to xs)
+sums_same : {X Y : Type 0} (f : X → ℕ) (g : Y → ℕ) (to : X → Y) → ((x : X) → f x ≡ g (to x)) →
+    (xs : List X) → sum_by f xs ≡ sum_by g (map to xs)
 sums_same f g to same [] = refl
-sums_same f g to same (x ∷ xs) = sum_by-cons f x xs ∙ two_same (same x) (sums_same f g to same xs) ∙ sym (sum_by-cons g (to x) (map to xs))
+sums_same f g to same (x ∷ xs) =
+    sum_by-cons f x xs ∙ two_same (same x) (sums_same f g to same xs)
+    ∙ sym (sum_by-cons g (to x) (map to xs))
 
-abbrev in_trees : List Tree → ℕ
+abbrev pub in_trees : List Tree → ℕ
 in_trees es = sum_by in_tree es
 
 exprs_same : (es : List Expr) → blocks_of_exprs es ≡ in_trees (map tree_of es)
@@ -58,7 +73,7 @@ exprs_same es = sums_same blocks_of_expr in_tree tree_of expr_same es
 -- ---- statements
 
 abbrev mutual
-  in_node : Node → ℕ
+  pub in_node : Node → ℕ
   in_node (NLet x e) = 16 + in_tree e
   in_node (NSet x e) = 16 + in_tree e
   in_node (NPut t a b e) = 16 + in_tree a + in_tree b + in_tree e
@@ -72,7 +87,7 @@ abbrev mutual
   in_node (NPrint place e) = 16 + in_tree e
   in_node (NEmit place t) = 16
 
-  in_nodes : Nodes → ℕ
+  pub in_nodes : Nodes → ℕ
   in_nodes Last = 0
   in_nodes (Then n ns) = in_node n + in_nodes ns
 
@@ -80,34 +95,41 @@ mutual
   stmt_same : (s : Stmt) → blocks s ≡ in_node (node_rows s)
   stmt_same (Let x e) = ap (λ n. 16 + n) (expr_same e)
   stmt_same (Set x e) = ap (λ n. 16 + n) (expr_same e)
-  stmt_same (Put t a b e) = two_same (two_same (ap (λ n. 16 + n) (expr_same a)) (expr_same b)) (expr_same e)
-  stmt_same (If' e p body q other) = two_same (two_same (ap (λ n. 16 + n) (expr_same e)) (row_same body)) (row_same other)
+  stmt_same (Put t a b e) =
+      two_same (two_same (ap (λ n. 16 + n) (expr_same a)) (expr_same b)) (expr_same e)
+  stmt_same (If' e p body q other) =
+      two_same (two_same (ap (λ n. 16 + n) (expr_same e)) (row_same body)) (row_same other)
   stmt_same (While' e p body) = two_same (ap (λ n. 16 + n) (expr_same e)) (row_same body)
-  stmt_same (Loop' x a b p body) = two_same (two_same (ap (λ n. 16 + n) (expr_same a)) (expr_same b)) (row_same body)
-  stmt_same (Par' place x a b carry_place carries reduces p body) = two_same (two_same (ap (λ n. 64 + n) (expr_same a)) (expr_same b)) (row_same body)
+  stmt_same (Loop' x a b p body) =
+      two_same (two_same (ap (λ n. 16 + n) (expr_same a)) (expr_same b)) (row_same body)
+  stmt_same (Par' place x a b carry_place carries reduces p body) =
+      two_same (two_same (ap (λ n. 64 + n) (expr_same a)) (expr_same b)) (row_same body)
   stmt_same (Fold x e) = ap (λ n. 16 + n) (expr_same e)
   stmt_same (Call x f) = ap (λ n. 16 + n) (exprs_same f.args.items)
-  stmt_same (Both x f y g) = two_same (ap (λ n. 64 + n) (exprs_same f.args.items)) (exprs_same g.args.items)
+  stmt_same (Both x f y g) =
+      two_same (ap (λ n. 64 + n) (exprs_same f.args.items)) (exprs_same g.args.items)
   stmt_same (Print place e) = ap (λ n. 16 + n) (expr_same e)
   stmt_same (Emit place t) = refl
 
   row_same : {m : _} (row : Row_of-Stmt m) → blocks_of_all row ≡ in_nodes (row_nodes row)
   row_same end_of-Stmt = refl
-  row_same (more_of-Stmt s rest) = two_same (stmt_same s ∙ ap in_node (sym (rows_of s))) (row_same rest)
+  row_same (more_of-Stmt s rest) =
+      two_same (stmt_same s ∙ ap in_node (sym (rows_of s))) (row_same rest)
 
 list_same : (ss : List Stmt) → blocks_of_list ss ≡ in_nodes (nodes_of ss)
 list_same [] = refl
-list_same (s ∷ ss) = sum_by-cons blocks s ss ∙ two_same (stmt_same s ∙ ap in_node (sym (rows_of s))) (list_same ss)
+list_same (s ∷ ss) =
+    sum_by-cons blocks s ss ∙ two_same (stmt_same s ∙ ap in_node (sym (rows_of s))) (list_same ss)
 
 -- ---- programs
 
-abbrev in_func : FuncTree → ℕ
+abbrev pub in_func : FuncTree → ℕ
 in_func f = 8 + in_nodes f.body + in_tree f.value
 
 func_same : (f : Func) → blocks_of_func f ≡ in_func (func_of f)
 func_same f = two_same (ap (λ n. 8 + n) (list_same f.body.items)) (expr_same f.result)
 
-abbrev in_table : TableTree → ℕ
+abbrev pub in_table : TableTree → ℕ
 in_table (TInput x) = 8
 in_table (TMade x a b) = 8 + in_tree a + in_tree b
 
@@ -115,15 +137,17 @@ decl_same : (d : TableDecl) → blocks_of_decl d ≡ in_table (table_of d)
 decl_same (Input x) = refl
 decl_same (Made x a b) = two_same (ap (λ n. 8 + n) (expr_same a)) (expr_same b)
 
-abbrev in_program : ProgramTree → ℕ
+abbrev pub in_program : ProgramTree → ℕ
 in_program p = 8 + sum_by in_table p.tables + sum_by in_func p.funcs + in_nodes p.main
 
-program_same : (p : Program) → blocks_of_program p ≡ in_program (program_of p)
+pub program_same : (p : Program) → blocks_of_program p ≡ in_program (program_of p)
 program_same p =
-    two_same (two_same (ap (λ n. 8 + n) (sums_same blocks_of_decl in_table table_of decl_same p.tables.items))
+    two_same (two_same (ap (λ n. 8 + n) (sums_same blocks_of_decl in_table table_of decl_same
+    p.tables.items))
     (sums_same blocks_of_func in_func func_of func_same p.funcs.items))
     (list_same p.main.items)
 
 -- programs with one tree are counted with as many blocks
-pub blocks_of_tree : (p q : Program) → program_of p ≡ program_of q → blocks_of_program p ≡ blocks_of_program q
+pub blocks_of_tree : (p q : Program) → program_of p ≡ program_of q →
+    blocks_of_program p ≡ blocks_of_program q
 blocks_of_tree p q same = program_same p ∙ ap in_program same ∙ sym (program_same q)

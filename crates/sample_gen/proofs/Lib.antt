@@ -1,0 +1,4 @@
+mod States
+mod Rows
+mod Fits
+mod Worked
