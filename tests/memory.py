@@ -71,6 +71,8 @@ def commands():
     yield 'the same by 16 workers', ['run', 'p', *OFTEN, '--workers', '16'], {'p': carried}, 0
     yield 'pairs of calls 10,000 deep, with a heartbeat of 1', ['run', 'p', '--beat', '1'], {'p': deep}, 0
     yield 'the same by 16 workers', ['run', 'p', '--beat', '1', '--workers', '16'], {'p': deep}, 0
+    yield '`sample 1`', ['sample', '1'], {}, 0
+    yield 'the same by 16 workers', ['sample', '1', '--workers', '16'], {}, 0
     yield 'calls 10,000 deep with 200 variables each', ['run', 'p'], {'p': widest}, 0
 
 

@@ -146,6 +146,7 @@ done
 cut_short 'code to a full device' to_full compile five
 cut_short 'code to a pipe without a reader' to_nobody compile five
 cut_short 'bad words to a full device' to_full walk
+cut_short 'a sample to a full device' to_full sample 1 --fuel 0
 cut_short 'a refusal to a full device' to_full run /dev/null
 cut_short 'ten_million to a reader of one line' to_first_line run ten_million
 status=0
@@ -212,6 +213,8 @@ small 'parallel loops 8 deep' 0 '' run loops --beat 1
 small 'parallel loops 8 deep by 4 workers' 0 '' run loops --beat 1 --workers 4
 small 'a long program' 0 '' run long
 small 'a comment' 0 '7\n' run comment
+small 'a sample' 2 'out of fuel\n' sample 1 --fuel 100000 --beat 1
+small 'a sample by 4 workers' 2 'out of fuel\n' sample 1 --fuel 100000 --beat 1 --workers 4
 for command in run compile; do
   small "open brackets to $command" 3 'refused E14 at 1:270\n' $command open_brackets
   small "signs to $command" 3 'refused E14 at 1:270\n' $command signs

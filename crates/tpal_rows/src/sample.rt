@@ -17,7 +17,7 @@ const OF_THE_GREATEST: &str = "-1841916165386329968\n330962925568\n526178\n";
 // a word here could be taken for.
 fn writes(alloc: Global, words: &[&str], text: &str, status: Status) -> Result<bool, Fail> {
     let source: &[u8] = b"main { print 5; }";
-    let texts = [("1", source), ("7", source), ("x", source), ("t", b"")];
+    let texts: [(&str, &[u8]); 4] = [("1", source), ("7", source), ("x", source), ("t", b"")];
     let called = call_over(alloc, words, &texts, Vec::new(alloc))?;
     Ok(called.status == status && called.text.as_slice() == text.as_bytes() && called.fetches == 0)
 }
@@ -82,42 +82,32 @@ fn words_of_a_sample_run_it_and_ask_for_no_text(rt: HostRuntime) -> Result<(), F
 }
 
 #[test]
-fn a_sample_prints_three_numbers_in_2004000_ticks(rt: HostRuntime) -> Result<(), Fail> {
-    let cases: [(&[&str], &str, Status); 4] = [
-        (&["sample", "1"], OF_ONE, Status::Done),
-        (
-            &["sample", "4294967295", "--forks=0"],
-            OF_THE_GREATEST,
-            Status::Done,
-        ),
-        (
-            &["sample", "1", "--fuel=2004000", "--beat=100"],
-            OF_ONE,
-            Status::Done,
-        ),
-        (
-            &["sample", "1", "--fuel=2003999"],
-            "out of fuel\n",
-            Status::OutOfFuel,
-        ),
-    ];
-    for (words, text, status) in cases {
-        assert!(&rt; writes(rt.alloc(), words, text, status)?);
-    }
+fn a_sample_prints_three_numbers(rt: HostRuntime) -> Result<(), Fail> {
+    let words = ["sample", "1", "--fuel=2004000", "--beat=100"];
+    assert!(&rt; writes(rt.alloc(), &words, OF_ONE, Status::Done)?);
     Ok(())
 }
 
 #[test]
-fn no_number_of_workers_changes_what_a_sample_prints(rt: HostRuntime) -> Result<(), Fail> {
-    for words in [
-        ["sample", "1", "--workers=1"],
-        ["sample", "1", "--workers=4"],
-    ] {
-        let called = call_beside(&rt, &words, &[], &NoGate)?;
-        assert_eq!(rt; called.text.as_slice(), OF_ONE.as_bytes());
-        assert_eq!(rt; called.status, Status::Done);
-        assert_eq!(rt; called.fetches, 0);
-    }
+fn a_sample_takes_2004000_ticks(rt: HostRuntime) -> Result<(), Fail> {
+    let words = ["sample", "1", "--fuel=2003999"];
+    assert!(&rt; writes(rt.alloc(), &words, "out of fuel\n", Status::OutOfFuel)?);
+    Ok(())
+}
+
+#[test]
+fn another_seed_is_another_sample(rt: HostRuntime) -> Result<(), Fail> {
+    let words = ["sample", "4294967295", "--forks=0"];
+    assert!(&rt; writes(rt.alloc(), &words, OF_THE_GREATEST, Status::Done)?);
+    Ok(())
+}
+
+#[test]
+fn four_workers_print_what_one_does(rt: HostRuntime) -> Result<(), Fail> {
+    let called = call_beside(&rt, &["sample", "1", "--workers=4"], &[], &NoGate)?;
+    assert_eq!(rt; called.text.as_slice(), OF_ONE.as_bytes());
+    assert_eq!(rt; called.status, Status::Done);
+    assert_eq!(rt; called.fetches, 0);
     Ok(())
 }
 
@@ -125,7 +115,7 @@ fn no_number_of_workers_changes_what_a_sample_prints(rt: HostRuntime) -> Result<
 fn a_sample_that_can_not_be_written_is_a_write_fault(rt: HostRuntime) -> Result<(), Fail> {
     let fails = Vec::from_slice(rt.alloc(), &[(0, 3)])?;
     let called = call_over(rt.alloc(), &["sample", "1", "--fuel=0"], &[], fails)?;
-    assert_eq!(rt; called.text.as_slice(), b"out");
+    assert_eq!(rt; called.text.as_slice(), b"out".as_slice());
     assert_eq!(rt; called.status, Status::WriteFault);
     Ok(())
 }
