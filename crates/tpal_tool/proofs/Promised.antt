@@ -9,6 +9,7 @@ use Rattle.table_text.specs.TablesText.{TablesOf}
 use Rattle.tpal_tool.specs.declared.status.Status.{Status}
 use Rattle.tpal_tool.specs.declared.status.Status.TheVariants.{Done, Trap, OutOfFuel, NoMemory}
 use Rattle.tpal_tool.specs.Inputs.{first_missing}
+use Rattle.tpal_tool.specs.Lines as lines
 use Rattle.tpal_tool.specs.Owed.{Ends, IsFinal, Finished, finished, read_failed, write_failed, no_memory, program_failed, tables_failed}
 use Rattle.tpal_tool.specs.Promises.{HasCause, RefusesRightly, RunsOrCompiles, AsksFor, AsksForRun, MeetsNoFault}
 use Rattle.tpal_tool.specs.Sink.{Appended}
