@@ -7,7 +7,7 @@ use loop_rules::{Resolved, RuleFault, resolve};
 use std::alloc::Global;
 use tp_value::Place;
 
-fn resolved(alloc: Global, source: &[u8]) -> Option<Result<Resolved, RuleFault>> {
+pub fn resolved(alloc: Global, source: &[u8]) -> Option<Result<Resolved, RuleFault>> {
     if source.len() > 1_048_576 {
         return None;
     }
