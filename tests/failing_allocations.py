@@ -21,24 +21,26 @@ TOP = os.path.dirname(os.path.dirname(os.path.abspath(__file__)))
 
 LIBRARY = r'''
 #include <errno.h>
+#include <fcntl.h>
 #include <stdatomic.h>
-#include <stdio.h>
 #include <stdlib.h>
+#include <sys/mman.h>
 extern void *__libc_malloc(size_t), *__libc_calloc(size_t, size_t), *__libc_realloc(void *, size_t);
 extern void *__libc_memalign(size_t, size_t);
-static atomic_long made;
+static atomic_long own, *made = &own;
 static long refused, also_later;
+// The count stands in a file, since the process may end without a word to its libraries.
 __attribute__((constructor)) static void begin(void) {
-  const char *number = getenv("REFUSED"), *later = getenv("ALSO_LATER");
+  const char *number = getenv("REFUSED"), *later = getenv("ALSO_LATER"), *counter = getenv("COUNTER");
+  int file = counter ? open(counter, O_RDWR) : -1;
+  void *shared = file < 0 ? MAP_FAILED : mmap(0, 8, PROT_READ | PROT_WRITE, MAP_SHARED, file, 0);
+  if (shared != MAP_FAILED) made = shared;
   refused = number ? atol(number) : 0;
   also_later = later && *later == '1';
-  atomic_store(&made, 0);
-}
-__attribute__((destructor)) static void end(void) {
-  if (getenv("TELL")) fprintf(stderr, "%ld\n", atomic_load(&made));
+  atomic_store(made, 0);
 }
 static int fails(void) {
-  long number = atomic_fetch_add(&made, 1) + 1;
+  long number = atomic_fetch_add(made, 1) + 1;
   int is = refused && (also_later ? number >= refused : number == refused);
   if (is) errno = ENOMEM;
   return is;
@@ -72,16 +74,25 @@ class Case:
     def __init__(self, program, library, words):
         self.program, self.library, self.words = program, library, words
 
-    def run(self, refused, also_later, tell=False):
+    def run(self, refused, also_later, counter=None):
         loader = {'LD_PRELOAD': self.library, 'REFUSED': str(refused), 'ALSO_LATER': str(int(also_later))}
-        if tell:
-            loader['TELL'] = '1'
+        if counter:
+            loader['COUNTER'] = counter
         try:
             done = subprocess.run([self.program, *self.words], env=loader, stdin=subprocess.DEVNULL,
                                   capture_output=True, timeout=60)
         except subprocess.TimeoutExpired:
-            return 'hang', b'', b''
-        return done.returncode, done.stdout, done.stderr
+            return 'hang', b''
+        return done.returncode, done.stdout
+
+    def requests(self):
+        """How many requests a run makes."""
+        counter = self.library + '.count'
+        with open(counter, 'wb') as file:
+            file.write(bytes(8))
+        self.run(0, False, counter)
+        with open(counter, 'rb') as file:
+            return int.from_bytes(file.read(), 'little')
 
 
 def without_counts(text, shown):
@@ -91,8 +102,8 @@ def without_counts(text, shown):
 
 def try_case(pool, case, times, shown, several):
     """How often each status came, and each answer that differs."""
-    owed_status, owed, told = case.run(0, False, True)
-    most = max(int(case.run(0, False, True)[2]) for _ in range(5)) + (20 if several else 0)
+    owed_status, owed = case.run(0, False)
+    most = max(case.requests() for _ in range(5)) + (20 if several else 0)
     whole = without_counts(owed, shown and several)
     ends, bad = collections.Counter(), []
 
@@ -102,7 +113,7 @@ def try_case(pool, case, times, shown, several):
 
     jobs = [(refused, later) for refused in range(1, most + 1) for later in (False, True)
             for _ in range(times if several else 1)]
-    for (refused, later), (status, text, _) in pool.map(once, jobs):
+    for (refused, later), (status, text) in pool.map(once, jobs):
         ends[status] += 1
         is_own = status == owed_status and without_counts(text, shown and several) == whole
         if not is_own and not (status == 4 and owed.startswith(text)):

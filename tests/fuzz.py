@@ -4,8 +4,9 @@
     tests/fuzz.py [--program TPAL] [--count N] [--seed N] [--jobs N] [--seconds N]
 
 A text is a change of an example, a program put together from the grammar, a row of tokens, or bytes. The texts
-follow from the seed alone. A call has 10 seconds unless told otherwise, and a fuel of 20,000. A program that is
-accepted runs again with another heartbeat and other workers, and must do the same. The numbers are printed at
+follow from the seed alone. A call has 10 seconds unless told otherwise, a fuel of 20,000, and at most 10
+diversions a worker, since the fuel doesn't bound what tasks do whose outcome is dropped. A program that is accepted
+runs again with another heartbeat and other workers, and must do the same. The numbers are printed at
 the end; the status is 1 where a call differs, and each such text is kept in a folder that is named.
 """
 import argparse
@@ -318,14 +319,14 @@ def try_text(job):
         with open(path, 'wb') as file:
             file.write(text)
     fuel = ['--fuel', str(FUEL)]
-    run = Call(program, ['run'] + paths + fuel, seconds)
+    run = Call(program, ['run'] + paths + fuel + ['--forks', '10'], seconds)
     compiled = Call(program, ['compile', paths[0]], seconds)
     faults = [fault for fault in (run.fault(source, tables, False), compiled.fault(source, tables, True)) if fault]
     calls = 2
     if not faults and run.status != 3:
         beat, workers = rng.choice([1, 2, 7, 50, 300]), rng.choice([1, 1, 2, 4])
         words = ['run'] + paths + fuel + ['--beat', str(beat), '--workers', str(workers),
-                                          '--forks', rng.choice(['1000000', '0', '3'])]
+                                          '--forks', rng.choice(['10', '10', '0', '3'])]
         again = Call(program, words, seconds)
         shown = Call(program, words + ['--show'], seconds)
         calls += 2

@@ -4,14 +4,13 @@
     tests/memory.py [PROGRAM] [SECONDS]
 
 PROGRAM is crates/tpal/out/tpal where none is given, and each call has SECONDS seconds, 300 where none are given.
-The largest resident set and the time of each call are those that the system tells of the process. The status is 1
-where a call ends with another status than it owes.
+GNU time is needed. The largest resident set and the time of each call are those that the system tells of the process.
+The status is 1 where a call ends with another status than it owes.
 """
 import os
 import subprocess
 import sys
 import tempfile
-import threading
 
 TOP = os.path.dirname(os.path.dirname(os.path.abspath(__file__)))
 PROGRAM = os.path.abspath(sys.argv[1] if len(sys.argv) > 1 else os.path.join(TOP, 'crates/tpal/out/tpal'))
@@ -77,14 +76,16 @@ def commands():
 
 
 def measure(words):
-    """The status, the largest resident set in MB and the processor time in seconds of a call."""
-    process = subprocess.Popen([PROGRAM, *words], stdin=subprocess.DEVNULL, stdout=subprocess.DEVNULL)
-    timer = threading.Timer(SECONDS, process.kill)
-    timer.start()
-    _, status, usage = os.wait4(process.pid, 0)
-    timer.cancel()
-    process.returncode = os.waitstatus_to_exitcode(status)
-    return process.returncode, usage.ru_maxrss * 1024 / 1e6, usage.ru_utime + usage.ru_stime
+    """The status, the largest resident set in MB and the processor time in seconds of a call.
+
+    GNU time starts the program: a process begins with the resident set of the one that starts it.
+    """
+    told = ['time', '--quiet', '--format', '%M %U %S', '--output', 'told']
+    process = subprocess.run([*told, 'timeout', '--foreground', str(SECONDS), PROGRAM, *words],
+                             stdin=subprocess.DEVNULL, stdout=subprocess.DEVNULL)
+    with open('told', encoding='ascii') as file:
+        memory, user, system = file.read().split()
+    return process.returncode, float(memory) * 1024 / 1e6, float(user) + float(system)
 
 
 def main():
