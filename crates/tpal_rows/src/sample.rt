@@ -11,7 +11,7 @@ use tpal_tool::Status;
 const OF_ONE: &str = "-1841916167788486091\n330540374171\n524419\n";
 
 /// What the sample of the greatest seed prints.
-const OF_THE_GREATEST: &str = "-1841916165386329968\n330962925568\n526178\n";
+const OF_THE_GREATEST: &str = "-1841916164471570917\n330942339357\n525561\n";
 
 // Whether these words write that and end so, and ask for no text. There is one under each name that
 // a word here could be taken for.
