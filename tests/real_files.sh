@@ -61,26 +61,21 @@ ends 'a link to itself' 5 '' run loop
 # --- what may not be read ---
 cp five closed
 chmod 000 closed
+# Root may read every file and make any number of threads.
 user=()
+runner=$program
 if [ "$(id -u)" = 0 ]; then
-  # Root may read every file.
   chmod 755 .
-  cp -L "$program" reader
-  chmod 755 reader
+  cp -L "$program" runner
+  chmod 755 runner
+  runner=$work/runner
   user=(runuser -u nobody --)
 fi
-status=0
-(
-  program=$([ -e reader ] && echo "$work/reader" || echo "$program")
-  "${user[@]+"${user[@]}"}" timeout 60 "$program" run closed
-) >out 2>errors || status=$?
-judge 'a program without permission' "$status" 5 ''
-status=0
-(
-  program=$([ -e reader ] && echo "$work/reader" || echo "$program")
-  "${user[@]+"${user[@]}"}" timeout 60 "$program" run first closed
-) >out 2>errors || status=$?
-judge 'tables without permission' "$status" 5 ''
+for words in 'run closed' 'run first closed' 'compile closed'; do
+  status=0
+  timeout 60 ${user[@]+"${user[@]}"} "$runner" $words >out 2>errors || status=$?
+  judge "$words, without permission" "$status" 5 ''
+done
 
 # --- pipes with names ---
 mkfifo pipe
@@ -110,7 +105,6 @@ ends 'an absent name with a line break' 5 '' run $'no\nfile'
 # --- outputs that take nothing, or not all ---
 printf 'table t[1][0]; main { emit t; }' >one_byte
 printf 'main { loop i in 0..500000 { print 9223372036854775807; } }' >ten_million
-printf '10 MB\n' >/dev/null
 ends 'an output of one byte' 0 '\n' run one_byte
 
 # Says whether calls with an output that takes nothing end with a fault of writing.
@@ -166,6 +160,17 @@ printf ' ' >>over_tables
 ends 'tables of 67,108,864 bytes' 0 '7\n' run first full_tables
 ends 'tables of 67,108,865 bytes' 3 'refused E15 file over_tables\n' run first over_tables
 rm -f full_tables over_tables
+
+# --- no thread can be made ---
+printf 'main { let s = 0; par i in 0..100 reduce s by add { fold s with i; } print s; }' >sum
+for workers in 2 4 16; do
+  for most in 1 2 3; do
+    status=0
+    timeout 20 ${user[@]+"${user[@]}"} bash -c "ulimit -u $most; exec \"\$@\"" - "$runner" \
+      run sum --beat 1 --workers $workers >out 2>errors || status=$?
+    judge "$workers workers where $most threads may be made" "$status" 0 '4950\n'
+  done
+done
 
 # --- a stack of 256 KiB ---
 printf 'fn f(n) {
