@@ -41,7 +41,7 @@ done
 # What a sample prints, whichever way its run goes.
 sample() {
   printf '%s\n' -1841916167788486091 330540374171 524419 >"$work/text"
-  ends "a sample, $*" 0 "$work/text" sample 1 "$@"
+  ends "a sample${*:+, $*}" 0 "$work/text" sample 1 "$@"
 }
 
 sample
