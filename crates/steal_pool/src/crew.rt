@@ -130,7 +130,8 @@ fn make_worker<S: Setting>(
     }
 }
 
-/// The workers of a run, the first of which has the first task.
+/// The workers of a run, the last of which has the first task. Where no thread can be made, the
+/// last of a list runs first, and the others wait for what it does.
 pub(crate) fn make_workers<S: Setting>(
     alloc: Global,
     plan: &Plan<S>,
@@ -160,11 +161,11 @@ pub(crate) fn make_workers<S: Setting>(
             unreachable!()
         };
         let number = passes.len() as u32;
-        workers.insert(0, make_worker(number, pass, Work::Nothing, source))?;
+        workers.push(make_worker(number, pass, Work::Nothing, source))?;
     }
     let (Some(pass), Some(source)) = (passes.pop(), sources.pop()) else {
         unreachable!()
     };
-    workers.insert(0, make_worker(0, pass, Work::Runs(first), source))?;
+    workers.push(make_worker(0, pass, Work::Runs(first), source))?;
     Ok(workers)
 }

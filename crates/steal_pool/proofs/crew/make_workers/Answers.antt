@@ -1,8 +1,8 @@
-use Rattle.std.proofs.Common.{rules, arith, ap, sym, subst, ◌≡◌, ◌∙◌, ◌∷◌, All, length, ℕ}
-use Rattle.std.proofs.lemmas.List.Elements.{All-cons}
+use Rattle.std.proofs.Common.{rules, arith, ap, sym, subst, ◌≡◌, ◌∙◌, ◌∷◌, ◌++◌, [], All, length, ℕ}
+use Rattle.std.proofs.lemmas.List.Elements.{All-append, All-cons, All-nil}
 use Rattle.join_records.specs.Passes.{IsPassOf, NewView, view}
 use Rattle.join_records.specs.Views.{total}
-use Rattle.join_records.proofs.Calls.{last_before, last_here}
+use Rattle.join_records.proofs.Calls.{last_before, last_here, last_total}
 use Rattle.join_records.proofs.Functions.{length_more}
 use Rattle.steal_pool.specs.declared.seat.Work.TheVariants as work
 use Rattle.steal_pool.specs.Facts.{Owed}
@@ -27,7 +27,7 @@ loop-passes-preserved g c =
     let made = c.make_worker.ensures in
     let worker = c.make_worker.result in
     let others = c.loop-passes.workers.items in
-    let new : c.insert.new.self.items ≡ worker ∷ others = search rules in
+    let new : c.push.new.self.items ≡ others ++ worker ∷ [] = search rules in
     let owed =
     subst (λ t. Owed terms.code terms.heartbeat t e) c.requires.first kept.0.1 in
     let fits : _ → Type 0 =
@@ -41,14 +41,14 @@ loop-passes-preserved g c =
     record { ending = e; root = idle.3.1; owed = owed } in
     let parts : (view worker.seat.pass).parts ≡ 1 =
     ap (λ q. (view q).parts) made.pass ∙ idle.0 in
-    let sum = ap (λ l. total (λ w. (view w.seat.pass).parts) l) new in
-    let long = ap length new in
+    let sum = last_total (λ w. (view w.seat.pass).parts) _ others worker new in
+    let long = ap length new ∙ length_more others worker in
     let all_parts = kept.2 in
     let all_count = kept.3 in
     let sources = kept.4 in
     let taken = ap length c.in-Some-Some.ensures'.items ∙ length_more _ _ in (
       (e, kept.0.1, λ j y at. kept.0.2 j y (last_before _ xs p last j y at)),
-      subst (All fits) (sym new) (All-cons fits worker others mine kept.1),
+      subst (All fits) (sym new) (All-append fits others (worker ∷ []) kept.1 (All-cons fits worker [] mine (All-nil fits))),
       omega arith,
       omega arith,
       omega arith,
@@ -75,7 +75,7 @@ returns-clause-each g c =
     let made = c.make_worker-2.ensures in
     let worker = c.make_worker-2.result in
     let others = c.loop-passes.workers.items in
-    let new : c.insert-2.new.self.items ≡ worker ∷ others = search rules in
+    let new : c.push-2.new.self.items ≡ others ++ worker ∷ [] = search rules in
     let owed =
     subst (λ t. Owed terms.code terms.heartbeat t e) c.requires.first kept.0.1 in
     let fits : _ → Type 0 =
@@ -87,7 +87,7 @@ returns-clause-each g c =
     (work.Runs c.args.first) made.pass made.work made.taken made.counts here.0
     (first_begins terms e count (view p) c.args.first root kept.0.1 c.requires.end)
     record { ending = e; root = root.2.1; owed = owed } in
-    subst (All fits) (sym new) (All-cons fits worker others mine kept.1)
+    subst (All fits) (sym new) (All-append fits others (worker ∷ []) kept.1 (All-cons fits worker [] mine (All-nil fits)))
 
 pub returns-clause-parts : goal.returns-clause-parts
 returns-clause-parts g c =
@@ -104,8 +104,9 @@ returns-clause-parts g c =
     let count = length c.args.passes.items in
     let root = subst (λ (k : ℕ). NewView e count k (view p)) none here.1 in
     let worker = c.make_worker-2.result in
-    let new : c.insert-2.new.self.items ≡ worker ∷ c.loop-passes.workers.items = search rules in
-    let sum = ap (λ l. total (λ w. (view w.seat.pass).parts) l) new in
+    let others = c.loop-passes.workers.items in
+    let new : c.push-2.new.self.items ≡ others ++ worker ∷ [] = search rules in
+    let sum = last_total (λ w. (view w.seat.pass).parts) _ others worker new in
     let parts = ap (λ q. (view q).parts) c.make_worker-2.ensures.pass in
     let first = root.0 in
     let all_parts = kept.2 in
