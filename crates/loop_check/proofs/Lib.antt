@@ -11,7 +11,6 @@ pub mod Bodies
 pub mod Law
 pub mod Parts
 pub mod Spared
-pub mod Searching
 pub mod Backwards
 pub mod Apart
 pub mod Walking

@@ -4,7 +4,7 @@ pub mod Unbroken
 pub mod Parts
 -- Spared: the tables that an iteration leaves alone, and what calls leave alone
 pub mod Spared
--- Search: the first broken rule, as the walk finds it
+-- Search: the rules of disjoint writes, as the search asks for them
 pub mod Search
 -- Walk: how the walk's state stands for a spot
 pub mod Walk

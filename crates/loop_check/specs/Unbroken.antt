@@ -1,7 +1,8 @@
 -- Programs that break no rule.
 use Rattle.tp_value.specs.declared.Place.{Place}
 use Rattle.loop_syntax.specs.declared.Program.{Program}
-use Rattle.loop_rules.specs.Broken.{Rule, Broken}
+use Rattle.loop_rules.specs.declared.rule.Rule.{Rule}
+use Rattle.loop_rules.specs.Broken.{Broken}
 
 -- no rule is broken anywhere in the program
 pub record NoneBroken (p : Program) : Type 0 where

@@ -8,13 +8,14 @@ use Rattle.loop_rules.specs.Names.{is_in, table_name}
 use Rattle.loop_rules.specs.Sites.{Loop, Spot, Site}
 use Rattle.loop_rules.specs.Reductions.{reduced, other_operator, reduced_otherwise}
 use Rattle.loop_rules.specs.Carries.{carries}
-use Rattle.loop_check.specs.declared.fault.Fault.{Fault}
+use Rattle.loop_rules.specs.declared.fault.Fault.{Fault}
 use Rattle.loop_check.specs.declared.reader.Reader.{Reader}
 use Rattle.loop_check.specs.declared.spot as state
 use Rattle.loop_check.specs.declared.round.Round.{Round}
 use Rattle.loop_check.specs.declared.round.Test.{Test}
 use Rattle.loop_check.specs.declared.round.Test.TheVariants as test
-use Rattle.loop_check.specs.Search.{lowest_in}
+use Rattle.loop_rules.specs.Search.{lowest_in}
+use Rattle.loop_check.specs.Search.{checked_rules}
 
 -- the names behind references
 abbrev pub texts_of : List (Bor (List ℕ)) → List (List ℕ)
@@ -75,5 +76,5 @@ carried_tables cs = map (λ c. (table_name c).text.items) cs
 -- the walk went over these sites, and stands at that spot
 pub record Walked (readers : List Reader) (before after : Option Fault) (ss : List Site)
     (new : state.Spot.Spot) (at : Spot) : Type 0 where
-  pub found : after ≡ lowest_in readers before ss
+  pub found : after ≡ lowest_in (checked_rules readers) before ss
   pub stands : inside new ≡ at

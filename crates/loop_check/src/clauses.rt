@@ -1,26 +1,24 @@
 // The clauses of a `par`.
 
 ghost use Rattle.std.specs.Prelude.{◌≡◌, ◌||◌, []};
-ghost use Rattle.loop_rules.specs.Carries.{c6, last_index, row_reduced, outside_nearest, bad_item};
+ghost use Rattle.loop_rules.specs.Carries.{miscarried, last_index, row_reduced, outside_nearest};
+ghost use Rattle.loop_rules.specs.Carries.{bad_item};
 ghost use Rattle.loop_rules.specs.Carries.{bad_items};
 ghost use Rattle.loop_rules.specs.Names.{is_in, table_name};
-ghost use Rattle.loop_rules.specs.Reductions.{c3, any_loop, other_operator, reduced_otherwise};
+ghost use Rattle.loop_rules.specs.Reductions.{misreduced, any_loop, other_operator};
+ghost use Rattle.loop_rules.specs.Reductions.{reduced_otherwise};
 ghost use Rattle.loop_rules.specs.Reductions.{bad_targets};
 ghost use Rattle.loop_rules.specs.Sites.{Parallel};
 ghost use Rattle.tp_value.specs.declared.Place.{Place};
-ghost use Rattle.loop_check.specs.Search.{lowest};
+ghost use Rattle.loop_rules.specs.Search.{lowest};
 ghost use Rattle.loop_check.specs.Walk.{loop_of, rounds_of, inside, targets_of, carried_tables};
 
-use crate::expression::REDUCED;
-use crate::fault::{Fault, note_if};
 use crate::names::{operator_of, table_name};
 use crate::round::{Round, Test, any_round};
 use crate::shape::is_within;
 use crate::spot::Spot;
+use loop_rules::{Fault, Rule, note_if};
 use loop_syntax::{Carry, Reduce, RowAt};
-
-/// The number of the rule on carry lists.
-const CARRIES: u8 = 6;
 
 /// Whether a reduction doesn't agree with the loops round.
 fn disagrees(rounds: &[Round], q: &Reduce) -> bool
@@ -55,13 +53,14 @@ fn bad_target(rounds: &[Round], before: &[Reduce], q: &Reduce) -> bool
 
 /// The variables of a reduce list.
 fn targets(w: &Spot, found: &mut Option<Fault>, qs: &[Reduce])
-    ensures { found.new ≡ lowest found.old 3 (bad_targets [] qs.now (rounds_of w.now.rounds.now)) }
+    ensures { found.new
+        ≡ lowest found.old Rule.Reductions (bad_targets [] qs.now (rounds_of w.now.rounds.now)) }
 {
     for i in 0..qs.len() {
         let q = &qs[i];
         note_if(
             found,
-            REDUCED,
+            Rule::Reductions,
             bad_target(w.rounds, &qs[..i], q),
             q.target.place,
         );
@@ -132,13 +131,14 @@ fn bad_carry(rounds: &[Round], round: &Round, before: &[Carry], c: &Carry) -> bo
 /// The items of the carry list.
 fn items(w: &Spot, found: &mut Option<Fault>, round: &Round, cs: &[Carry])
     ensures { found.new
-        ≡ lowest found.old 6 (bad_items [] cs.now (loop_of round.now) (rounds_of w.now.rounds.now)) }
+        ≡ lowest found.old Rule.CarryLists (bad_items [] cs.now (loop_of round.now)
+        (rounds_of w.now.rounds.now)) }
 {
     for i in 0..cs.len() {
         let c = &cs[i];
         note_if(
             found,
-            CARRIES,
+            Rule::CarryLists,
             bad_carry(w.rounds, round, &cs[..i], c),
             table_name(c).place,
         );
@@ -149,7 +149,8 @@ fn items(w: &Spot, found: &mut Option<Fault>, round: &Round, cs: &[Carry])
 pub fn parallel(w: &Spot, found: &mut Option<Fault>, round: &Round)
     ensures { (p q : Place)
         → let act = Parallel p q (loop_of round.now) in found.new
-        ≡ lowest (lowest found.old 3 (c3 act (inside w.now))) 6 (c6 act (inside w.now)) }
+        ≡ lowest (lowest found.old Rule.Reductions (misreduced act (inside w.now))) Rule.CarryLists
+        (miscarried act (inside w.now)) }
 {
     targets(w, found, &round.par.reduces);
     items(w, found, round, &round.par.carries);

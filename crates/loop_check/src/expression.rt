@@ -3,33 +3,26 @@
 ghost use Rattle.std.specs.Prelude.{◌≡◌, ◌∷◌, []};
 ghost use Rattle.loop_rules.specs.Sites.{in_expr, in_whole, in_args, in_app, in_carries, Uses};
 ghost use Rattle.loop_rules.specs.Sites.{ReadsCell, Calls};
-ghost use Rattle.loop_rules.specs.Carries.{c5, bad_read};
-ghost use Rattle.loop_rules.specs.Reductions.{c3};
-ghost use Rattle.loop_check.specs.Search.{lowest, lowest_in, c8, reads_carried};
+ghost use Rattle.loop_rules.specs.Carries.{misread, bad_read};
+ghost use Rattle.loop_rules.specs.Reductions.{misreduced};
+ghost use Rattle.loop_rules.specs.Search.{lowest, lowest_in};
+ghost use Rattle.loop_check.specs.Search.{calls_reader, reads_carried, checked_rules};
 ghost use Rattle.loop_check.specs.Walk.{rounds_of, inside};
 
-use crate::fault::{Fault, note_if};
 use crate::reader::Reader;
 use crate::round::{Round, Test, any_round};
 use crate::shape::has_shape;
 use crate::spot::Spot;
+use loop_rules::{Fault, Rule, note_if};
 use loop_syntax::{App, Carry, Expr, Name, RowAt};
-
-/// The number of the rule on reduced variables.
-pub const REDUCED: u8 = 3;
-
-/// The number of the rule on reads.
-const READS: u8 = 5;
-
-/// The number of the rule on calls.
-const CALLS: u8 = 8;
 
 /// An occurrence of a variable that isn't the target of a `fold`.
 pub fn occurs(w: &Spot, found: &mut Option<Fault>, x: &Name)
-    ensures { found.new ≡ lowest found.old 3 (c3 (Uses x.now) (inside w.now)) }
+    ensures { found.new
+        ≡ lowest found.old Rule.Reductions (misreduced (Uses x.now) (inside w.now)) }
 {
     let reduced = any_round(w.rounds, &Test::Reduces(&x.text));
-    note_if(found, REDUCED, reduced, x.place);
+    note_if(found, Rule::Reductions, reduced, x.place);
 }
 
 /// Whether a read is of a table that a loop round carries, where the nearest doesn't, or without
@@ -44,15 +37,22 @@ fn bad_read(rounds: &[Round], t: &[u8], a: &Expr, b: &Expr) -> bool
 }
 
 fn reads(w: &Spot, found: &mut Option<Fault>, t: &Name, a: &Expr, b: &Expr)
-    ensures { found.new ≡ lowest found.old 5 (c5 (ReadsCell t.now a.now b.now) (inside w.now)) }
+    ensures { found.new
+        ≡ lowest found.old Rule.TableReads (misread (ReadsCell t.now a.now b.now) (inside w.now)) }
 {
-    note_if(found, READS, bad_read(w.rounds, &t.text, a, b), t.place);
+    note_if(
+        found,
+        Rule::TableReads,
+        bad_read(w.rounds, &t.text, a, b),
+        t.place,
+    );
 }
 
 /// An expression inside another one.
 #[tactic(auto, using(crate::proofs::Searching::lowest_in_append))]
 fn in_expr(w: &Spot, readers: &[Reader], found: &mut Option<Fault>, e: &Expr)
-    ensures { found.new ≡ lowest_in readers.now found.old (in_expr (inside w.now) e.now) }
+    ensures { found.new
+        ≡ lowest_in (checked_rules readers.now) found.old (in_expr (inside w.now) e.now) }
 {
     match e {
         Expr::Int(_, _) => {}
@@ -74,13 +74,15 @@ fn in_expr(w: &Spot, readers: &[Reader], found: &mut Option<Fault>, e: &Expr)
 
 /// An expression that isn't inside another one.
 pub fn in_whole(w: &Spot, readers: &[Reader], found: &mut Option<Fault>, e: &Expr)
-    ensures { found.new ≡ lowest_in readers.now found.old (in_whole (inside w.now) e.now) }
+    ensures { found.new
+        ≡ lowest_in (checked_rules readers.now) found.old (in_whole (inside w.now) e.now) }
 {
     in_expr(w, readers, found, e);
 }
 
 fn in_args(w: &Spot, readers: &[Reader], found: &mut Option<Fault>, es: &[Expr])
-    ensures { found.new ≡ lowest_in readers.now found.old (in_args (inside w.now) es.now) }
+    ensures { found.new
+        ≡ lowest_in (checked_rules readers.now) found.old (in_args (inside w.now) es.now) }
 {
     for e in es {
         in_whole(w, readers, found, e);
@@ -100,21 +102,30 @@ fn reads_carried(w: &Spot, readers: &[Reader], f: &[u8]) -> bool
 }
 
 fn calls(w: &Spot, readers: &[Reader], found: &mut Option<Fault>, f: &Name, n: usize)
-    ensures { found.new ≡ lowest found.old 8 (c8 readers.now (Calls f.now n) (inside w.now)) }
+    ensures { found.new
+        ≡ lowest found.old Rule.ReadingCalls (calls_reader readers.now (Calls f.now n)
+        (inside w.now)) }
 {
-    note_if(found, CALLS, reads_carried(w, readers, &f.text), f.place);
+    note_if(
+        found,
+        Rule::ReadingCalls,
+        reads_carried(w, readers, &f.text),
+        f.place,
+    );
 }
 
 /// A call with its arguments.
 pub fn in_app(w: &Spot, readers: &[Reader], found: &mut Option<Fault>, f: &App)
-    ensures { found.new ≡ lowest_in readers.now found.old (in_app (inside w.now) f.now) }
+    ensures { found.new
+        ≡ lowest_in (checked_rules readers.now) found.old (in_app (inside w.now) f.now) }
 {
     calls(w, readers, found, &f.callee, f.args.len());
     in_args(w, readers, found, &f.args);
 }
 
 fn in_carry(w: &Spot, readers: &[Reader], found: &mut Option<Fault>, c: &Carry)
-    ensures { found.new ≡ lowest_in readers.now found.old (in_carries (inside w.now) (c.now ∷ [])) }
+    ensures { found.new
+        ≡ lowest_in (checked_rules readers.now) found.old (in_carries (inside w.now) (c.now ∷ [])) }
 {
     match c {
         Carry::Rows(_, _) => {}
@@ -125,7 +136,8 @@ fn in_carry(w: &Spot, readers: &[Reader], found: &mut Option<Fault>, c: &Carry)
 
 /// The items of a carry list.
 pub fn in_carries(w: &Spot, readers: &[Reader], found: &mut Option<Fault>, cs: &[Carry])
-    ensures { found.new ≡ lowest_in readers.now found.old (in_carries (inside w.now) cs.now) }
+    ensures { found.new
+        ≡ lowest_in (checked_rules readers.now) found.old (in_carries (inside w.now) cs.now) }
 {
     for c in cs {
         in_carry(w, readers, found, c);

@@ -48,5 +48,6 @@ pub fn one_rule_is_first(p: &Program)
         → IsFirstBroken p.now rule place
         → IsFirstBroken p.now other elsewhere
         → (rule ≡ other) × (place ≡ elsewhere) }
-    ensures not_both { (rule : ℕ) (place : Place) → NoneBroken p.now → IsFirstBroken p.now rule place → ⊥ }
+    ensures not_both { (rule : ℕ) (place : Place) → NoneBroken p.now →
+        IsFirstBroken p.now rule place → ⊥ }
 {}

@@ -1,47 +1,44 @@
 // The walk over statements.
 
 ghost use Rattle.std.specs.Prelude.{◌≡◌, ◌∷◌, ◌++◌, IfOk, IsTrue};
-ghost use Rattle.loop_rules.specs.Carries.{c4, bad_write};
-ghost use Rattle.loop_rules.specs.Reductions.{c2, c3};
+ghost use Rattle.loop_rules.specs.Carries.{miswritten, bad_write};
+ghost use Rattle.loop_rules.specs.Reductions.{outer_set, misreduced};
 ghost use Rattle.loop_rules.specs.Sites.{site, spot_after, spot_of_list, in_stmt, in_list};
 ghost use Rattle.loop_rules.specs.Sites.{in_whole, declared_var, in_par, the_loop, Assigns, Folds};
 ghost use Rattle.loop_rules.specs.Sites.{Declares, WritesCell};
-ghost use Rattle.loop_check.specs.Search.{lowest, lowest_in};
+ghost use Rattle.loop_rules.specs.Search.{lowest, lowest_in};
+ghost use Rattle.loop_check.specs.Search.{checked_rules};
 ghost use Rattle.loop_check.specs.Walk.{texts_of, rounds_of, spot, inside, Walked};
 
 use crate::clauses::parallel;
-use crate::expression::{REDUCED, in_app, in_carries, in_whole, occurs};
-use crate::fault::{Fault, note_if};
+use crate::expression::{in_app, in_carries, in_whole, occurs};
 use crate::reader::Reader;
 use crate::round::{Round, Test, any_round, nearest};
 use crate::shape::has_shape;
 use crate::spot::Spot;
+use loop_rules::{Fault, Rule, note_if};
 use loop_syntax::{App, Expr, Name, ParLoop, Stmt};
 use std::alloc::Global;
 use tp_value::NoMemory;
 
-/// The number of the rule on variables that a body may not set.
-const OUTSIDE: u8 = 2;
-
-/// The number of the rule on writes.
-const WRITES: u8 = 4;
-
 fn assigns(w: &Spot, found: &mut Option<Fault>, x: &Name)
     ensures { found.new
-        ≡ lowest (lowest found.old 2 (c2 (Assigns x.now) (inside w.now))) 3
-        (c3 (Assigns x.now) (inside w.now)) }
+        ≡ lowest (lowest found.old Rule.OuterVariables (outer_set (Assigns x.now) (inside w.now)))
+        Rule.Reductions
+        (misreduced (Assigns x.now) (inside w.now)) }
 {
     let outside = any_round(w.rounds, &Test::Outside(&x.text));
-    note_if(found, OUTSIDE, outside, x.place);
+    note_if(found, Rule::OuterVariables, outside, x.place);
     let reduced = any_round(w.rounds, &Test::Reduces(&x.text));
-    note_if(found, REDUCED, reduced, x.place);
+    note_if(found, Rule::Reductions, reduced, x.place);
 }
 
 fn folds(w: &Spot, found: &mut Option<Fault>, x: &Name)
-    ensures { found.new ≡ lowest found.old 3 (c3 (Folds x.now) (inside w.now)) }
+    ensures { found.new
+        ≡ lowest found.old Rule.Reductions (misreduced (Folds x.now) (inside w.now)) }
 {
     let reduced = nearest(w.rounds, &Test::Reduces(&x.text));
-    note_if(found, REDUCED, !reduced, x.place);
+    note_if(found, Rule::Reductions, !reduced, x.place);
 }
 
 /// Whether a write is inside loops that don't all carry the table, or without the nearest one's
@@ -56,9 +53,16 @@ fn bad_write(rounds: &[Round], t: &[u8], a: &Expr, b: &Expr) -> bool
 }
 
 fn writes(w: &Spot, found: &mut Option<Fault>, t: &Name, a: &Expr, b: &Expr)
-    ensures { found.new ≡ lowest found.old 4 (c4 (WritesCell t.now a.now b.now) (inside w.now)) }
+    ensures { found.new
+        ≡ lowest found.old Rule.TableWrites (miswritten (WritesCell t.now a.now b.now)
+        (inside w.now)) }
 {
-    note_if(found, WRITES, bad_write(w.rounds, &t.text, a, b), t.place);
+    note_if(
+        found,
+        Rule::TableWrites,
+        bad_write(w.rounds, &t.text, a, b),
+        t.place,
+    );
 }
 
 // Statements without blocks.
@@ -73,7 +77,7 @@ fn in_put(
     e: &Expr,
 )
     ensures { found.new
-        ≡ lowest_in readers.now found.old
+        ≡ lowest_in (checked_rules readers.now) found.old
         (in_stmt (inside w.now) (Stmt.Put t.now a.now b.now e.now)) }
 {
     writes(w, found, t, a, b);
@@ -92,7 +96,7 @@ fn in_both(
     g: &App,
 )
     ensures { found.new
-        ≡ lowest_in readers.now found.old
+        ≡ lowest_in (checked_rules readers.now) found.old
         (in_stmt (inside w.now) (Stmt.Both x.now f.now y.now g.now)) }
 {
     assigns(w, found, x);
@@ -104,7 +108,7 @@ fn in_both(
 /// The two bounds of a loop over x.
 fn in_bounds(w: &Spot, readers: &[Reader], found: &mut Option<Fault>, x: &Name, a: &Expr, b: &Expr)
     ensures { let s = inside w.now in found.new
-        ≡ lowest_in readers.now found.old
+        ≡ lowest_in (checked_rules readers.now) found.old
         (site s (Declares x.now) ∷ in_whole s a.now ++ in_whole s b.now) }
 {
     occurs(w, found, x);
@@ -270,7 +274,7 @@ fn in_body<'a>(
 ) -> Result<(), NoMemory>
     ensures { IfOk result
         (λ u. found.new
-        ≡ lowest_in readers.now found.old
+        ≡ lowest_in (checked_rules readers.now) found.old
         (in_list
         (declared_var (spot (texts_of scope.entry.items) (rounds_of rounds.now)) l.now.var)
         l.now.body.items)) }
@@ -292,7 +296,10 @@ fn in_par<'a>(
     l: &'a ParLoop,
 ) -> Result<(), NoMemory>
     ensures { IfOk result
-        (λ u. found.new ≡ lowest_in readers.now found.old (in_stmt (inside w.now) (Stmt.Par l.now))) }
+        (λ u.
+        found.new
+        ≡ lowest_in (checked_rules readers.now) found.old
+        (in_stmt (inside w.now) (Stmt.Par l.now))) }
 {
     let round = Round {
         outside: w.scope.as_slice(),

@@ -3,6 +3,7 @@ pub mod Searching
 pub mod Walking
 pub mod Apart
 pub mod Declaring
+pub mod Faults
 pub mod First
 pub mod Wholes
 pub mod TreeRules

@@ -58,18 +58,18 @@ bad_write [] t a b = false
 bad_write (r ∷ rs) t a b = any_loop (λ q. not (carries t q)) (r ∷ rs) || not (has_shape r t a b)
 
 -- a write inside `par` loops that don't all carry the table, or without the nearest one's shape
-abbrev pub c4 : Act → Spot → List Place
-c4 (WritesCell t a b) w = at t (bad_write w.rounds t.text.items a b)
-c4 _ w = []
+abbrev pub miswritten : Act → Spot → List Place
+miswritten (WritesCell t a b) w = at t (bad_write w.rounds t.text.items a b)
+miswritten _ w = []
 
 abbrev pub bad_read : List Loop → List ℕ → Expr → Expr → Bool
 bad_read [] t a b = false
 bad_read (r ∷ rs) t a b = any_loop (carries t) (r ∷ rs) && not (has_shape r t a b)
 
 -- a read of a table that a `par` round carries, where the nearest doesn't, or without its shape
-abbrev pub c5 : Act → Spot → List Place
-c5 (ReadsCell t a b) w = at t (bad_read w.rounds t.text.items a b)
-c5 _ w = []
+abbrev pub misread : Act → Spot → List Place
+misread (ReadsCell t a b) w = at t (bad_read w.rounds t.text.items a b)
+misread _ w = []
 
 -- ---- carry lists
 
@@ -109,6 +109,6 @@ bad_items before (c ∷ cs) r rounds =
 
 -- an item whose last index isn't the loop's variable, whose row the loop reduces, or that isn't
 -- `t[i][j]` inside a `par` that carries `t[i]`; a table twice in one list
-abbrev pub c6 : Act → Spot → List Place
-c6 (Parallel p q r) w = bad_items [] r.carries r w.rounds
-c6 _ w = []
+abbrev pub miscarried : Act → Spot → List Place
+miscarried (Parallel p q r) w = bad_items [] r.carries r w.rounds
+miscarried _ w = []

@@ -18,11 +18,11 @@ carry_word part q [] = []
 carry_word part q (c ∷ cs) = in_function part q
 
 -- a table write, a `print`, an `emit` or a `carry` in a function
-abbrev pub c7 : Act → Spot → List Place
-c7 (WritesCell t a b) w = in_function w.part t.place
-c7 (Shows p) w = in_function w.part p
-c7 (Parallel p q r) w = carry_word w.part q r.carries
-c7 _ w = []
+abbrev pub unfit_for_functions : Act → Spot → List Place
+unfit_for_functions (WritesCell t a b) w = in_function w.part t.place
+unfit_for_functions (Shows p) w = in_function w.part p
+unfit_for_functions (Parallel p q r) w = carry_word w.part q r.carries
+unfit_for_functions _ w = []
 
 -- a place of main, where so many `par` loops are round it
 abbrev pub in_par_of_main : Part → ℕ → Place → List Place
@@ -32,6 +32,6 @@ in_par_of_main OfMain zero p = []
 in_par_of_main OfMain (suc n) p = p ∷ []
 
 -- a `print` or an `emit` inside a `par` of main
-abbrev pub c9 : Act → Spot → List Place
-c9 (Shows p) w = in_par_of_main w.part w.depth p
-c9 _ w = []
+abbrev pub shown_in_par : Act → Spot → List Place
+shown_in_par (Shows p) w = in_par_of_main w.part w.depth p
+shown_in_par _ w = []

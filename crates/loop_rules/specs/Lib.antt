@@ -16,6 +16,8 @@ pub mod Reductions
 pub mod Carries
 -- Reading: calls to functions that read a carried table (C8)
 pub mod Reading
+-- Rules: their numbers
+pub mod Rules
 -- Broken: where a program breaks a rule
 pub mod Broken
 -- Search: the first broken rule, as the walk finds it

@@ -48,14 +48,14 @@ past n xs = first_name (drop n xs)
 
 -- the first table, function, parameter, variable, reduction or carry past its limit; an expression
 -- that is too high; a `par` too deep
-abbrev pub c11 : Act → Spot → List Place
-c11 (DeclaresTable t) w = at t (nat_eq (length w.tables) MAX_TABLES)
-c11 (DeclaresFunc f) w =
+abbrev pub over_limits : Act → Spot → List Place
+over_limits (DeclaresTable t) w = at t (nat_eq (length w.tables) MAX_TABLES)
+over_limits (DeclaresFunc f) w =
     at f.name (nat_eq (length w.funcs) MAX_FUNCTIONS) ++ past MAX_PARAMETERS f.params.items
-c11 (DeclaresAll xs) w = past MAX_DECLARED_VARIABLES xs
-c11 (Evaluates e) w = cond (nat_lt MAX_EXPRESSION_HEIGHT (height e)) (first_place e ∷ []) []
-c11 (Parallel p q r) w =
+over_limits (DeclaresAll xs) w = past MAX_DECLARED_VARIABLES xs
+over_limits (Evaluates e) w = cond (nat_lt MAX_EXPRESSION_HEIGHT (height e)) (first_place e ∷ []) []
+over_limits (Parallel p q r) w =
     cond (nat_le MAX_PAR_NESTING w.depth) (p ∷ []) []
     ++ (past MAX_REDUCTIONS (map (λ d. d.target) r.reduces)
     ++ past MAX_CARRIES (map table_name r.carries))
-c11 _ w = []
+over_limits _ w = []

@@ -22,7 +22,7 @@ pub data ReadsTable (p : Program) : List ℕ → List ℕ → Type 0 where
       ReadsTable p f t
 
 -- a call inside a `par` to a function that reads a table which a `par` round the call carries
-pub record C8 (p : Program) (s : Site) (place : Place) : Type 0 where
+pub record CallsReader (p : Program) (s : Site) (place : Place) : Type 0 where
   pub callee : Name
   pub arguments : ℕ
   pub is_call : s.act ≡ Calls callee arguments

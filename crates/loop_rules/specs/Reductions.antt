@@ -15,9 +15,9 @@ any_loop f [] = false
 any_loop f (r ∷ rs) = f r || any_loop f rs
 
 -- a variable declared outside the body of a `par` round, as target of `=`, `call` or `both`
-abbrev pub c2 : Act → Spot → List Place
-c2 (Assigns x) w = at x (any_loop (λ r. is_in r.outside x.text.items) w.rounds)
-c2 _ w = []
+abbrev pub outer_set : Act → Spot → List Place
+outer_set (Assigns x) w = at x (any_loop (λ r. is_in r.outside x.text.items) w.rounds)
+outer_set _ w = []
 
 abbrev pub same_op : Op → Op → Bool
 same_op Add Add = true
@@ -65,10 +65,10 @@ bad_targets before (q ∷ qs) rounds =
 -- a reduced variable inside the body other than in `fold` or in a `reduce` list with its operator;
 -- a `fold` whose nearest `par` doesn't reduce its target, or that has none; a `reduce` list that
 -- doesn't agree with those round or names a variable twice
-abbrev pub c3 : Act → Spot → List Place
-c3 (Uses x) w = at x (any_loop (reduced x.text.items) w.rounds)
-c3 (Assigns x) w = at x (any_loop (reduced x.text.items) w.rounds)
-c3 (Declares x) w = at x (any_loop (reduced x.text.items) w.rounds)
-c3 (Folds x) w = at x (not (nearest_reduces w.rounds x.text.items))
-c3 (Parallel p q r) w = bad_targets [] r.reduces w.rounds
-c3 _ w = []
+abbrev pub misreduced : Act → Spot → List Place
+misreduced (Uses x) w = at x (any_loop (reduced x.text.items) w.rounds)
+misreduced (Assigns x) w = at x (any_loop (reduced x.text.items) w.rounds)
+misreduced (Declares x) w = at x (any_loop (reduced x.text.items) w.rounds)
+misreduced (Folds x) w = at x (not (nearest_reduces w.rounds x.text.items))
+misreduced (Parallel p q r) w = bad_targets [] r.reduces w.rounds
+misreduced _ w = []

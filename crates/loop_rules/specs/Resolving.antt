@@ -7,7 +7,9 @@ use Rattle.loop_rules.specs.declared.resolved.RuleFault.{RuleFault}
 use Rattle.loop_rules.specs.declared.resolved.RuleFault.TheVariants as faults
 use Rattle.loop_rules.specs.Scopes.{is_before}
 use Rattle.loop_rules.specs.Unbroken.{IsOfResolve}
-use Rattle.loop_rules.specs.Broken.{Rule, number_of, Broken}
+use Rattle.loop_rules.specs.declared.rule.Rule.{Rule}
+use Rattle.loop_rules.specs.Broken.{Broken}
+use Rattle.loop_rules.specs.Rules.{number_of}
 
 -- a rule that is broken at a place comes before another one, or is the same: by place, and at one
 -- place by its number

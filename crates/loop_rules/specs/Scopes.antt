@@ -45,29 +45,29 @@ unseen_targets vs (r ∷ rs) =
 -- a name that is used and isn't visible as what it is used for; one that is declared while it is
 -- visible, or as a table or a function after another one of that name; a call that misfits; one
 -- target twice in a `both`
-abbrev pub c1 : Act → Spot → List Place
-c1 (DeclaresTable t) w =
+abbrev pub misnamed : Act → Spot → List Place
+misnamed (DeclaresTable t) w =
     at t (is_in (texts w.tables) t.text.items || is_func_before (func_of w.funcs t.text.items) t)
-c1 (DeclaresFunc f) w =
+misnamed (DeclaresFunc f) w =
     at f.name (is_in (func_names w.funcs) f.name.text.items
     || is_table_by (first_named w.tables f.name.text.items) f.name)
-c1 (Declares x) w = at x (is_visible w x.text.items)
-c1 (Uses x) w = at x (not (is_in w.scope x.text.items))
-c1 (Assigns x) w = at x (not (is_in w.scope x.text.items))
-c1 (Folds x) w = at x (not (is_in w.scope x.text.items))
-c1 (AssignsBoth x y) w = at y (bytes_eq x.text.items y.text.items)
-c1 (NamesTable t) w = at t (not (is_in (texts w.tables) t.text.items))
-c1 (Calls f n) w = at f (misfits (func_of w.funcs f.text.items) n)
-c1 (Parallel p q r) w = unseen_targets w.scope r.reduces
-c1 _ w = []
+misnamed (Declares x) w = at x (is_visible w x.text.items)
+misnamed (Uses x) w = at x (not (is_in w.scope x.text.items))
+misnamed (Assigns x) w = at x (not (is_in w.scope x.text.items))
+misnamed (Folds x) w = at x (not (is_in w.scope x.text.items))
+misnamed (AssignsBoth x y) w = at y (bytes_eq x.text.items y.text.items)
+misnamed (NamesTable t) w = at t (not (is_in (texts w.tables) t.text.items))
+misnamed (Calls f n) w = at f (misfits (func_of w.funcs f.text.items) n)
+misnamed (Parallel p q r) w = unseen_targets w.scope r.reduces
+misnamed _ w = []
 
 abbrev pub loop_targets : List (List ℕ) → List Reduce → List Place
 loop_targets vs [] = []
 loop_targets vs (r ∷ rs) = at r.target (is_in vs r.target.text.items) ++ loop_targets vs rs
 
 -- a loop's variable as a target
-abbrev pub c10 : Act → Spot → List Place
-c10 (Assigns x) w = at x (is_in w.loops x.text.items)
-c10 (Folds x) w = at x (is_in w.loops x.text.items)
-c10 (Parallel p q r) w = loop_targets w.loops r.reduces
-c10 _ w = []
+abbrev pub loop_variable_set : Act → Spot → List Place
+loop_variable_set (Assigns x) w = at x (is_in w.loops x.text.items)
+loop_variable_set (Folds x) w = at x (is_in w.loops x.text.items)
+loop_variable_set (Parallel p q r) w = loop_targets w.loops r.reduces
+loop_variable_set _ w = []

@@ -6,7 +6,7 @@ use Rattle.loop_rules.specs.declared.fault.Fault.{Fault}
 use Rattle.loop_rules.specs.declared.spot as state
 use Rattle.loop_rules.specs.Declarations.{tables_of_decls}
 use Rattle.loop_rules.specs.Sites.{Spot, Site, declared_var}
-use Rattle.loop_rules.specs.Search.{lowest_in}
+use Rattle.loop_rules.specs.Search.{lowest_in, resolved_rules}
 
 -- the state knows how many `par` loops are round, and not which
 abbrev pub spot_of : state.Spot.Spot → Spot
@@ -23,7 +23,7 @@ spot_of w = record {
 -- the walk went over these sites, and stands at that spot
 pub record Walked (before after : Option Fault) (ss : List Site) (new : state.Spot.Spot)
     (spot : Spot) : Type 0 where
-  pub found : after ≡ lowest_in before ss
+  pub found : after ≡ lowest_in resolved_rules before ss
   pub stands : spot_of new ≡ spot
 
 -- the names behind references

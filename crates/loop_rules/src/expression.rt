@@ -7,38 +7,34 @@ ghost use Rattle.loop_rules.specs.Limits.{height, first_place, earlier};
 ghost use Rattle.loop_rules.specs.Scopes.{misfits};
 ghost use Rattle.loop_rules.specs.Sites.{site, in_expr, in_whole, in_args, in_app, in_carries};
 ghost use Rattle.loop_rules.specs.Sites.{Uses, NamesTable, Calls, Evaluates};
-ghost use Rattle.loop_rules.specs.Search.{lowest_at, lowest_in};
+ghost use Rattle.loop_rules.specs.Search.{lowest_at, lowest_in, resolved_rules};
 ghost use Rattle.loop_rules.specs.Walk.{spot_of};
 
 use crate::fault::{Fault, is_before, note, note_if};
+use crate::rule::Rule;
 use crate::spot::Spot;
 use loop_syntax::{App, Carry, Expr, Func, Name, RowAt};
 use tp_value::{MAX_EXPRESSION_HEIGHT, Place};
 
-/// The number of the rule on names and calls.
-pub const NAMES: u8 = 1;
-
-/// The number of the rule on limits.
-pub const LIMITS: u8 = 11;
-
 /// A variable is used.
 pub fn uses(w: &Spot, found: &mut Option<Fault>, x: &Name)
-    ensures { found.new ≡ lowest_at found.old (site (spot_of w.now) (Uses x.now)) }
+    ensures { found.new ≡ lowest_at resolved_rules found.old (site (spot_of w.now) (Uses x.now)) }
 {
-    note_if(found, NAMES, !w.scope.contains(&x.text), x.place);
+    note_if(found, Rule::Names, !w.scope.contains(&x.text), x.place);
 }
 
 /// A table is named.
 pub fn names_table(w: &Spot, found: &mut Option<Fault>, t: &Name)
-    ensures { found.new ≡ lowest_at found.old (site (spot_of w.now) (NamesTable t.now)) }
+    ensures { found.new
+        ≡ lowest_at resolved_rules found.old (site (spot_of w.now) (NamesTable t.now)) }
 {
-    note_if(found, NAMES, !w.tables.contains(&t.text), t.place);
+    note_if(found, Rule::Names, !w.tables.contains(&t.text), t.place);
 }
 
 /// An expression inside another one.
 #[tactic(auto, using(crate::proofs::Searching::lowest_in_append))]
 fn in_expr(w: &Spot, found: &mut Option<Fault>, e: &Expr)
-    ensures { found.new ≡ lowest_in found.old (in_expr (spot_of w.now) e.now) }
+    ensures { found.new ≡ lowest_in resolved_rules found.old (in_expr (spot_of w.now) e.now) }
 {
     match e {
         Expr::Int(_, _) => {}
@@ -99,23 +95,24 @@ fn first_place(e: &Expr) -> Place
 }
 
 fn evaluates(w: &Spot, found: &mut Option<Fault>, e: &Expr)
-    ensures { found.new ≡ lowest_at found.old (site (spot_of w.now) (Evaluates e.now)) }
+    ensures { found.new
+        ≡ lowest_at resolved_rules found.old (site (spot_of w.now) (Evaluates e.now)) }
 {
     if height(e) > MAX_EXPRESSION_HEIGHT {
-        note(found, LIMITS, first_place(e));
+        note(found, Rule::Limits, first_place(e));
     }
 }
 
 /// An expression that isn't inside another one.
 pub fn in_whole(w: &Spot, found: &mut Option<Fault>, e: &Expr)
-    ensures { found.new ≡ lowest_in found.old (in_whole (spot_of w.now) e.now) }
+    ensures { found.new ≡ lowest_in resolved_rules found.old (in_whole (spot_of w.now) e.now) }
 {
     evaluates(w, found, e);
     in_expr(w, found, e);
 }
 
 fn in_args(w: &Spot, found: &mut Option<Fault>, es: &[Expr])
-    ensures { found.new ≡ lowest_in found.old (in_args (spot_of w.now) es.now) }
+    ensures { found.new ≡ lowest_in resolved_rules found.old (in_args (spot_of w.now) es.now) }
 {
     for e in es {
         in_whole(w, found, e);
@@ -140,25 +137,27 @@ pub fn func_of<'a>(w: &Spot<'a, '_>, x: &[u8]) -> Option<&'a Func>
 }
 
 fn calls(w: &Spot, found: &mut Option<Fault>, f: &Name, n: usize)
-    ensures { found.new ≡ lowest_at found.old (site (spot_of w.now) (Calls f.now n)) }
+    ensures { found.new
+        ≡ lowest_at resolved_rules found.old (site (spot_of w.now) (Calls f.now n)) }
 {
     let fits = match func_of(w, &f.text) {
         Some(g) => g.params.len() == n,
         None => false,
     };
-    note_if(found, NAMES, !fits, f.place);
+    note_if(found, Rule::Names, !fits, f.place);
 }
 
 /// A call with its arguments.
 pub fn in_app(w: &Spot, found: &mut Option<Fault>, f: &App)
-    ensures { found.new ≡ lowest_in found.old (in_app (spot_of w.now) f.now) }
+    ensures { found.new ≡ lowest_in resolved_rules found.old (in_app (spot_of w.now) f.now) }
 {
     calls(w, found, &f.callee, f.args.len());
     in_args(w, found, &f.args);
 }
 
 fn in_carry(w: &Spot, found: &mut Option<Fault>, c: &Carry)
-    ensures { found.new ≡ lowest_in found.old (in_carries (spot_of w.now) (c.now ∷ [])) }
+    ensures { found.new
+        ≡ lowest_in resolved_rules found.old (in_carries (spot_of w.now) (c.now ∷ [])) }
 {
     match c {
         Carry::Rows(t, _) => names_table(w, found, t),
@@ -172,7 +171,7 @@ fn in_carry(w: &Spot, found: &mut Option<Fault>, c: &Carry)
 
 /// The items of a carry list.
 pub fn in_carries(w: &Spot, found: &mut Option<Fault>, cs: &[Carry])
-    ensures { found.new ≡ lowest_in found.old (in_carries (spot_of w.now) cs.now) }
+    ensures { found.new ≡ lowest_in resolved_rules found.old (in_carries (spot_of w.now) cs.now) }
 {
     for c in cs {
         in_carry(w, found, c);

@@ -4,13 +4,14 @@ ghost use Rattle.std.specs.Prelude.{◌≡◌, ◌∷◌, [], cond};
 ghost use Rattle.loop_rules.specs.Scopes.{is_before};
 ghost use Rattle.loop_rules.specs.Search.{is_first, lower, lowest};
 
+use crate::rule::Rule;
 use tp_value::Place;
 
 /// A broken rule, and where.
 #[derive(Clone, Copy, PartialEq, Eq, Debug)]
 pub struct Fault {
-    /// The rule's number.
-    pub rule: u8,
+    /// The rule.
+    pub rule: Rule,
     /// The place.
     pub place: Place,
 }
@@ -22,16 +23,17 @@ pub fn is_before(p: Place, q: Place) -> bool
     p.line < q.line || (p.line == q.line && p.col < q.col)
 }
 
-/// Whether a fault comes first: by place, and at one place by rule.
+/// Whether a fault comes first: by place, and at one place by the rule's number.
 fn is_first(f: Fault, g: Fault) -> bool
     ensures { result ≡ is_first f g }
 {
+    let is_smaller = f.rule.number() < g.rule.number();
     is_before(f.place, g.place)
-        || (f.place.line == g.place.line && f.place.col == g.place.col && f.rule < g.rule)
+        || (f.place.line == g.place.line && f.place.col == g.place.col && is_smaller)
 }
 
 /// Keeps the first of what was found and one more fault.
-pub fn note(found: &mut Option<Fault>, rule: u8, place: Place)
+pub fn note(found: &mut Option<Fault>, rule: Rule, place: Place)
     ensures { found.new ≡ lower found.old (record { rule = rule; place = place }) }
 {
     let fault = Fault { rule, place };
@@ -46,7 +48,7 @@ pub fn note(found: &mut Option<Fault>, rule: u8, place: Place)
 }
 
 /// The same, where the rule is broken.
-pub fn note_if(found: &mut Option<Fault>, rule: u8, broken: bool, place: Place)
+pub fn note_if(found: &mut Option<Fault>, rule: Rule, broken: bool, place: Place)
     ensures { found.new ≡ lowest found.old rule (cond broken (place ∷ []) []) }
 {
     if broken {

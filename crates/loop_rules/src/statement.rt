@@ -9,55 +9,60 @@ ghost use Rattle.loop_rules.specs.Limits.{past};
 ghost use Rattle.loop_rules.specs.Sites.{site, spot_after, spot_of_list, in_stmt, in_list, in_loop};
 ghost use Rattle.loop_rules.specs.Sites.{in_whole, the_loop, Declares, Assigns, Folds, AssignsBoth};
 ghost use Rattle.loop_rules.specs.Sites.{WritesCell, Shows, Parallel};
-ghost use Rattle.loop_rules.specs.Search.{lowest, lowest_at, lowest_in};
+ghost use Rattle.loop_rules.specs.Search.{lowest, lowest_at, lowest_in, resolved_rules};
 ghost use Rattle.loop_rules.specs.Walk.{spot_of, Walked};
 
-use crate::expression::{LIMITS, NAMES, in_app, in_carries, in_whole, names_table};
+use crate::expression::{in_app, in_carries, in_whole, names_table};
 use crate::fault::{Fault, note, note_if};
 use crate::part::Part;
+use crate::rule::Rule;
 use crate::spot::Spot;
 use loop_syntax::{App, Carry, Expr, Name, ParLoop, Reduce, Stmt};
 use tp_value::{MAX_CARRIES, MAX_PAR_NESTING, MAX_REDUCTIONS, NoMemory, Place};
 
-/// The number of the rule on what functions may do.
-const FUNCTIONS: u8 = 7;
-
-/// The number of the rule on output inside `par` loops.
-const OUTPUT: u8 = 9;
-
-/// The number of the rule on variables of loops.
-const LOOPS: u8 = 10;
-
 /// A variable is declared.
 pub fn declares(w: &Spot, found: &mut Option<Fault>, x: &Name)
-    ensures { found.new ≡ lowest_at found.old (site (spot_of w.now) (Declares x.now)) }
+    ensures { found.new
+        ≡ lowest_at resolved_rules found.old (site (spot_of w.now) (Declares x.now)) }
 {
     let visible = w.scope.contains(&x.text)
         || w.tables.contains(&x.text)
         || w.funcs.contains(&x.text);
-    note_if(found, NAMES, visible, x.place);
+    note_if(found, Rule::Names, visible, x.place);
 }
 
 fn assigns(w: &Spot, found: &mut Option<Fault>, x: &Name)
-    ensures { found.new ≡ lowest_at found.old (site (spot_of w.now) (Assigns x.now)) }
+    ensures { found.new
+        ≡ lowest_at resolved_rules found.old (site (spot_of w.now) (Assigns x.now)) }
 {
-    note_if(found, NAMES, !w.scope.contains(&x.text), x.place);
-    note_if(found, LOOPS, w.loops.contains(&x.text), x.place);
+    note_if(found, Rule::Names, !w.scope.contains(&x.text), x.place);
+    note_if(
+        found,
+        Rule::LoopVariables,
+        w.loops.contains(&x.text),
+        x.place,
+    );
 }
 
 fn folds(w: &Spot, found: &mut Option<Fault>, x: &Name)
-    ensures { found.new ≡ lowest_at found.old (site (spot_of w.now) (Folds x.now)) }
+    ensures { found.new ≡ lowest_at resolved_rules found.old (site (spot_of w.now) (Folds x.now)) }
 {
-    note_if(found, NAMES, !w.scope.contains(&x.text), x.place);
-    note_if(found, LOOPS, w.loops.contains(&x.text), x.place);
+    note_if(found, Rule::Names, !w.scope.contains(&x.text), x.place);
+    note_if(
+        found,
+        Rule::LoopVariables,
+        w.loops.contains(&x.text),
+        x.place,
+    );
 }
 
 fn assigns_both(w: &Spot, found: &mut Option<Fault>, x: &Name, y: &Name)
-    ensures { found.new ≡ lowest_at found.old (site (spot_of w.now) (AssignsBoth x.now y.now)) }
+    ensures { found.new
+        ≡ lowest_at resolved_rules found.old (site (spot_of w.now) (AssignsBoth x.now y.now)) }
 {
     note_if(
         found,
-        NAMES,
+        Rule::Names,
         x.text.as_slice() == y.text.as_slice(),
         y.place,
     );
@@ -65,32 +70,33 @@ fn assigns_both(w: &Spot, found: &mut Option<Fault>, x: &Name, y: &Name)
 
 // A place that may not stand in a function.
 fn not_in_function(part: Part, found: &mut Option<Fault>, place: Place)
-    ensures { found.new ≡ lowest found.old 7 (in_function part place) }
+    ensures { found.new ≡ lowest found.old Rule.Functions (in_function part place) }
 {
     match part {
         Part::OfSize => {}
-        Part::OfFunc => note(found, FUNCTIONS, place),
+        Part::OfFunc => note(found, Rule::Functions, place),
         Part::OfMain => {}
     }
 }
 
 // A place that may not stand inside a `par` of main.
 fn not_in_par(part: Part, rounds: &[Place], found: &mut Option<Fault>, place: Place)
-    ensures { found.new ≡ lowest found.old 9 (in_par_of_main part (length rounds.now) place) }
+    ensures { found.new
+        ≡ lowest found.old Rule.Output (in_par_of_main part (length rounds.now) place) }
 {
     match part {
         Part::OfSize => {}
         Part::OfFunc => {}
         Part::OfMain => {
             if !rounds.is_empty() {
-                note(found, OUTPUT, place);
+                note(found, Rule::Output, place);
             }
         }
     }
 }
 
 fn shows(w: &Spot, found: &mut Option<Fault>, place: Place)
-    ensures { found.new ≡ lowest_at found.old (site (spot_of w.now) (Shows place)) }
+    ensures { found.new ≡ lowest_at resolved_rules found.old (site (spot_of w.now) (Shows place)) }
 {
     not_in_function(w.part, found, place);
     not_in_par(w.part, &w.rounds, found, place);
@@ -99,12 +105,12 @@ fn shows(w: &Spot, found: &mut Option<Fault>, place: Place)
 // The clauses of a `par`.
 
 fn unseen_targets(w: &Spot, found: &mut Option<Fault>, rs: &[Reduce])
-    ensures { found.new ≡ lowest found.old 1 (unseen_targets w.now.scope rs.now) }
+    ensures { found.new ≡ lowest found.old Rule.Names (unseen_targets w.now.scope rs.now) }
 {
     for r in rs {
         note_if(
             found,
-            NAMES,
+            Rule::Names,
             !w.scope.contains(&r.target.text),
             r.target.place,
         );
@@ -112,12 +118,13 @@ fn unseen_targets(w: &Spot, found: &mut Option<Fault>, rs: &[Reduce])
 }
 
 fn loop_targets(w: &Spot, found: &mut Option<Fault>, rs: &[Reduce])
-    ensures { found.new ≡ lowest found.old 10 (loop_targets (spot_of w.now).loops rs.now) }
+    ensures { found.new
+        ≡ lowest found.old Rule.LoopVariables (loop_targets (spot_of w.now).loops rs.now) }
 {
     for r in rs {
         note_if(
             found,
-            LOOPS,
+            Rule::LoopVariables,
             w.loops.contains(&r.target.text),
             r.target.place,
         );
@@ -125,7 +132,7 @@ fn loop_targets(w: &Spot, found: &mut Option<Fault>, rs: &[Reduce])
 }
 
 fn not_carried(part: Part, found: &mut Option<Fault>, place: Place, cs: &[Carry])
-    ensures { found.new ≡ lowest found.old 7 (carry_word part place cs.now) }
+    ensures { found.new ≡ lowest found.old Rule.Functions (carry_word part place cs.now) }
 {
     if !cs.is_empty() {
         not_in_function(part, found, place);
@@ -133,10 +140,11 @@ fn not_carried(part: Part, found: &mut Option<Fault>, place: Place, cs: &[Carry]
 }
 
 fn ninth_reduction(found: &mut Option<Fault>, rs: &[Reduce])
-    ensures { found.new ≡ lowest found.old 11 (past MAX_REDUCTIONS (map (λ d. d.target) rs.now)) }
+    ensures { found.new
+        ≡ lowest found.old Rule.Limits (past MAX_REDUCTIONS (map (λ d. d.target) rs.now)) }
 {
     if rs.len() > MAX_REDUCTIONS {
-        note(found, LIMITS, rs[MAX_REDUCTIONS].target.place);
+        note(found, Rule::Limits, rs[MAX_REDUCTIONS].target.place);
     }
 }
 
@@ -151,20 +159,21 @@ fn table_name(c: &Carry) -> &Name
 }
 
 fn fifth_carry(found: &mut Option<Fault>, cs: &[Carry])
-    ensures { found.new ≡ lowest found.old 11 (past MAX_CARRIES (map table_name cs.now)) }
+    ensures { found.new ≡ lowest found.old Rule.Limits (past MAX_CARRIES (map table_name cs.now)) }
 {
     if cs.len() > MAX_CARRIES {
-        note(found, LIMITS, table_name(&cs[MAX_CARRIES]).place);
+        note(found, Rule::Limits, table_name(&cs[MAX_CARRIES]).place);
     }
 }
 
 fn too_deep(rounds: &[Place], found: &mut Option<Fault>, place: Place)
     ensures { found.new
-        ≡ lowest found.old 11 (cond (nat_le MAX_PAR_NESTING (length rounds.now)) (place ∷ []) []) }
+        ≡ lowest found.old Rule.Limits (cond (nat_le MAX_PAR_NESTING (length rounds.now))
+        (place ∷ []) []) }
 {
     note_if(
         found,
-        LIMITS,
+        Rule::Limits,
         rounds.len() >= MAX_PAR_NESTING as usize,
         place,
     );
@@ -172,7 +181,8 @@ fn too_deep(rounds: &[Place], found: &mut Option<Fault>, place: Place)
 
 fn parallel(w: &Spot, found: &mut Option<Fault>, l: &ParLoop)
     ensures { let s = spot_of w.now in found.new
-        ≡ lowest_at found.old (site s (Parallel l.now.place l.now.carry_place (the_loop s l.now.var
+        ≡ lowest_at resolved_rules found.old (site s (Parallel l.now.place l.now.carry_place
+        (the_loop s l.now.var
         l.now.carries.items l.now.reduces.items))) }
 {
     unseen_targets(w, found, &l.reduces);
@@ -185,7 +195,7 @@ fn parallel(w: &Spot, found: &mut Option<Fault>, l: &ParLoop)
 
 fn writes(w: &Spot, found: &mut Option<Fault>, t: &Name, a: &Expr, b: &Expr)
     ensures { found.new
-        ≡ lowest_at found.old (site (spot_of w.now) (WritesCell t.now a.now b.now)) }
+        ≡ lowest_at resolved_rules found.old (site (spot_of w.now) (WritesCell t.now a.now b.now)) }
 {
     not_in_function(w.part, found, t.place);
 }
@@ -194,7 +204,8 @@ fn writes(w: &Spot, found: &mut Option<Fault>, t: &Name, a: &Expr, b: &Expr)
 
 fn in_put(w: &Spot, found: &mut Option<Fault>, t: &Name, a: &Expr, b: &Expr, e: &Expr)
     ensures { found.new
-        ≡ lowest_in found.old (in_stmt (spot_of w.now) (Stmt.Put t.now a.now b.now e.now)) }
+        ≡ lowest_in resolved_rules found.old (in_stmt (spot_of w.now) (Stmt.Put t.now a.now b.now
+        e.now)) }
 {
     names_table(w, found, t);
     writes(w, found, t, a, b);
@@ -205,7 +216,8 @@ fn in_put(w: &Spot, found: &mut Option<Fault>, t: &Name, a: &Expr, b: &Expr, e: 
 
 fn in_both(w: &Spot, found: &mut Option<Fault>, x: &Name, f: &App, y: &Name, g: &App)
     ensures { found.new
-        ≡ lowest_in found.old (in_stmt (spot_of w.now) (Stmt.Both x.now f.now y.now g.now)) }
+        ≡ lowest_in resolved_rules found.old (in_stmt (spot_of w.now) (Stmt.Both x.now f.now y.now
+        g.now)) }
 {
     assigns(w, found, x);
     in_app(w, found, f);
@@ -217,7 +229,8 @@ fn in_both(w: &Spot, found: &mut Option<Fault>, x: &Name, f: &App, y: &Name, g: 
 /// The two bounds of a loop over x.
 fn in_bounds(w: &Spot, found: &mut Option<Fault>, x: &Name, a: &Expr, b: &Expr)
     ensures { let s = spot_of w.now in found.new
-        ≡ lowest_in found.old (site s (Declares x.now) ∷ in_whole s a.now ++ in_whole s b.now) }
+        ≡ lowest_in resolved_rules found.old (site s (Declares x.now) ∷ in_whole s a.now
+        ++ in_whole s b.now) }
 {
     declares(w, found, x);
     in_whole(w, found, a);

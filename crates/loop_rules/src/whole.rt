@@ -6,14 +6,15 @@ ghost use Rattle.loop_rules.specs.Declarations.{table_of_decl, tables_of_decls};
 ghost use Rattle.loop_rules.specs.Scopes.{is_func_before, is_table_by};
 ghost use Rattle.loop_rules.specs.Sites.{site, sites, top, tables_of, in_decl, in_decls, in_func};
 ghost use Rattle.loop_rules.specs.Sites.{in_funcs, in_main, DeclaresTable, DeclaresFunc};
-ghost use Rattle.loop_rules.specs.Search.{lowest_at, lowest_in};
+ghost use Rattle.loop_rules.specs.Search.{lowest_at, lowest_in, resolved_rules};
 ghost use Rattle.loop_rules.specs.Walk.{spot_of};
 
 use crate::declared::Declared;
-use crate::expression::{LIMITS, NAMES, func_of, in_whole};
+use crate::expression::{func_of, in_whole};
 use crate::fault::{Fault, is_before, note_if};
 use crate::function::{declares_all, in_func, ninth_parameter};
 use crate::part::Part;
+use crate::rule::Rule;
 use crate::scope::Scope;
 use crate::spot::Spot;
 use crate::statement::in_list;
@@ -61,18 +62,20 @@ fn is_func_before(w: &Spot, x: &Name) -> bool
 }
 
 fn declares_table(w: &Spot, found: &mut Option<Fault>, t: &Name)
-    ensures { found.new ≡ lowest_at found.old (site (spot_of w.now) (DeclaresTable t.now)) }
+    ensures { found.new
+        ≡ lowest_at resolved_rules found.old (site (spot_of w.now) (DeclaresTable t.now)) }
 {
     let taken = w.tables.contains(&t.text) || is_func_before(w, t);
-    note_if(found, NAMES, taken, t.place);
-    note_if(found, LIMITS, w.tables.len() == MAX_TABLES, t.place);
+    note_if(found, Rule::Names, taken, t.place);
+    note_if(found, Rule::Limits, w.tables.len() == MAX_TABLES, t.place);
 }
 
 /// A declared table, and its size where it has one.
 fn in_decl(w: &Spot, found: &mut Option<Fault>, d: &TableDecl)
     requires { spot_of w.now ≡ top Part.OfSize (tables_of_decls w.now.decls.now) w.now.all.now }
     ensures { found.new
-        ≡ lowest_in found.old (in_decl w.now.all.now (tables_of_decls w.now.decls.now) d.now) }
+        ≡ lowest_in resolved_rules found.old (in_decl w.now.all.now
+        (tables_of_decls w.now.decls.now) d.now) }
 {
     match d {
         TableDecl::Input(t) => declares_table(w, found, t),
@@ -97,7 +100,8 @@ fn in_declared_table<'a>(
     requires known { funcs.now ≡ func_names p.now.funcs.items }
     requires named { before.now ≡ texts (tables_of_decls earlier.now) }
     ensures { found.new
-        ≡ lowest_in found.old (in_decl p.now.funcs.items (tables_of_decls earlier.now) d.now) }
+        ≡ lowest_in resolved_rules found.old (in_decl p.now.funcs.items
+        (tables_of_decls earlier.now) d.now) }
 {
     let spot = top(alloc, Part::OfSize, earlier, before, &p.funcs, funcs);
     in_decl(&spot, found, d);
@@ -122,7 +126,7 @@ fn in_decls<'a>(
     requires { funcs.now ≡ func_names p.now.funcs.items }
     ensures found { IfOk result (λ tables.
         found.new
-        ≡ lowest_in found.old (in_decls p.now.funcs.items [] p.now.tables.items)) }
+        ≡ lowest_in resolved_rules found.old (in_decls p.now.funcs.items [] p.now.tables.items)) }
     ensures names { IfOk result (λ tables. tables ≡ texts (tables_of p.now)) }
 {
     let decls = p.tables.as_slice();
@@ -167,11 +171,17 @@ fn is_table_by(w: &Spot, x: &Name) -> bool
 
 #[tactic(auto, using(crate::proofs::Searching::lowest_append))]
 fn declares_func(w: &Spot, found: &mut Option<Fault>, f: &Func)
-    ensures { found.new ≡ lowest_at found.old (site (spot_of w.now) (DeclaresFunc f.now)) }
+    ensures { found.new
+        ≡ lowest_at resolved_rules found.old (site (spot_of w.now) (DeclaresFunc f.now)) }
 {
     let taken = w.funcs.contains(&f.name.text) || is_table_by(w, &f.name);
-    note_if(found, NAMES, taken, f.name.place);
-    note_if(found, LIMITS, w.funcs.len() == MAX_FUNCTIONS, f.name.place);
+    note_if(found, Rule::Names, taken, f.name.place);
+    note_if(
+        found,
+        Rule::Limits,
+        w.funcs.len() == MAX_FUNCTIONS,
+        f.name.place,
+    );
     ninth_parameter(found, &f.params);
 }
 
@@ -188,7 +198,7 @@ fn in_declared_func<'a>(
     ensures { let p = d.now.program.now in
         IfOk result (λ u.
         found.new
-        ≡ lowest_in found.old (site (top Part.OfFunc (tables_of p) earlier.now)
+        ≡ lowest_in resolved_rules found.old (site (top Part.OfFunc (tables_of p) earlier.now)
         (DeclaresFunc f.now)
         ∷ in_func p f.now)) }
 {
@@ -216,7 +226,8 @@ fn in_declared_func<'a>(
 /// The functions in order.
 fn in_funcs(alloc: Global, found: &mut Option<Fault>, d: &Declared) -> Result<(), NoMemory>
     ensures { let p = d.now.program.now in
-        IfOk result (λ u. found.new ≡ lowest_in found.old (in_funcs p [] p.funcs.items)) }
+        IfOk result (λ u.
+        found.new ≡ lowest_in resolved_rules found.old (in_funcs p [] p.funcs.items)) }
 {
     let funcs = d.program.funcs.as_slice();
     let mut before = Scope::new(alloc);
@@ -242,7 +253,8 @@ fn names_of<'a>(alloc: Global, fs: &'a [Func]) -> Result<Scope<'a>, NoMemory>
 // The whole.
 
 fn in_main(alloc: Global, found: &mut Option<Fault>, d: &Declared) -> Result<(), NoMemory>
-    ensures { IfOk result (λ u. found.new ≡ lowest_in found.old (in_main d.now.program.now)) }
+    ensures { IfOk result (λ u.
+        found.new ≡ lowest_in resolved_rules found.old (in_main d.now.program.now)) }
 {
     let main = d.program.main.as_slice();
     declares_all(alloc, found, &[], main)?;
@@ -259,7 +271,7 @@ fn in_main(alloc: Global, found: &mut Option<Fault>, d: &Declared) -> Result<(),
 
 /// The first broken rule of a program, where one is broken.
 pub fn first_fault(alloc: Global, program: &Program) -> Result<Option<Fault>, NoMemory>
-    ensures { IfOk result (λ fault. fault ≡ lowest_in None (sites program.now)) }
+    ensures { IfOk result (λ fault. fault ≡ lowest_in resolved_rules None (sites program.now)) }
 {
     let mut found = None;
     let funcs = names_of(alloc, &program.funcs)?;

@@ -1,11 +1,13 @@
 use Rattle.std.proofs.Common.{◌≡◌, ◌∙◌, ap, arith, ℕ, List, Option, take, length, ◌++◌, ◌∷◌}
 use Rattle.loop_rules.specs.Sites.{Loop, declared_var, in_whole, in_list}
 use Rattle.std.specs.Borrow.{Bor}
-use Rattle.loop_check.specs.declared.fault.Fault.{Fault}
+use Rattle.loop_rules.specs.declared.fault.Fault.{Fault}
 use Rattle.loop_check.specs.declared.round.Round.{Round}
-use Rattle.loop_check.specs.Search.{lowest_in}
+use Rattle.loop_rules.specs.Search.{lowest_in}
+use Rattle.loop_check.specs.Search.{checked_rules}
 use Rattle.loop_check.specs.Walk.{spot, inside, texts_of, rounds_of}
-use Rattle.loop_check.proofs.Walking.{texts_more, texts_take, texts_length, two_parts, in_if, in_while, list_found, list_stands, block_left, loop_left, looped_found, par_found, ok_map}
+use Rattle.loop_rules.proofs.Walking.{two_parts, in_if, in_while, list_found, list_stands, block_left, ok_map}
+use Rattle.loop_check.proofs.Walking.{texts_more, texts_take, texts_length, loop_left, looped_found, par_found}
 use Rattle.loop_check.proofs.statement.+walk.Goals as goal
 
 pub in_block-returns : goal.in_block-returns
@@ -24,9 +26,9 @@ pub in_list-loop-s-preserved : goal.in_list-loop-s-preserved
 in_list-loop-s-preserved t c =
     let w = inside c.loop-s.w in
     let e = c.in_ok-in_stmt.ensures in (
-      list_found c.args.readers.now w c.loop-s.found c.in_stmt.new.found c.args.body.now c.loop-s.s-index c.s-item.result (inside c.in_stmt.new.w) c.loop-s-test.true c.s-item.is e.found e.stands
+      list_found (checked_rules c.args.readers.now) w c.loop-s.found c.in_stmt.new.found c.args.body.now c.loop-s.s-index c.s-item.result (inside c.in_stmt.new.w) c.loop-s-test.true c.s-item.is e.found e.stands
           ∙ c.loop-s.invariant.0,
-      list_stands c.args.readers.now w c.loop-s.found c.in_stmt.new.found c.args.body.now c.loop-s.s-index c.s-item.result (inside c.in_stmt.new.w) c.loop-s-test.true c.s-item.is e.stands
+      list_stands w c.args.body.now c.loop-s.s-index c.s-item.result (inside c.in_stmt.new.w) c.loop-s-test.true c.s-item.is e.stands
           ∙ c.loop-s.invariant.1,
     )
 
@@ -52,7 +54,7 @@ in_par-returns t c =
     (λ u e.
     let head = rw c.as_slice.ensures.value at (c.parallel.ensures l.place l.carry_place) in
     let carried = rw c.deref.ensures.value at c.in_carries.ensures in
-    let step = λ (xs : List (List ℕ)) (ls : List Loop). lowest_in c.args.readers.now c.in_carries.new.found (in_list (declared_var (spot xs ls) l.var) l.body.items) in
+    let step = λ (xs : List (List ℕ)) (ls : List Loop). lowest_in (checked_rules c.args.readers.now) c.in_carries.new.found (in_list (declared_var (spot xs ls) l.var) l.body.items) in
     let body : c.in_body.new.found ≡ step (texts_of c.in_ok-scope.scope.items) (rounds_of c.deref-3.result.now) = e in
     let deeper : c.deref-3.result.now ≡ record { outside = c.as_slice.result; par = c.args.l } ∷ w.rounds.now = c.deref-3.ensures.value ∙ c.in_ok-rounds.ensures in
     let round : List (Bor (List ℕ)) → Loop = λ outside. record { outside = texts_of outside; var = l.var.text.items; carries = l.carries.items; reduces = l.reduces.items } in
@@ -66,7 +68,7 @@ in_par-returns t c =
 
 pub in_stmt-returns-in_ok-in_block-in-If : goal.in_stmt-returns-in_ok-in_block-in-If
 in_stmt-returns-in_ok-in_block-in-If t c =
-    let rs = c.args.readers.now in
+    let rs = checked_rules c.args.readers.now in
     let w = inside c.args.w.now in
     let one = rw c.deref-in-If.ensures.value at c.in_ok-in_block-in-If.ensures in
     ok_map c.in_block-in-If.result
@@ -81,7 +83,7 @@ in_stmt-returns-in_ok-in_block-in-If t c =
 
 pub in_stmt-returns-in-While : goal.in_stmt-returns-in-While
 in_stmt-returns-in-While t c =
-    let rs = c.args.readers.now in
+    let rs = checked_rules c.args.readers.now in
     let w = inside c.args.w.now in
     ok_map c.in_block-in-While.result
     (λ u e.

@@ -1,7 +1,7 @@
 use Rattle.std.proofs.Common.{◌∙◌, ◌++◌, ◌∷◌, sym}
 use Rattle.loop_rules.specs.Sites.{site, Assigns, AssignsBoth, in_whole, in_app, in_list}
 use Rattle.loop_check.specs.Usage.{anywhere}
-use Rattle.loop_check.proofs.Walking.{in_if, in_while}
+use Rattle.loop_rules.proofs.Walking.{in_if, in_while}
 use Rattle.loop_check.proofs.Using.{any_append, two_uses, list_uses, looped_uses, par_uses}
 use Rattle.loop_check.proofs.usage.+walk.Goals as goal
 

@@ -1,4 +1,5 @@
 use Rattle.std.proofs.Common.{◌≡◌, ◌∙◌, ap, arith, ℕ, suc, take, vec_len, length, length-append, ◌++◌, ◌∷◌, []}
+use Rattle.loop_rules.specs.Search.{resolved_rules}
 use Rattle.loop_rules.specs.Sites.{Spot, site, Declares, in_loop, in_whole, in_list}
 use Rattle.loop_rules.specs.Walk.{spot_of}
 use Rattle.loop_rules.proofs.Walking.{two_parts, in_if, in_while, in_looped, list_found, list_stands, block_left, loop_left, popped, par_left, par_found, ok_map}
@@ -16,9 +17,9 @@ pub in_list-loop-s-preserved : goal.in_list-loop-s-preserved
 in_list-loop-s-preserved t c =
     let w = spot_of c.loop-s.w in
     let e = c.in_ok-in_stmt.ensures in (
-      list_found w c.loop-s.found c.in_stmt.new.found c.args.body.now c.loop-s.s-index c.s-item.result (spot_of c.in_stmt.new.w) c.loop-s-test.true c.s-item.is e.found e.stands
+      list_found resolved_rules w c.loop-s.found c.in_stmt.new.found c.args.body.now c.loop-s.s-index c.s-item.result (spot_of c.in_stmt.new.w) c.loop-s-test.true c.s-item.is e.found e.stands
           ∙ c.loop-s.invariant.0,
-      list_stands w c.loop-s.found c.in_stmt.new.found c.args.body.now c.loop-s.s-index c.s-item.result (spot_of c.in_stmt.new.w) c.loop-s-test.true c.s-item.is e.stands
+      list_stands w c.args.body.now c.loop-s.s-index c.s-item.result (spot_of c.in_stmt.new.w) c.loop-s-test.true c.s-item.is e.stands
           ∙ c.loop-s.invariant.1,
     )
 
@@ -61,8 +62,8 @@ in_stmt-returns-in_ok-in_block-in-If t c =
     let two = rw (one.stands, c.deref-in-If-2.ensures.value) at e in
     rw (c.in-If.is, in_if w c.in-If.e c.in-If.body c.in-If.other) (record {
       found =
-          two_parts c.args.found.now c.in_whole-in-If.new.found c.in_block-in-If.new.found (in_whole w c.in-If.e) (in_list w c.in-If.body.items ++ in_list w c.in-If.other.items) c.in_whole-in-If.ensures
-          (two_parts c.in_whole-in-If.new.found c.in_block.new.found c.in_block-in-If.new.found (in_list w c.in-If.body.items) (in_list w c.in-If.other.items) one.found two.found);
+          two_parts resolved_rules c.args.found.now c.in_whole-in-If.new.found c.in_block-in-If.new.found (in_whole w c.in-If.e) (in_list w c.in-If.body.items ++ in_list w c.in-If.other.items) c.in_whole-in-If.ensures
+          (two_parts resolved_rules c.in_whole-in-If.new.found c.in_block.new.found c.in_block-in-If.new.found (in_list w c.in-If.body.items) (in_list w c.in-If.other.items) one.found two.found);
       stands = two.stands;
     })) c.in_block-in-If.ensures
 
@@ -74,7 +75,7 @@ in_stmt-returns-in-While t c =
     let two = rw c.deref-in-While.ensures.value at e in
     rw (c.in-While.is, in_while w c.in-While.e c.in-While.body) (record {
       found =
-          two_parts c.args.found.now c.in_whole-in-While.new.found c.in_block-in-While.new.found (in_whole w c.in-While.e) (in_list w c.in-While.body.items)
+          two_parts resolved_rules c.args.found.now c.in_whole-in-While.new.found c.in_block-in-While.new.found (in_whole w c.in-While.e) (in_list w c.in-While.body.items)
           c.in_whole-in-While.ensures two.found;
       stands = two.stands;
     })) c.in_block-in-While.ensures
@@ -87,7 +88,7 @@ in_stmt-returns-in-Loop t c =
     let two = rw c.deref-in-Loop.ensures.value at e in
     rw (c.in-Loop.is, in_looped w c.in-Loop.x c.in-Loop.a c.in-Loop.b c.in-Loop.body) (record {
       found =
-          two_parts c.args.found.now c.in_bounds.new.found c.in_loop.new.found
+          two_parts resolved_rules c.args.found.now c.in_bounds.new.found c.in_loop.new.found
           (site w (Declares c.in-Loop.x) ∷ in_whole w c.in-Loop.a ++ in_whole w c.in-Loop.b) (in_list (in_loop w c.in-Loop.x) c.in-Loop.body.items)
           c.in_bounds.ensures two.found;
       stands = two.stands;
