@@ -13,7 +13,7 @@ ghost use Rattle.tp_value.specs.declared.Place.{Place};
 ghost use Rattle.loop_rules.specs.Search.{lowest};
 ghost use Rattle.loop_check.specs.Walk.{loop_of, rounds_of, inside, targets_of, carried_tables};
 
-use crate::names::{operator_of, table_name};
+use crate::names::operator_of;
 use crate::round::{Round, Test, any_round};
 use crate::shape::is_within;
 use crate::spot::Spot;
@@ -112,7 +112,7 @@ fn is_carried(before: &[Carry], t: &[u8]) -> bool
     ensures { result ≡ is_in (carried_tables before.now) t.now }
 {
     for c in before {
-        if table_name(c).text.as_slice() == t {
+        if c.table().text.as_slice() == t {
             return true;
         }
     }
@@ -125,7 +125,7 @@ fn bad_carry(rounds: &[Round], round: &Round, before: &[Carry], c: &Carry) -> bo
         ≡ (bad_item (rounds_of rounds.now) (loop_of round.now) c.now || is_in
         (carried_tables before.now) (table_name c.now).text.items) }
 {
-    bad_item(rounds, round, c) || is_carried(before, &table_name(c).text)
+    bad_item(rounds, round, c) || is_carried(before, &c.table().text)
 }
 
 /// The items of the carry list.
@@ -140,7 +140,7 @@ fn items(w: &Spot, found: &mut Option<Fault>, round: &Round, cs: &[Carry])
             found,
             Rule::CarryLists,
             bad_carry(w.rounds, round, &cs[..i], c),
-            table_name(c).place,
+            c.table().place,
         );
     }
 }

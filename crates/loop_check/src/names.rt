@@ -2,11 +2,11 @@
 
 ghost use Rattle.std.specs.Prelude.{◌≡◌, MatchOption, Option, None, Some, map};
 ghost use Rattle.std.specs.Borrow.{Bor};
-ghost use Rattle.loop_rules.specs.Names.{is_in, operator_of, item_of, table_name};
+ghost use Rattle.loop_rules.specs.Names.{is_in, operator_of, item_of};
 ghost use Rattle.loop_rules.specs.Reductions.{is_op};
 ghost use Rattle.loop_check.specs.Walk.{texts_of};
 
-use loop_syntax::{Carry, Name, Reduce};
+use loop_syntax::{Carry, Reduce};
 use tp_value::Op;
 
 /// Whether a name is among these.
@@ -43,23 +43,13 @@ pub fn is_op(o: Op, p: Option<Op>) -> bool
     }
 }
 
-/// The table of a carry item.
-pub fn table_name(c: &Carry) -> &Name
-    ensures { result.now ≡ table_name c.now }
-{
-    match c {
-        Carry::Rows(t, _) => t,
-        Carry::Cells(t, _, _) => t,
-    }
-}
-
 /// The item of a carry list for that table, the first where it names the table twice.
 pub fn item_of<'a>(carries: &'a [Carry], t: &[u8]) -> Option<&'a Carry>
     ensures { MatchOption result (item_of carries.now t.now ≡ None)
         (λ c. item_of carries.now t.now ≡ Some c.now) }
 {
     for c in carries {
-        if table_name(c).text.as_slice() == t {
+        if c.table().text.as_slice() == t {
             return Some(c);
         }
     }

@@ -1,7 +1,6 @@
 // Which functions read which tables, themselves or through calls.
 
 ghost use Rattle.std.specs.Prelude.{◌≡◌, ◌++◌, IfOk, map};
-ghost use Rattle.loop_rules.specs.Declarations.{table_of_decl};
 ghost use Rattle.loop_rules.specs.Sites.{tables_of};
 ghost use Rattle.loop_check.specs.Walk.{texts_of};
 ghost use Rattle.loop_check.specs.Readers.{add_users, IsReadersOf, pair, pairs_of, IsReaders};
@@ -9,7 +8,7 @@ ghost use Rattle.loop_check.specs.Readers.{add_users, IsReadersOf, pair, pairs_o
 use crate::names::is_in;
 use crate::reader::Reader;
 use crate::usage::{Usage, uses};
-use loop_syntax::{Name, Program, TableDecl};
+use loop_syntax::Program;
 use std::alloc::Global;
 use tp_value::NoMemory;
 
@@ -60,23 +59,13 @@ fn push_readers<'a>(
     Ok(())
 }
 
-/// The name of a declared table.
-fn table_of_decl(d: &TableDecl) -> &Name
-    ensures { result.now ≡ table_of_decl d.now }
-{
-    match d {
-        TableDecl::Input(t) => t,
-        TableDecl::Made(t, _, _) => t,
-    }
-}
-
 /// The functions that read declared tables, each with each table that it reads.
 pub fn all_readers<'a>(alloc: Global, program: &'a Program) -> Result<Vec<Reader<'a>>, NoMemory>
     ensures { IfOk result (λ readers. IsReaders program.now (tables_of program.now) readers.items) }
 {
     let mut readers = Vec::new(alloc);
     for d in &program.tables {
-        let t = table_of_decl(d);
+        let t = d.name();
         let names = readers_of(alloc, program, &t.text)?;
         push_readers(&mut readers, &names, &t.text)?;
     }

@@ -1,11 +1,11 @@
 // What functions do themselves.
 
-ghost use Rattle.std.specs.Prelude.{◌≡◌, ◌++◌, ◌||◌, MatchOption, Option, None, Some};
+ghost use Rattle.std.specs.Prelude.{◌≡◌, ◌++◌, ◌||◌, None, Some};
 ghost use Rattle.loop_rules.specs.Names.{func_of};
 ghost use Rattle.loop_rules.specs.Sites.{in_expr, in_whole, in_args, in_app, in_stmt, in_list};
 ghost use Rattle.loop_check.specs.Usage.{reads_table, calls_func, any_use, anywhere, uses};
 
-use loop_syntax::{App, Expr, Func, ParLoop, Program, Stmt};
+use loop_syntax::{App, Expr, ParLoop, Program, Stmt};
 
 /// What is looked for in a function.
 #[derive(Clone, Copy)]
@@ -155,24 +155,11 @@ fn in_par(u: &Usage, found: &mut bool, l: &ParLoop)
     in_list(u, found, &l.body);
 }
 
-/// The function of that name, the first where two have it.
-fn func_of<'a>(funcs: &'a [Func], x: &[u8]) -> Option<&'a Func>
-    ensures { MatchOption result (func_of funcs.now x.now ≡ None)
-        (λ f. func_of funcs.now x.now ≡ Some f.now) }
-{
-    for f in funcs {
-        if f.name.text.as_slice() == x {
-            return Some(f);
-        }
-    }
-    None
-}
-
 /// Whether the function of that name does that.
 pub fn uses(program: &Program, name: &[u8], u: &Usage) -> bool
     ensures { result ≡ uses program.now u.now (func_of program.now.funcs.items name.now) }
 {
-    match func_of(&program.funcs, name) {
+    match program.func(name) {
         Some(g) => {
             let mut found = false;
             in_list(u, &mut found, &g.body);

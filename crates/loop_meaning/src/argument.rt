@@ -1,14 +1,13 @@
 // Functions, their arguments, and how a call ends.
 
-ghost use Rattle.std.specs.Prelude.{◌≡◌, IfOk, MatchOption, Some, None, pos};
-ghost use Rattle.loop_rules.specs.Names.{func_of};
+ghost use Rattle.std.specs.Prelude.{◌≡◌, IfOk, pos};
 ghost use Rattle.loop_meaning.specs.Calls.{bound};
 ghost use Rattle.loop_meaning.specs.Ends.{state_of, NumbersOf};
 
 use crate::expression::value_of;
 use crate::memory::Memory;
 use crate::value::{Answer, Variable};
-use loop_syntax::{Expr, Func, Name};
+use loop_syntax::{Expr, Name};
 use std::alloc::Global;
 use tp_value::{Items, NoMemory, Place, Stop, TrapKind};
 
@@ -65,17 +64,4 @@ pub fn bound(alloc: Global, params: &[Name], ns: &[i64]) -> Result<Vec<Variable>
         vars.push(Variable { name, value: ns[i] })?;
     }
     Ok(vars)
-}
-
-/// The function of that name.
-pub fn func_of<'a>(funcs: &'a [Func], x: &[u8]) -> Option<&'a Func>
-    ensures { MatchOption result (func_of funcs.now x.now ≡ None)
-        (λ f. func_of funcs.now x.now ≡ Some f.now) }
-{
-    for f in funcs {
-        if f.name.text.as_slice() == x {
-            return Some(f);
-        }
-    }
-    None
 }

@@ -9,7 +9,7 @@ ghost use Rattle.loop_meaning.specs.Statements.{unless_wide, too_wide};
 ghost use Rattle.loop_meaning.specs.Calls.{call_at, enter};
 ghost use Rattle.loop_meaning.specs.Ends.{setting_of, state_of, Ends, CallEnds};
 
-use crate::argument::{Numbers, Returned, bound, func_of, numbers_of, stopped};
+use crate::argument::{Numbers, Returned, bound, numbers_of, stopped};
 use crate::expression::value_of;
 use crate::memory::{Memory, assign, count_tick, declare, leave};
 use crate::setting::Setting;
@@ -300,7 +300,7 @@ fn call(k: &Setting, m: &mut Memory, f: &Name, ns: &[i64]) -> Result<Returned, N
         fuel: k.fuel,
         depth: k.depth + 1,
     };
-    match func_of(&k.program.funcs, f.text.as_slice()) {
+    match k.program.func(&f.text) {
         Some(g) => enter(&inner, m, g, ns),
         None => Ok(stopped(Stop::Done)),
     }

@@ -5,11 +5,7 @@ use Rattle.loop_syntax.specs.declared.Stmt.{Stmt, Row_of-Stmt, end_of-Stmt, more
 use Rattle.loop_syntax.specs.declared.Stmt.TheVariants.{Let, Set, Put, If', While', Loop', Par'}
 use Rattle.loop_syntax.specs.declared.Stmt.TheVariants.{Fold, Call, Both, Print, Emit}
 use Rattle.loop_syntax.specs.declared.TableDecl.{TableDecl}
-use Rattle.loop_syntax.specs.declared.TableDecl.TheVariants.{Input, Made}
-
-abbrev pub table_of_decl : TableDecl → Name
-table_of_decl (Input t) = t
-table_of_decl (Made t a b) = t
+pub use Rattle.loop_syntax.specs.Naming.{table_of_decl}
 
 abbrev pub tables_of_decls : List TableDecl → List Name
 tables_of_decls [] = []

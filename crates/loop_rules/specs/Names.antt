@@ -4,9 +4,9 @@ use Rattle.std.specs.Prelude.{bytes_eq, map}
 use Rattle.tp_value.specs.declared.Op.{Op}
 use Rattle.loop_syntax.specs.declared.Name.{Name}
 use Rattle.loop_syntax.specs.declared.Carry.{Carry}
-use Rattle.loop_syntax.specs.declared.Carry.TheVariants as carry
 use Rattle.loop_syntax.specs.declared.Reduce.{Reduce}
 use Rattle.loop_syntax.specs.declared.Func.{Func}
+pub use Rattle.loop_syntax.specs.Naming.{func_of, table_name}
 
 -- whether a name is among these
 abbrev pub is_in : List (List ℕ) → List ℕ → Bool
@@ -26,20 +26,10 @@ abbrev pub first_named : List Name → List ℕ → Option Name
 first_named [] x = None
 first_named (y ∷ ys) x = cond (bytes_eq y.text.items x) (Some y) (first_named ys x)
 
--- the function of that name, the first where two have it
-abbrev pub func_of : List Func → List ℕ → Option Func
-func_of [] x = None
-func_of (f ∷ fs) x = cond (bytes_eq f.name.text.items x) (Some f) (func_of fs x)
-
 -- the operator that a reduce list gives to x, the first where it names x twice
 abbrev pub operator_of : List Reduce → List ℕ → Option Op
 operator_of [] x = None
 operator_of (r ∷ rs) x = cond (bytes_eq r.target.text.items x) (Some r.op) (operator_of rs x)
-
--- the table of a carry item
-abbrev pub table_name : Carry → Name
-table_name (carry.Rows t i) = t
-table_name (carry.Cells t k j) = t
 
 -- the item of a carry list for that table, the first where it names the table twice
 abbrev pub item_of : List Carry → List ℕ → Option Carry

@@ -148,21 +148,11 @@ fn ninth_reduction(found: &mut Option<Fault>, rs: &[Reduce])
     }
 }
 
-/// The table of a carry item.
-fn table_name(c: &Carry) -> &Name
-    ensures { result.now ≡ table_name c.now }
-{
-    match c {
-        Carry::Rows(t, _) => t,
-        Carry::Cells(t, _, _) => t,
-    }
-}
-
 fn fifth_carry(found: &mut Option<Fault>, cs: &[Carry])
     ensures { found.new ≡ lowest found.old Rule.Limits (past MAX_CARRIES (map table_name cs.now)) }
 {
     if cs.len() > MAX_CARRIES {
-        note(found, Rule::Limits, table_name(&cs[MAX_CARRIES]).place);
+        note(found, Rule::Limits, cs[MAX_CARRIES].table().place);
     }
 }
 

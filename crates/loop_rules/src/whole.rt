@@ -2,7 +2,7 @@
 
 ghost use Rattle.std.specs.Prelude.{◌≡◌, ◌∷◌, [], IfOk, MatchOption, Some, None};
 ghost use Rattle.loop_rules.specs.Names.{texts, func_names, func_of, first_named};
-ghost use Rattle.loop_rules.specs.Declarations.{table_of_decl, tables_of_decls};
+ghost use Rattle.loop_rules.specs.Declarations.{tables_of_decls};
 ghost use Rattle.loop_rules.specs.Scopes.{is_func_before, is_table_by};
 ghost use Rattle.loop_rules.specs.Sites.{site, sites, top, tables_of, in_decl, in_decls, in_func};
 ghost use Rattle.loop_rules.specs.Sites.{in_funcs, in_main, DeclaresTable, DeclaresFunc};
@@ -107,15 +107,6 @@ fn in_declared_table<'a>(
     in_decl(&spot, found, d);
 }
 
-fn table_of_decl(d: &TableDecl) -> &Name
-    ensures { result.now ≡ table_of_decl d.now }
-{
-    match d {
-        TableDecl::Input(t) => t,
-        TableDecl::Made(t, _, _) => t,
-    }
-}
-
 /// The tables in order, each where those before it are visible. Answers their names.
 fn in_decls<'a>(
     alloc: Global,
@@ -134,7 +125,7 @@ fn in_decls<'a>(
     for i in 0..decls.len() {
         let d = &decls[i];
         in_declared_table(alloc, found, p, funcs, &decls[..i], &tables, d);
-        tables.declare(&table_of_decl(d).text)?;
+        tables.declare(&d.name().text)?;
     }
     Ok(tables)
 }
@@ -149,7 +140,7 @@ fn first_table<'a>(w: &Spot<'a, '_>, x: &[u8]) -> Option<&'a Name>
     match w.tables.position(x) {
         Some(k) => {
             if k < w.decls.len() {
-                Some(table_of_decl(&w.decls[k]))
+                Some(w.decls[k].name())
             } else {
                 None
             }

@@ -1,5 +1,8 @@
 // Statements.
 
+ghost use Rattle.std.specs.Prelude.{◌≡◌};
+ghost use Rattle.loop_syntax.specs.Naming.{table_name};
+
 use crate::expression::{Expr, Name};
 use tp_value::{Op, Place};
 
@@ -19,6 +22,18 @@ pub enum Carry {
     Rows(Name, Name),
     /// `t[k][j]`: the table, the fixed row, and the variable of the column.
     Cells(Name, RowAt, Name),
+}
+
+impl Carry {
+    /// The table that it is of.
+    pub fn table(&self) -> &Name
+        ensures { result.now ≡ table_name self.now }
+    {
+        match self {
+            Carry::Rows(t, _) => t,
+            Carry::Cells(t, _, _) => t,
+        }
+    }
 }
 
 /// A reduced variable of a `par`, with its operator.
