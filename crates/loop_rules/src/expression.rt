@@ -55,7 +55,7 @@ fn in_expr(w: &Spot, found: &mut Option<Fault>, e: &Expr)
 }
 
 /// One more than the greatest height: as good as any greater one.
-const TOO_HIGH: u32 = 25;
+const TOO_HIGH: u32 = MAX_EXPRESSION_HEIGHT + 1;
 
 /// The height of an expression, or `TOO_HIGH` where it is greater.
 fn height(e: &Expr) -> u32
