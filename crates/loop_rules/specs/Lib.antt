@@ -26,7 +26,6 @@ pub mod Broken
 pub mod Unbroken
 -- Resolving: what `resolve` answers
 pub mod Resolving
-
 -- ---- inside: how the walk finds the first broken rule
 
 -- Search: the first broken rule of those that are asked for; loop_check asks for others

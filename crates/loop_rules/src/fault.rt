@@ -17,19 +17,21 @@ pub struct Fault {
 }
 
 /// Whether one place comes before another.
-pub fn is_before(p: Place, q: Place) -> bool
-    ensures { result ≡ is_before p q }
+pub fn is_before(place: Place, other: Place) -> bool
+    ensures { result ≡ is_before place other }
 {
-    p.line < q.line || (p.line == q.line && p.col < q.col)
+    place.line < other.line || (place.line == other.line && place.col < other.col)
 }
 
 /// Whether a fault comes first: by place, and at one place by the rule's number.
-fn is_first(f: Fault, g: Fault) -> bool
-    ensures { result ≡ is_first f g }
+fn is_first(fault: Fault, other: Fault) -> bool
+    ensures { result ≡ is_first fault other }
 {
-    let is_smaller = f.rule.number() < g.rule.number();
-    is_before(f.place, g.place)
-        || (f.place.line == g.place.line && f.place.col == g.place.col && is_smaller)
+    let is_smaller = fault.rule.number() < other.rule.number();
+    is_before(fault.place, other.place)
+        || (fault.place.line == other.place.line
+            && fault.place.col == other.place.col
+            && is_smaller)
 }
 
 /// Keeps the first of what was found and one more fault.

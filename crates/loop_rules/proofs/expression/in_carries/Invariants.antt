@@ -5,4 +5,4 @@ use Rattle.loop_rules.specs.Walk.{spot_of}
 use Rattle.loop_rules.proofs.expression.in_carries.Given as goal
 
 abbrev pub invariant-loop-c : goal.invariant-loop-c
-invariant-loop-c l = lowest_in resolved_rules l.found (in_carries (spot_of l.w) (drop l.c-index l.cs)) ≡ lowest_in resolved_rules l.initial.found (in_carries (spot_of l.w) l.cs)
+invariant-loop-c l = lowest_in resolved_rules l.found (in_carries (spot_of l.spot) (drop l.c-index l.carries)) ≡ lowest_in resolved_rules l.initial.found (in_carries (spot_of l.spot) l.carries)

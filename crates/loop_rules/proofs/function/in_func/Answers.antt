@@ -8,8 +8,8 @@ use Rattle.loop_rules.proofs.function.in_func.Goals as goal
 
 pub returns : goal.returns
 returns c =
-    let w = spot_of c.args.w.now in
-    let f = c.args.f.now in
+    let w = spot_of c.args.spot.now in
+    let f = c.args.func.now in
     let s = spot_of_params w f.params.items in
     let e = spot_of_list s f.body.items in
     let one = rw c.deref.ensures.value at c.in_ok-in_params.ensures in

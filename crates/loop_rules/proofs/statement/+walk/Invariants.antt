@@ -6,8 +6,8 @@ use Rattle.loop_rules.proofs.statement.+walk.Given as goal
 
 abbrev pub invariant-in_list-loop-s : goal.invariant-in_list-loop-s
 invariant-in_list-loop-s l =
-    (lowest_in resolved_rules l.found (in_list (spot_of l.w) (drop l.s-index l.body)) ≡ lowest_in resolved_rules l.initial.found (in_list (spot_of l.initial.w) l.body))
-    × (spot_of_list (spot_of l.w) (drop l.s-index l.body) ≡ spot_of_list (spot_of l.initial.w) l.body)
+    (lowest_in resolved_rules l.found (in_list (spot_of l.spot) (drop l.s-index l.body)) ≡ lowest_in resolved_rules l.initial.found (in_list (spot_of l.initial.spot) l.body))
+    × (spot_of_list (spot_of l.spot) (drop l.s-index l.body) ≡ spot_of_list (spot_of l.initial.spot) l.body)
 
 abbrev pub decreases-in_stmt : goal.decreases-in_stmt
 decreases-in_stmt l = 8 * goal.size-in_stmt l

@@ -5,4 +5,4 @@ use Rattle.loop_rules.specs.Search.{lowest}
 use Rattle.loop_rules.proofs.statement.loop_targets.Given as goal
 
 abbrev pub invariant-loop-r : goal.invariant-loop-r
-invariant-loop-r l = lowest l.found LoopVariables (loop_targets l.w.loops (drop l.r-index l.rs)) ≡ lowest l.initial.found LoopVariables (loop_targets l.w.loops l.rs)
+invariant-loop-r l = lowest l.found LoopVariables (loop_targets l.spot.loops (drop l.r-index l.reduces)) ≡ lowest l.initial.found LoopVariables (loop_targets l.spot.loops l.reduces)

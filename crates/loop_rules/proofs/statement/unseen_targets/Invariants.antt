@@ -5,4 +5,4 @@ use Rattle.loop_rules.specs.Search.{lowest}
 use Rattle.loop_rules.proofs.statement.unseen_targets.Given as goal
 
 abbrev pub invariant-loop-r : goal.invariant-loop-r
-invariant-loop-r l = lowest l.found Names (unseen_targets l.w.scope (drop l.r-index l.rs)) ≡ lowest l.initial.found Names (unseen_targets l.w.scope l.rs)
+invariant-loop-r l = lowest l.found Names (unseen_targets l.spot.scope (drop l.r-index l.reduces)) ≡ lowest l.initial.found Names (unseen_targets l.spot.scope l.reduces)

@@ -8,7 +8,7 @@ use Rattle.loop_rules.proofs.whole.in_decl.Goals as goal
 
 pub returns-in-Made : goal.returns-in-Made
 returns-in-Made c =
-    let w = spot_of c.args.w.now in
+    let w = spot_of c.args.spot.now in
     let t = c.in-Made.t in
     let a = c.in-Made.a in
     let b = c.in-Made.b in

@@ -11,8 +11,8 @@ use Rattle.loop_rules.proofs.whole.in_declared_func.Goals as goal
 
 pub returns : goal.returns
 returns c =
-    let p = c.args.d.now.program.now in
-    let f = c.args.f.now in
+    let p = c.args.whole.now.program.now in
+    let f = c.args.func.now in
     let outer = top OfFunc (tables_of p) c.args.earlier.now in
     let inner = top OfFunc (tables_of p) p.funcs.items in
     let inside = func_spot p f in

@@ -7,7 +7,7 @@ use Rattle.loop_rules.proofs.whole.in_decls.Goals as goal
 
 pub loop-i-preserved : goal.loop-i-preserved
 loop-i-preserved c =
-    let p = c.args.p.now in
+    let p = c.args.program.now in
     let ds = p.tables.items in
     let i = c.loop-i.i in
     let d = c.index-decls-i.result in

@@ -7,7 +7,7 @@ use Rattle.loop_rules.proofs.whole.in_decls.Given as goal
 
 abbrev pub invariant-loop-i : goal.invariant-loop-i
 invariant-loop-i l =
-    let fs = l.p.funcs.items in
-    let ds = l.p.tables.items in
+    let fs = l.program.funcs.items in
+    let ds = l.program.tables.items in
     (l.tables ≡ texts (tables_of_decls (take l.i ds)))
     × (lowest_in resolved_rules l.found (in_decls fs (tables_of_decls (take l.i ds)) (drop l.i ds)) ≡ lowest_in resolved_rules l.initial.found (in_decls fs [] ds))
