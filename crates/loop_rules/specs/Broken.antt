@@ -17,19 +17,19 @@ use Rattle.loop_rules.specs.Reading.{CallsReader}
 
 -- what stands at that site breaks the rule at that place
 abbrev pub BreaksAt : Program → Rule → Site → Place → Type 0
-BreaksAt p Names s place = Contains (misnamed s.act s.spot) place
-BreaksAt p OuterVariables s place = Contains (outer_set s.act s.spot) place
-BreaksAt p Reductions s place = Contains (misreduced s.act s.spot) place
-BreaksAt p TableWrites s place = Contains (miswritten s.act s.spot) place
-BreaksAt p TableReads s place = Contains (misread s.act s.spot) place
-BreaksAt p CarryLists s place = Contains (miscarried s.act s.spot) place
-BreaksAt p Functions s place = Contains (unfit_for_functions s.act s.spot) place
-BreaksAt p ReadingCalls s place = CallsReader p s place
-BreaksAt p Output s place = Contains (shown_in_par s.act s.spot) place
-BreaksAt p LoopVariables s place = Contains (loop_variable_set s.act s.spot) place
-BreaksAt p Limits s place = Contains (over_limits s.act s.spot) place
+BreaksAt program Names site place = Contains (misnamed site.act site.spot) place
+BreaksAt program OuterVariables site place = Contains (outer_set site.act site.spot) place
+BreaksAt program Reductions site place = Contains (misreduced site.act site.spot) place
+BreaksAt program TableWrites site place = Contains (miswritten site.act site.spot) place
+BreaksAt program TableReads site place = Contains (misread site.act site.spot) place
+BreaksAt program CarryLists site place = Contains (miscarried site.act site.spot) place
+BreaksAt program Functions site place = Contains (unfit_for_functions site.act site.spot) place
+BreaksAt program ReadingCalls site place = CallsReader program site place
+BreaksAt program Output site place = Contains (shown_in_par site.act site.spot) place
+BreaksAt program LoopVariables site place = Contains (loop_variable_set site.act site.spot) place
+BreaksAt program Limits site place = Contains (over_limits site.act site.spot) place
 
-pub record Broken (p : Program) (r : Rule) (place : Place) : Type 0 where
+pub record Broken (program : Program) (rule : Rule) (place : Place) : Type 0 where
   pub where_at : Site
-  pub stands : Contains (sites p) where_at
-  pub breaks : BreaksAt p r where_at place
+  pub stands : Contains (sites program) where_at
+  pub breaks : BreaksAt program rule where_at place

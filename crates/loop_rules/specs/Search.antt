@@ -16,33 +16,35 @@ use Rattle.loop_rules.specs.Limits.{over_limits}
 -- the same place, one further
 abbrev pub next_at : Option ℕ → Option ℕ
 next_at None = None
-next_at (Some k) = Some (suc k)
+next_at (Some position) = Some (suc position)
 
 -- where a name stands first
 abbrev pub first_at : List (List ℕ) → List ℕ → Option ℕ
-first_at [] x = None
-first_at (y ∷ ys) x = cond (bytes_eq y x) (Some 0) (next_at (first_at ys x))
+first_at [] name = None
+first_at (first ∷ rest) name = cond (bytes_eq first name) (Some 0) (next_at (first_at rest name))
 
 -- ---- faults
 
 abbrev pub is_same_place : Place → Place → Bool
-is_same_place p q = nat_eq p.line q.line && nat_eq p.col q.col
+is_same_place place other = nat_eq place.line other.line && nat_eq place.col other.col
 
 -- whether a fault comes first: by place, and at one place by the rule's number
 abbrev pub is_first : Fault → Fault → Bool
-is_first f g =
-    is_before f.place g.place
-    || (is_same_place f.place g.place && nat_lt (number_of f.rule) (number_of g.rule))
+is_first fault other =
+    is_before fault.place other.place
+    || (is_same_place fault.place other.place
+        && nat_lt (number_of fault.rule) (number_of other.rule))
 
 -- the first of what was found and one more fault
 abbrev pub lower : Option Fault → Fault → Option Fault
-lower None f = Some f
-lower (Some g) f = cond (is_first f g) (Some f) (Some g)
+lower None fault = Some fault
+lower (Some before) fault = cond (is_first fault before) (Some fault) (Some before)
 
 -- the first of what was found and a rule's places
 abbrev pub lowest : Option Fault → Rule → List Place → Option Fault
 lowest found rule [] = found
-lowest found rule (p ∷ ps) = lowest (lower found (record { rule = rule; place = p })) rule ps
+lowest found rule (place ∷ places) =
+    lowest (lower found (record { rule = rule; place = place })) rule places
 
 -- ---- rules that are asked for
 
@@ -53,14 +55,14 @@ pub record Asked : Type 0 where
 
 -- the first of what was found and what a site breaks
 abbrev pub lowest_at : List Asked → Option Fault → Site → Option Fault
-lowest_at [] found s = found
-lowest_at (asked ∷ more) found s =
-    lowest_at more (lowest found asked.rule (asked.broken s.act s.spot)) s
+lowest_at [] found site = found
+lowest_at (asked ∷ more) found site =
+    lowest_at more (lowest found asked.rule (asked.broken site.act site.spot)) site
 
 -- and what sites break, one after the other
 abbrev pub lowest_in : List Asked → Option Fault → List Site → Option Fault
 lowest_in rules found [] = found
-lowest_in rules found (s ∷ ss) = lowest_in rules (lowest_at rules found s) ss
+lowest_in rules found (site ∷ sites) = lowest_in rules (lowest_at rules found site) sites
 
 -- the rules on names, limits, output and variables of loops
 abbrev pub resolved_rules : List Asked
