@@ -131,7 +131,7 @@ run_iterations-returns t c =
 pub call-enter-requires : goal.call-enter-requires
 call-enter-requires t c =
     let fs = c.args.k.now.program.now.funcs.items in
-    let e = rw (c.deref.ensures.value, c.as_slice.ensures.value) at c.in-Some.ensures in
+    let e = rw c.deref.ensures.value at c.in-Some.ensures in
     let lt : c.args.k.now.depth < 10000 = omega arith in
     let d : level fs c.args.k.now.depth + 1 ≡ t = c.decreases in
     let p = level_falls fs c.args.f.now.text.items c.in-Some.g.now c.args.k.now.depth e lt in
@@ -151,7 +151,7 @@ call-returns-then-k-ge-MAX_CALL_DEPTH t c =
 pub call-returns-in-Some : goal.call-returns-in-Some
 call-returns-in-Some t c =
     let z : MAX_CALL_DEPTH - c.args.k.now.depth ≡ suc (MAX_CALL_DEPTH - (c.args.k.now.depth + 1)) = omega arith in
-    let e = rw (c.deref.ensures.value, c.as_slice.ensures.value) at c.in-Some.ensures in
+    let e = rw c.deref.ensures.value at c.in-Some.ensures in
     ok_map c.enter.result
     (λ r f. call_enters c.args.k.now.program.now.funcs.items c.args.k.now.fuel (MAX_CALL_DEPTH - c.args.k.now.depth) c.args.f.now.text.items c.args.f.now.place c.args.ns.now [] (state_of c.args.m.now)
     (MAX_CALL_DEPTH - (c.args.k.now.depth + 1)) (Some c.in-Some.g.now) _ r.stop r.value _ z e (rw c.in-Done.is at c.count_tick.ensures) f)
@@ -160,7 +160,7 @@ call-returns-in-Some t c =
 pub call-returns-in-None : goal.call-returns-in-None
 call-returns-in-None t c =
     let z : MAX_CALL_DEPTH - c.args.k.now.depth ≡ suc (MAX_CALL_DEPTH - (c.args.k.now.depth + 1)) = omega arith in
-    let e = rw (c.deref.ensures.value, c.as_slice.ensures.value) at c.in-None.ensures in
+    let e = rw c.deref.ensures.value at c.in-None.ensures in
     rw (c.stopped-in-None.ensures.stop, c.stopped-in-None.ensures.value)
     (call_enters c.args.k.now.program.now.funcs.items c.args.k.now.fuel (MAX_CALL_DEPTH - c.args.k.now.depth) c.args.f.now.text.items c.args.f.now.place c.args.ns.now [] (state_of c.args.m.now)
     (MAX_CALL_DEPTH - (c.args.k.now.depth + 1)) None (state_of c.count_tick.new.m) Done (pos 0) (state_of c.count_tick.new.m) z e (rw c.in-Done.is at c.count_tick.ensures)

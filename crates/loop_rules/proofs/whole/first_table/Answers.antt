@@ -9,7 +9,7 @@ pub returns-then-k-spot : goal.returns-then-k-spot
 returns-then-k-spot c =
     let decls = c.args.spot.now.decls.now in
     let e : first_at (texts (tables_of_decls decls)) c.args.name.now ≡ Some c.in-Some.k = rw c.args.spot.now.named at (sym c.in-Some.ensures) in
-    table_at decls c.args.name.now c.in-Some.k c.index-spot-k.result e c.if-k-spot.true c.index-spot-k.is ∙ ap (λ d. Some (table_of_decl d)) c.index-spot-k.is ∙ ap Some (sym c.table_of_decl.ensures)
+    table_at decls c.args.name.now c.in-Some.k c.index-spot-k.result e c.if-k-spot.true c.index-spot-k.is ∙ ap (λ d. Some (table_of_decl d)) c.index-spot-k.is ∙ ap Some (sym c.name.ensures)
 
 pub returns-else-k-spot : goal.returns-else-k-spot
 returns-else-k-spot c =
