@@ -8,7 +8,6 @@ pub mod Parts
 pub mod Spared
 -- Checking: what `check` answers
 pub mod Checking
-
 -- ---- inside: how the walk finds the first broken rule
 
 -- Search: the rules of disjoint writes, as the search asks for them

@@ -13,12 +13,11 @@ ghost use Rattle.tp_value.specs.declared.Place.{Place};
 ghost use Rattle.loop_rules.specs.Search.{lowest};
 ghost use Rattle.loop_check.specs.Walk.{loop_of, rounds_of, inside, targets_of, carried_tables};
 
-use crate::names::operator_of;
 use crate::round::{Round, Test, any_round};
 use crate::shape::is_within;
 use crate::spot::Spot;
 use loop_rules::{Fault, Rule, note_if};
-use loop_syntax::{Carry, Reduce, RowAt};
+use loop_syntax::{Carry, Reduce, RowAt, operator_of};
 
 /// Whether a reduction doesn't agree with the loops round.
 fn disagrees(rounds: &[Round], q: &Reduce) -> bool

@@ -2,11 +2,11 @@
 
 ghost use Rattle.std.specs.Prelude.{◌≡◌, MatchOption, Option, None, Some, map};
 ghost use Rattle.std.specs.Borrow.{Bor};
-ghost use Rattle.loop_rules.specs.Names.{is_in, operator_of, item_of};
+ghost use Rattle.loop_rules.specs.Names.{is_in, item_of};
 ghost use Rattle.loop_rules.specs.Reductions.{is_op};
 ghost use Rattle.loop_check.specs.Walk.{texts_of};
 
-use loop_syntax::{Carry, Reduce};
+use loop_syntax::Carry;
 use tp_value::Op;
 
 /// Whether a name is among these.
@@ -19,18 +19,6 @@ pub fn is_in(names: &[&[u8]], x: &[u8]) -> bool
         }
     }
     false
-}
-
-/// The operator that a reduce list gives to x, the first where it names x twice.
-pub fn operator_of(reduces: &[Reduce], x: &[u8]) -> Option<Op>
-    ensures { result ≡ operator_of reduces.now x.now }
-{
-    for r in reduces {
-        if r.target.text.as_slice() == x {
-            return Some(r.op);
-        }
-    }
-    None
 }
 
 /// Whether there is an operator, and it is this one.

@@ -24,7 +24,6 @@ pub mod InRange
 pub mod Told
 -- Only: what statements may do beyond their variables
 pub mod Only
-
 -- ---- inside: the evaluator
 
 -- Ends: what the evaluator holds and answers

@@ -84,7 +84,7 @@ pub fn whole_frames_are_the_loop(program: &Program, fuel: u64)
     ensures par { (depth : ℕ) (rs : List Reduce) (l : ParLoop) (s : State) →
         run (setting program.now fuel depth rs) (Par l) s ≡
         given_two l.from l.to s (λ i j.
-            unless_wide (too_wide i j) l.place (iterations program.now fuel depth l i j) s) }
+        unless_wide (too_wide i j) l.place (iterations program.now fuel depth l i j) s) }
     ensures range { (depth : ℕ) (l : ParLoop) (i j : ℤ) (accs : List (Op × ℤ)) (s : State) →
         map (λ (a : Op × ℤ). a.1) accs ≡ accs_of l.reduces.items s.vars →
         (run_frame program.now fuel depth (OfPar l) (Range i j accs) s).ran ≡

@@ -21,7 +21,7 @@ use tp_value::{
 };
 
 /// One more than the most cells that tables may have together: as good as any greater number.
-const TOO_MANY_CELLS: u64 = 4_000_001;
+const TOO_MANY_CELLS: u64 = MAX_TABLE_CELLS as u64 + 1;
 
 /// The cells of a table, or `TOO_MANY_CELLS` where there are more.
 fn cell_count(t: &Table) -> u64

@@ -11,12 +11,12 @@ ghost use Rattle.loop_meaning.specs.Ends.{state_of, Ends};
 use crate::expression::{index_below, lookup, table_at, value_of};
 use crate::memory::{Memory, assign, declare};
 use crate::value::Answer;
-use loop_syntax::{Expr, Name, Reduce};
+use loop_syntax::{Expr, Name, Reduce, operator_of};
 use reduce_ops::combine;
 use std::alloc::Global;
 use std::mem;
 use table_text::push_row_text;
-use tp_value::{Items, NoMemory, Op, Stop, Table, TrapKind};
+use tp_value::{Items, NoMemory, Stop, Table, TrapKind};
 
 /// `let x = e;`
 pub fn run_let(alloc: Global, m: &mut Memory, x: &Name, e: &Expr) -> Result<Stop, NoMemory>
@@ -46,18 +46,6 @@ pub fn run_set(m: &mut Memory, x: &Name, e: &Expr) -> Stop
         }
         Answer::Traps(kind, place) => Stop::Trap(kind, place),
     }
-}
-
-/// The operator that a reduce list gives to x.
-fn operator_of(reduces: &[Reduce], x: &[u8]) -> Option<Op>
-    ensures { result ≡ operator_of reduces.now x.now }
-{
-    for r in reduces {
-        if r.target.text.as_slice() == x {
-            return Some(r.op);
-        }
-    }
-    None
 }
 
 /// `fold x with e;`

@@ -1,12 +1,10 @@
 -- Which declaration a name stands for, and what a loop does with it.
 use Rattle.std.specs.Prelude.{ℕ, Bool, false, cond, ◌||◌, List, [], ◌∷◌, Option, Some, None}
 use Rattle.std.specs.Prelude.{bytes_eq, map}
-use Rattle.tp_value.specs.declared.Op.{Op}
 use Rattle.loop_syntax.specs.declared.Name.{Name}
 use Rattle.loop_syntax.specs.declared.Carry.{Carry}
-use Rattle.loop_syntax.specs.declared.Reduce.{Reduce}
 use Rattle.loop_syntax.specs.declared.Func.{Func}
-pub use Rattle.loop_syntax.specs.Naming.{func_of, table_name}
+pub use Rattle.loop_syntax.specs.Naming.{func_of, operator_of, table_name}
 
 -- whether a name is among these
 abbrev pub is_in : List (List ℕ) → List ℕ → Bool
@@ -26,12 +24,6 @@ abbrev pub first_named : List Name → List ℕ → Option Name
 first_named [] name = None
 first_named (first ∷ rest) name =
     cond (bytes_eq first.text.items name) (Some first) (first_named rest name)
-
--- the operator that a reduce list gives to a name, the first where it has the name twice
-abbrev pub operator_of : List Reduce → List ℕ → Option Op
-operator_of [] name = None
-operator_of (reduce ∷ reduces) name =
-    cond (bytes_eq reduce.target.text.items name) (Some reduce.op) (operator_of reduces name)
 
 -- the item of a carry list for that table, the first where it names the table twice
 abbrev pub item_of : List Carry → List ℕ → Option Carry

@@ -33,7 +33,7 @@ abbrev pub is_first : Fault → Fault → Bool
 is_first fault other =
     is_before fault.place other.place
     || (is_same_place fault.place other.place
-        && nat_lt (number_of fault.rule) (number_of other.rule))
+    && nat_lt (number_of fault.rule) (number_of other.rule))
 
 -- the first of what was found and one more fault
 abbrev pub lower : Option Fault → Fault → Option Fault

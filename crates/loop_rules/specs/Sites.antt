@@ -161,13 +161,13 @@ abbrev mutual
       ∷ in_whole spot from
       ++ (in_whole spot to
       ++ (in_carries spot carries.items
-          ++ in_all (in_par spot variable carries.items reduces.items) body))
+      ++ in_all (in_par spot variable carries.items reduces.items) body))
   in_stmt spot (Fold variable value) = site spot (Folds variable) ∷ in_whole spot value
   in_stmt spot (Call variable call) = site spot (Assigns variable) ∷ in_app spot call
   in_stmt spot (Both first first_call second second_call) =
       site spot (Assigns first) ∷ in_app spot first_call
       ++ (site spot (Assigns second) ∷ site spot (AssignsBoth first second)
-          ∷ in_app spot second_call)
+      ∷ in_app spot second_call)
   in_stmt spot (Print place value) = site spot (Shows place) ∷ in_whole spot value
   in_stmt spot (Emit place table) = site spot (Shows place) ∷ site spot (NamesTable table) ∷ []
 

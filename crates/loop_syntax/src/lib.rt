@@ -9,4 +9,4 @@ mod statement;
 
 pub use expression::{BinOp, Expr, Name};
 pub use program::{Func, Program, TableDecl};
-pub use statement::{App, Carry, ParLoop, Reduce, RowAt, Stmt};
+pub use statement::{App, Carry, ParLoop, Reduce, RowAt, Stmt, operator_of};
