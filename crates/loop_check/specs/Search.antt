@@ -13,14 +13,16 @@ use Rattle.loop_check.specs.declared.reader.Reader.{Reader}
 
 -- whether a function is among these with a table that a `par` round carries
 abbrev pub reads_carried : List Reader → List ℕ → List Loop → Bool
-reads_carried [] f rounds = false
-reads_carried (r ∷ rs) f rounds =
-    (bytes_eq r.func.now f && any_loop (carries r.table.now) rounds) || reads_carried rs f rounds
+reads_carried [] callee rounds = false
+reads_carried (reader ∷ readers) callee rounds =
+    (bytes_eq reader.func.now callee && any_loop (carries reader.table.now) rounds)
+    || reads_carried readers callee rounds
 
 -- a call to one of these functions inside a `par` that carries its table
 abbrev pub calls_reader : List Reader → Act → Spot → List Place
-calls_reader rs (Calls f n) w = at f (reads_carried rs f.text.items w.rounds)
-calls_reader rs _ w = []
+calls_reader readers (Calls callee arguments) spot =
+    at callee (reads_carried readers callee.text.items spot.rounds)
+calls_reader readers _ spot = []
 
 -- the rules that `check` asks for, where these functions read these tables
 abbrev pub checked_rules : List Reader → List Asked

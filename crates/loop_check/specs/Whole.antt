@@ -11,7 +11,9 @@ use Rattle.loop_check.specs.Walk.{spot}
 
 -- the first of what was found and what the bodies of functions break
 abbrev pub lowest_of_funcs : List Reader → Option Fault → List Func → Option Fault
-lowest_of_funcs rs b [] = b
-lowest_of_funcs rs b (f ∷ fs) =
-    lowest_of_funcs rs
-    (lowest_in (checked_rules rs) b (in_list (spot (texts f.params.items) []) f.body.items)) fs
+lowest_of_funcs readers found [] = found
+lowest_of_funcs readers found (func ∷ funcs) =
+    lowest_of_funcs readers
+    (lowest_in (checked_rules readers) found
+    (in_list (spot (texts func.params.items) []) func.body.items))
+    funcs

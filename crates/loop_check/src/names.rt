@@ -10,11 +10,11 @@ use loop_syntax::Carry;
 use tp_value::Op;
 
 /// Whether a name is among these.
-pub fn is_in(names: &[&[u8]], x: &[u8]) -> bool
-    ensures { result ≡ is_in (texts_of names.now) x.now }
+pub fn is_in(names: &[&[u8]], name: &[u8]) -> bool
+    ensures { result ≡ is_in (texts_of names.now) name.now }
 {
     for y in names {
-        if *y == x {
+        if *y == name {
             return true;
         }
     }
@@ -22,22 +22,22 @@ pub fn is_in(names: &[&[u8]], x: &[u8]) -> bool
 }
 
 /// Whether there is an operator, and it is this one.
-pub fn is_op(o: Op, p: Option<Op>) -> bool
-    ensures { result ≡ is_op o p }
+pub fn is_op(op: Op, other: Option<Op>) -> bool
+    ensures { result ≡ is_op op other }
 {
-    match p {
+    match other {
         None => false,
-        Some(q) => o == q,
+        Some(q) => op == q,
     }
 }
 
 /// The item of a carry list for that table, the first where it names the table twice.
-pub fn item_of<'a>(carries: &'a [Carry], t: &[u8]) -> Option<&'a Carry>
-    ensures { MatchOption result (item_of carries.now t.now ≡ None)
-        (λ c. item_of carries.now t.now ≡ Some c.now) }
+pub fn item_of<'a>(carries: &'a [Carry], table: &[u8]) -> Option<&'a Carry>
+    ensures { MatchOption result (item_of carries.now table.now ≡ None)
+        (λ c. item_of carries.now table.now ≡ Some c.now) }
 {
     for c in carries {
-        if c.table().text.as_slice() == t {
+        if c.table().text.as_slice() == table {
             return Some(c);
         }
     }

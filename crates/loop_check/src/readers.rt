@@ -13,13 +13,17 @@ use std::alloc::Global;
 use tp_value::NoMemory;
 
 /// Adds the functions that do that, each once.
-fn add_users<'a>(names: &mut Vec<&'a [u8]>, program: &'a Program, u: &Usage) -> Result<(), NoMemory>
+fn add_users<'a>(
+    names: &mut Vec<&'a [u8]>,
+    program: &'a Program,
+    usage: &Usage,
+) -> Result<(), NoMemory>
     ensures { IfOk result
         (λ r. texts_of names.new.items
-        ≡ add_users program.now u.now program.now.funcs.items (texts_of names.old.items)) }
+        ≡ add_users program.now usage.now program.now.funcs.items (texts_of names.old.items)) }
 {
     for f in &program.funcs {
-        if !is_in(names, &f.name.text) && uses(program, &f.name.text, u) {
+        if !is_in(names, &f.name.text) && uses(program, &f.name.text, usage) {
             names.push(&f.name.text)?;
         }
     }
@@ -28,11 +32,15 @@ fn add_users<'a>(names: &mut Vec<&'a [u8]>, program: &'a Program, u: &Usage) -> 
 
 /// The functions that read a table. Those that read it themselves come first; behind each function
 /// come those that call it.
-fn readers_of<'a>(alloc: Global, program: &'a Program, t: &[u8]) -> Result<Vec<&'a [u8]>, NoMemory>
-    ensures { IfOk result (λ names. IsReadersOf program.now t.now (texts_of names.items)) }
+fn readers_of<'a>(
+    alloc: Global,
+    program: &'a Program,
+    table: &[u8],
+) -> Result<Vec<&'a [u8]>, NoMemory>
+    ensures { IfOk result (λ names. IsReadersOf program.now table.now (texts_of names.items)) }
 {
     let mut names = Vec::new(alloc);
-    add_users(&mut names, program, &Usage::Reads(t))?;
+    add_users(&mut names, program, &Usage::Reads(table))?;
     for i in 0..usize::MAX {
         if i >= names.len() {
             return Ok(names);

@@ -48,26 +48,26 @@ fn in_func(
     alloc: Global,
     readers: &[Reader],
     found: &mut Option<Fault>,
-    f: &Func,
+    func: &Func,
 ) -> Result<(), NoMemory>
     ensures { IfOk result
         (λ u. found.new
         ≡ lowest_in (checked_rules readers.now) found.old
-        (in_list (spot (texts f.now.params.items) []) f.now.body.items)) }
+        (in_list (spot (texts func.now.params.items) []) func.now.body.items)) }
 {
-    let scope = texts(alloc, &f.params)?;
-    in_body(alloc, scope, readers, found, &f.body)
+    let scope = texts(alloc, &func.params)?;
+    in_body(alloc, scope, readers, found, &func.body)
 }
 
 fn in_funcs(
     alloc: Global,
     readers: &[Reader],
     found: &mut Option<Fault>,
-    fs: &[Func],
+    funcs: &[Func],
 ) -> Result<(), NoMemory>
-    ensures { IfOk result (λ u. found.new ≡ lowest_of_funcs readers.now found.old fs.now) }
+    ensures { IfOk result (λ u. found.new ≡ lowest_of_funcs readers.now found.old funcs.now) }
 {
-    for f in fs {
+    for f in funcs {
         in_func(alloc, readers, found, f)?;
     }
     Ok(())

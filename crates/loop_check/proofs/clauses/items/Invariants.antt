@@ -8,5 +8,5 @@ use Rattle.loop_check.proofs.clauses.items.Given as goal
 
 abbrev pub invariant-loop-i : goal.invariant-loop-i
 invariant-loop-i l =
-    lowest l.found CarryLists (bad_items (tables_back (take l.i l.cs)) (drop l.i l.cs) (loop_of l.round) (rounds_of l.w.rounds.now))
-    ≡ lowest l.initial.found CarryLists (bad_items [] l.cs (loop_of l.round) (rounds_of l.w.rounds.now))
+    lowest l.found CarryLists (bad_items (tables_back (take l.i l.carries)) (drop l.i l.carries) (loop_of l.round) (rounds_of l.spot.rounds.now))
+    ≡ lowest l.initial.found CarryLists (bad_items [] l.carries (loop_of l.round) (rounds_of l.spot.rounds.now))

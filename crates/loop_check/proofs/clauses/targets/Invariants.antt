@@ -8,5 +8,5 @@ use Rattle.loop_check.proofs.clauses.targets.Given as goal
 
 abbrev pub invariant-loop-i : goal.invariant-loop-i
 invariant-loop-i l =
-    lowest l.found Reductions (bad_targets (targets_back (take l.i l.qs)) (drop l.i l.qs) (rounds_of l.w.rounds.now))
-    ≡ lowest l.initial.found Reductions (bad_targets [] l.qs (rounds_of l.w.rounds.now))
+    lowest l.found Reductions (bad_targets (targets_back (take l.i l.reduces)) (drop l.i l.reduces) (rounds_of l.spot.rounds.now))
+    ≡ lowest l.initial.found Reductions (bad_targets [] l.reduces (rounds_of l.spot.rounds.now))

@@ -6,4 +6,4 @@ use Rattle.loop_check.proofs.expression.in_args.Goals as goal
 
 pub loop-e-preserved : goal.loop-e-preserved
 loop-e-preserved c =
-    rw c.in_whole.ensures (args_step (checked_rules c.args.readers.now) (inside c.args.w.now) c.loop-e.found c.loop-e.e-index c.args.es.now c.e-item.result c.loop-e-test.true c.e-item.is ∙ c.loop-e.invariant)
+    rw c.in_whole.ensures (args_step (checked_rules c.args.readers.now) (inside c.args.spot.now) c.loop-e.found c.loop-e.e-index c.args.arguments.now c.e-item.result c.loop-e-test.true c.e-item.is ∙ c.loop-e.invariant)

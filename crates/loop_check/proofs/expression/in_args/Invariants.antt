@@ -7,4 +7,4 @@ use Rattle.loop_check.proofs.expression.in_args.Given as goal
 
 abbrev pub invariant-loop-e : goal.invariant-loop-e
 invariant-loop-e l =
-    lowest_in (checked_rules l.readers) l.found (in_args (inside l.w) (drop l.e-index l.es)) ≡ lowest_in (checked_rules l.readers) l.initial.found (in_args (inside l.w) l.es)
+    lowest_in (checked_rules l.readers) l.found (in_args (inside l.spot) (drop l.e-index l.arguments)) ≡ lowest_in (checked_rules l.readers) l.initial.found (in_args (inside l.spot) l.arguments)

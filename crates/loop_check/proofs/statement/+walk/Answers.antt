@@ -12,8 +12,8 @@ use Rattle.loop_check.proofs.statement.+walk.Goals as goal
 
 pub in_block-returns : goal.in_block-returns
 in_block-returns t c =
-    let w = c.args.w.now in
-    let v = c.in_list.new.w in
+    let w = c.args.spot.now in
+    let v = c.in_list.new.spot in
     let count : c.len-n.result ≡ length (texts_of w.scope.items) = omega (arith, c.len-n.ensures, w.scope.ok, texts_length w.scope.items) in
     record {
       found = c.in_ok-in_list.ensures.found;
@@ -24,31 +24,31 @@ in_block-returns t c =
 
 pub in_list-loop-s-preserved : goal.in_list-loop-s-preserved
 in_list-loop-s-preserved t c =
-    let w = inside c.loop-s.w in
+    let w = inside c.loop-s.spot in
     let e = c.in_ok-in_stmt.ensures in (
-      list_found (checked_rules c.args.readers.now) w c.loop-s.found c.in_stmt.new.found c.args.body.now c.loop-s.s-index c.s-item.result (inside c.in_stmt.new.w) c.loop-s-test.true c.s-item.is e.found e.stands
+      list_found (checked_rules c.args.readers.now) w c.loop-s.found c.in_stmt.new.found c.args.body.now c.loop-s.s-index c.s-item.result (inside c.in_stmt.new.spot) c.loop-s-test.true c.s-item.is e.found e.stands
           ∙ c.loop-s.invariant.0,
-      list_stands w c.args.body.now c.loop-s.s-index c.s-item.result (inside c.in_stmt.new.w) c.loop-s-test.true c.s-item.is e.stands
+      list_stands w c.args.body.now c.loop-s.s-index c.s-item.result (inside c.in_stmt.new.spot) c.loop-s-test.true c.s-item.is e.stands
           ∙ c.loop-s.invariant.1,
     )
 
 pub in_loop-returns : goal.in_loop-returns
 in_loop-returns t c =
-    let w = c.args.w.now in
-    let v = c.in_list.new.w in
+    let w = c.args.spot.now in
+    let v = c.in_list.new.spot in
     let count : c.len-n.result ≡ length (texts_of w.scope.items) = omega (arith, c.len-n.ensures, w.scope.ok, texts_length w.scope.items) in
     let e = rw (c.in_ok-push.ensures.items, texts_more w.scope.items c.deref.result, c.deref.ensures.value) at c.in_ok-in_list.ensures in
     record {
       found = e.found;
       stands =
-          loop_left (texts_of w.scope.items) (rounds_of w.rounds.now) c.args.x.now (inside v) c.args.body.now (texts_of c.truncate.new.self.items) e.stands
+          loop_left (texts_of w.scope.items) (rounds_of w.rounds.now) c.args.variable.now (inside v) c.args.body.now (texts_of c.truncate.new.self.items) e.stands
           (ap texts_of c.truncate.ensures.items ∙ texts_take c.len-n.result v.scope.items ∙ ap (λ n. take n (texts_of v.scope.items)) count);
     }
 
 pub in_par-returns : goal.in_par-returns
 in_par-returns t c =
-    let w = c.args.w.now in
-    let l = c.args.l.now in
+    let w = c.args.spot.now in
+    let l = c.args.par_loop.now in
     let scope = texts_of w.scope.items in
     ok_map c.in_body.result
     (λ u e.
@@ -56,7 +56,7 @@ in_par-returns t c =
     let carried = rw c.deref.ensures.value at c.in_carries.ensures in
     let step = λ (xs : List (List ℕ)) (ls : List Loop). lowest_in (checked_rules c.args.readers.now) c.in_carries.new.found (in_list (declared_var (spot xs ls) l.var) l.body.items) in
     let body : c.in_body.new.found ≡ step (texts_of c.in_ok-scope.scope.items) (rounds_of c.deref-3.result.now) = e in
-    let deeper : c.deref-3.result.now ≡ record { outside = c.as_slice.result; par = c.args.l } ∷ w.rounds.now = c.deref-3.ensures.value ∙ c.in_ok-rounds.ensures in
+    let deeper : c.deref-3.result.now ≡ record { outside = c.as_slice.result; par = c.args.par_loop } ∷ w.rounds.now = c.deref-3.ensures.value ∙ c.in_ok-rounds.ensures in
     let round : List (Bor (List ℕ)) → Loop = λ outside. record { outside = texts_of outside; var = l.var.text.items; carries = l.carries.items; reduces = l.reduces.items } in
     let last : c.in_body.new.found ≡ step scope (round w.scope.items ∷ rounds_of w.rounds.now) =
     body
@@ -69,7 +69,7 @@ in_par-returns t c =
 pub in_stmt-returns-in_ok-in_block-in-If : goal.in_stmt-returns-in_ok-in_block-in-If
 in_stmt-returns-in_ok-in_block-in-If t c =
     let rs = checked_rules c.args.readers.now in
-    let w = inside c.args.w.now in
+    let w = inside c.args.spot.now in
     let one = rw c.deref-in-If.ensures.value at c.in_ok-in_block-in-If.ensures in
     ok_map c.in_block-in-If.result
     (λ u e.
@@ -84,7 +84,7 @@ in_stmt-returns-in_ok-in_block-in-If t c =
 pub in_stmt-returns-in-While : goal.in_stmt-returns-in-While
 in_stmt-returns-in-While t c =
     let rs = checked_rules c.args.readers.now in
-    let w = inside c.args.w.now in
+    let w = inside c.args.spot.now in
     ok_map c.in_block-in-While.result
     (λ u e.
     let two = rw c.deref-in-While.ensures.value at e in
@@ -97,7 +97,7 @@ in_stmt-returns-in-While t c =
 
 pub in_stmt-returns-in-Loop : goal.in_stmt-returns-in-Loop
 in_stmt-returns-in-Loop t c =
-    let w = c.args.w.now in
+    let w = c.args.spot.now in
     ok_map c.in_loop.result
     (λ u e.
     let two = rw c.deref-in-Loop.ensures.value at e in

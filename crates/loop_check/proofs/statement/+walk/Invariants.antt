@@ -7,8 +7,8 @@ use Rattle.loop_check.proofs.statement.+walk.Given as goal
 
 abbrev pub invariant-in_list-loop-s : goal.invariant-in_list-loop-s
 invariant-in_list-loop-s l =
-    (lowest_in (checked_rules l.readers) l.found (in_list (inside l.w) (drop l.s-index l.body)) ≡ lowest_in (checked_rules l.readers) l.initial.found (in_list (inside l.initial.w) l.body))
-    × (spot_of_list (inside l.w) (drop l.s-index l.body) ≡ spot_of_list (inside l.initial.w) l.body)
+    (lowest_in (checked_rules l.readers) l.found (in_list (inside l.spot) (drop l.s-index l.body)) ≡ lowest_in (checked_rules l.readers) l.initial.found (in_list (inside l.initial.spot) l.body))
+    × (spot_of_list (inside l.spot) (drop l.s-index l.body) ≡ spot_of_list (inside l.initial.spot) l.body)
 
 abbrev pub decreases-in_stmt : goal.decreases-in_stmt
 decreases-in_stmt l = 8 * goal.size-in_stmt l
