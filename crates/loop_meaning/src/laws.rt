@@ -210,20 +210,21 @@ pub fn only_prints_print(program: &Program, fuel: u64)
 
 /// Where a program lies in memory is no matter: two programs with one tree run in the same way over
 /// the same tables, so they have the same outcome and the same chances to split off a task.
-pub fn only_the_tree_counts(p: &Program, q: &Program, tables: &[Table], fuel: u64)
-    ensures run { program_of p.now ≡ program_of q.now
-        → whole_run p.now tables.now fuel ≡ whole_run q.now tables.now fuel }
-    ensures outcome { program_of p.now ≡ program_of q.now
-        → meaning p.now tables.now fuel ≡ meaning q.now tables.now fuel }
-    ensures chances { program_of p.now ≡ program_of q.now
-        → chances p.now tables.now fuel ≡ chances q.now tables.now fuel }
+pub fn only_the_tree_counts(program: &Program, other: &Program, tables: &[Table], fuel: u64)
+    ensures run { program_of program.now ≡ program_of other.now
+        → whole_run program.now tables.now fuel ≡ whole_run other.now tables.now fuel }
+    ensures outcome { program_of program.now ≡ program_of other.now
+        → meaning program.now tables.now fuel ≡ meaning other.now tables.now fuel }
+    ensures chances { program_of program.now ≡ program_of other.now
+        → chances program.now tables.now fuel ≡ chances other.now tables.now fuel }
 {}
 
 /// The `par` loops of a `par` are itself and those of its body, where its variable is visible too
 /// and where it is the nearest of the `par` loops round.
-pub fn a_par_is_round_its_body(l: &Parallel)
-    ensures { (vs : List (List ℕ)) (rounds : List Loop) → bodies vs rounds (Par l.now) ≡
-        body_of vs rounds l.now
-        ∷ bodies_of_list (vs ++ l.now.var.text.items ∷ []) ((body_of vs rounds l.now).loop ∷ rounds)
-        l.now.body.items }
+pub fn a_par_is_round_its_body(par: &Parallel)
+    ensures { (vs : List (List ℕ)) (rounds : List Loop) → bodies vs rounds (Par par.now) ≡
+        body_of vs rounds par.now
+        ∷ bodies_of_list (vs ++ par.now.var.text.items ∷ [])
+        ((body_of vs rounds par.now).loop ∷ rounds)
+        par.now.body.items }
 {}
