@@ -49,22 +49,12 @@ fn assigns(spot: &Spot, found: &mut Option<Fault>, variable: &Name)
     );
 }
 
+// A fold is an assignment to these rules.
 fn folds(spot: &Spot, found: &mut Option<Fault>, variable: &Name)
     ensures { found.new
         ≡ lowest_at resolved_rules found.old (site (spot_of spot.now) (Folds variable.now)) }
 {
-    note_if(
-        found,
-        Rule::Names,
-        !spot.scope.contains(&variable.text),
-        variable.place,
-    );
-    note_if(
-        found,
-        Rule::LoopVariables,
-        spot.loops.contains(&variable.text),
-        variable.place,
-    );
+    assigns(spot, found, variable);
 }
 
 fn assigns_both(spot: &Spot, found: &mut Option<Fault>, first: &Name, second: &Name)
