@@ -57,7 +57,7 @@ fn targets(spot: &Spot, found: &mut Option<Fault>, reduces: &[Reduce])
         ≡ lowest found.old Rule.Reductions (bad_targets [] reduces.now (rounds_of
         spot.now.rounds.now)) }
 {
-    for i in 0..qs.len() {
+    for i in 0..reduces.len() {
         let q = &reduces[i];
         note_if(
             found,
@@ -135,7 +135,7 @@ fn items(spot: &Spot, found: &mut Option<Fault>, round: &Round, carries: &[Carry
         ≡ lowest found.old Rule.CarryLists (bad_items [] carries.now (loop_of round.now)
         (rounds_of spot.now.rounds.now)) }
 {
-    for i in 0..cs.len() {
+    for i in 0..carries.len() {
         let c = &carries[i];
         note_if(
             found,

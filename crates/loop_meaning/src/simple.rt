@@ -113,7 +113,7 @@ fn push_table(out: &mut Vec<u8>, table: &Table) -> Result<(), NoMemory>
 {
     let cols = table.cols as usize;
     let mut rest = table.cells.items();
-    for k in 0..t.rows {
+    for k in 0..table.rows {
         let n = cols.min(rest.len());
         let (row, others) = rest.split_at(n);
         push_row_text(out, row)?;
