@@ -11,13 +11,14 @@ use Rattle.loop_syntax.specs.declared.Program.{Program}
 use Rattle.loop_syntax.specs.declared.TableDecl.{TableDecl}
 use Rattle.loop_syntax.specs.declared.TableDecl.TheVariants.{Input, Made}
 use Rattle.loop_rules.specs.declared.part.Part.TheVariants.{OfSize, OfFunc}
-use Rattle.loop_rules.specs.Broken.{C1', C2', C3', C6', C10', C11'}
+use Rattle.loop_rules.specs.declared.rule.Rule.TheVariants.{Names, OuterVariables, Reductions}
+use Rattle.loop_rules.specs.declared.rule.Rule.TheVariants.{CarryLists, LoopVariables, Limits}
 use Rattle.loop_rules.specs.Declarations.{declared_list, table_of_decl}
-use Rattle.loop_rules.specs.Limits.{past, c11}
+use Rattle.loop_rules.specs.Limits.{first_name, past, over_limits}
 use Rattle.loop_rules.specs.Names.{texts, func_of}
-use Rattle.loop_rules.specs.Carries.{c6}
-use Rattle.loop_rules.specs.Reductions.{c2, c3}
-use Rattle.loop_rules.specs.Scopes.{at, c1, c10}
+use Rattle.loop_rules.specs.Carries.{miscarried}
+use Rattle.loop_rules.specs.Reductions.{outer_set, misreduced}
+use Rattle.loop_rules.specs.Scopes.{at, misnamed, loop_variable_set}
 use Rattle.loop_rules.specs.Sites.{Spot, Site, in_whole, in_list, in_params, in_decl, in_decls, in_func, in_funcs, in_main, sites, tables_of, top, func_spot, main_spot, spot_of_list}
 use Rattle.loop_check.specs.Unbroken.{NoneBroken}
 use Rattle.loop_check.proofs.Fine.{at_none, none_of, append_none_right}
@@ -119,12 +120,12 @@ funcs_fit p before (f ∷ fs) short few k =
 module _ (p : Program) (none : NoneBroken p) where
   keeps_at : (s : Site) → Contains (sites p) s → Keeps s
   keeps_at s h = record {
-    names = none_of (c1 s.act s.spot) (λ q k. none.unbroken C1' q (record { where_at = s; stands = h; breaks = k }));
-    sets = none_of (c2 s.act s.spot) (λ q k. none.unbroken C2' q (record { where_at = s; stands = h; breaks = k }));
-    reductions = none_of (c3 s.act s.spot) (λ q k. none.unbroken C3' q (record { where_at = s; stands = h; breaks = k }));
-    items = none_of (c6 s.act s.spot) (λ q k. none.unbroken C6' q (record { where_at = s; stands = h; breaks = k }));
-    loops = none_of (c10 s.act s.spot) (λ q k. none.unbroken C10' q (record { where_at = s; stands = h; breaks = k }));
-    limits = none_of (c11 s.act s.spot) (λ q k. none.unbroken C11' q (record { where_at = s; stands = h; breaks = k }));
+    names = none_of (misnamed s.act s.spot) (λ q k. none.unbroken Names q (record { where_at = s; stands = h; breaks = k }));
+    sets = none_of (outer_set s.act s.spot) (λ q k. none.unbroken OuterVariables q (record { where_at = s; stands = h; breaks = k }));
+    reductions = none_of (misreduced s.act s.spot) (λ q k. none.unbroken Reductions q (record { where_at = s; stands = h; breaks = k }));
+    items = none_of (miscarried s.act s.spot) (λ q k. none.unbroken CarryLists q (record { where_at = s; stands = h; breaks = k }));
+    loops = none_of (loop_variable_set s.act s.spot) (λ q k. none.unbroken LoopVariables q (record { where_at = s; stands = h; breaks = k }));
+    limits = none_of (over_limits s.act s.spot) (λ q k. none.unbroken Limits q (record { where_at = s; stands = h; breaks = k }));
   }
 
   tables_keep : Each Keeps (in_decls p.funcs.items [] p.tables.items)

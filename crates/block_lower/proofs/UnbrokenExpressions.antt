@@ -10,11 +10,11 @@ use Rattle.loop_syntax.specs.declared.Name.{Name}
 use Rattle.loop_syntax.specs.declared.Expr.{Expr}
 use Rattle.loop_syntax.specs.declared.Expr.TheVariants.{Int, Var, Cell', Rows, Cols, Neg', Bin'}
 use Rattle.loop_syntax.specs.declared.Func.{Func}
-use Rattle.loop_rules.specs.Limits.{height, first_place, c11}
+use Rattle.loop_rules.specs.Limits.{height, first_place, over_limits}
 use Rattle.loop_rules.specs.Names.{is_in, texts, func_of}
-use Rattle.loop_rules.specs.Carries.{c6}
-use Rattle.loop_rules.specs.Reductions.{c2, c3}
-use Rattle.loop_rules.specs.Scopes.{misfits, c1, c10}
+use Rattle.loop_rules.specs.Carries.{miscarried}
+use Rattle.loop_rules.specs.Reductions.{outer_set, misreduced}
+use Rattle.loop_rules.specs.Scopes.{misfits, misnamed, loop_variable_set}
 use Rattle.loop_rules.specs.Sites.{NamesTable, Calls, Spot, Site, site, in_expr, in_whole, in_args, in_app}
 use Rattle.loop_check.proofs.Bools.{not_false}
 use Rattle.loop_check.proofs.Fine.{at_none}
@@ -25,12 +25,12 @@ use Rattle.block_lower.specs.Heights.{IsLow, AreLowArguments}
 -- what is done at a place keeps the rules on names, on variables round a `par`, on variables of loops
 -- and on limits
 pub record Keeps (s : Site) : Type 0 where
-  pub names : c1 s.act s.spot ≡ []
-  pub sets : c2 s.act s.spot ≡ []
-  pub reductions : c3 s.act s.spot ≡ []
-  pub items : c6 s.act s.spot ≡ []
-  pub loops : c10 s.act s.spot ≡ []
-  pub limits : c11 s.act s.spot ≡ []
+  pub names : misnamed s.act s.spot ≡ []
+  pub sets : outer_set s.act s.spot ≡ []
+  pub reductions : misreduced s.act s.spot ≡ []
+  pub items : miscarried s.act s.spot ≡ []
+  pub loops : loop_variable_set s.act s.spot ≡ []
+  pub limits : over_limits s.act s.spot ≡ []
 
 -- ---- expressions
 

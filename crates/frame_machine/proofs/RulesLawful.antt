@@ -9,7 +9,7 @@ use Rattle.loop_syntax.specs.declared.ParLoop.{ParLoop}
 use Rattle.loop_syntax.specs.declared.Stmt.{Stmt}
 use Rattle.loop_syntax.specs.declared.Program.{Program}
 use Rattle.loop_rules.specs.declared.part.Part.TheVariants.{OfFunc}
-use Rattle.loop_rules.specs.Broken.{C8'}
+use Rattle.loop_rules.specs.declared.rule.Rule.TheVariants.{ReadingCalls}
 use Rattle.loop_rules.specs.Carries.{carries}
 use Rattle.loop_rules.specs.Keeps.{carry_word}
 use Rattle.loop_rules.specs.Names.{is_in, func_of, texts}
@@ -213,7 +213,7 @@ calls_lawful p none w f n h t k = whole_mode w.rounds t (go (any_loop (carries t
   where
     go : (b : Bool) → any_loop (carries t) w.rounds ≡ b → b ≡ false
     go false e = refl
-    go true e = absurd (none.unbroken C8' f.place (record { where_at = site w (Calls f n); stands = h; breaks = record { callee = f; arguments = n; is_call = refl; table = t; reads = k; carried = e; here = refl } }))
+    go true e = absurd (none.unbroken ReadingCalls f.place (record { where_at = site w (Calls f n); stands = h; breaks = record { callee = f; arguments = n; is_call = refl; table = t; reads = k; carried = e; here = refl } }))
 
 pub all_lawful : (p : Program) → NoneBroken p → AllLawful p
 all_lawful p none = record {

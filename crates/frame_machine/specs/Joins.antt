@@ -48,7 +48,8 @@ upper_start rs vs ts =
 pub record Joins (fuel : ℕ) (rs : List Reduce) (seen written : Cells) (low up whole : Ran) : Type 0
   where
     pub stop : whole.stop ≡ joined_stop low.stop low.state.ticks up.stop up.state.ticks fuel
-    pub ticks : whole.state.ticks ≡ joined_ticks low.stop low.state.ticks up.stop up.state.ticks fuel
+    pub ticks : whole.state.ticks
+        ≡ joined_ticks low.stop low.state.ticks up.stop up.state.ticks fuel
     pub vars : whole.stop ≡ Done → whole.state.vars ≡ combined rs low.state.vars up.state.vars
     pub upper : whole.stop ≡ Done → AgreeOn seen up.state.tables whole.state.tables
     pub lower : whole.stop ≡ Done → AgreeOn (Outside written) low.state.tables whole.state.tables

@@ -8,30 +8,31 @@ use Rattle.loop_syntax.specs.declared.Expr.TheVariants.{Int, Var, Cell', Rows, C
 use Rattle.loop_syntax.specs.declared.App.{App}
 use Rattle.loop_syntax.specs.declared.Stmt.{Stmt, Row_of-Stmt, end_of-Stmt, more_of-Stmt}
 use Rattle.loop_syntax.specs.declared.Stmt.TheVariants.{Let, Set, Put, If', While', Loop', Par', Fold, Call, Both, Print, Emit}
-use Rattle.loop_check.specs.declared.fault.Fault.{Fault}
+use Rattle.loop_rules.specs.declared.fault.Fault.{Fault}
 use Rattle.loop_rules.specs.Sites.{Site, Spot, site, Calls, in_expr, in_whole, in_args, in_app, in_carries, in_stmt, in_all, in_list, in_loop, in_par, spot_after}
 use Rattle.loop_check.specs.declared.reader.Reader.{Reader}
 use Rattle.loop_check.specs.Walk.{spot}
-use Rattle.loop_check.specs.Search.{lowest_at, lowest_in}
-use Rattle.loop_check.proofs.Searching.{lowest_in_append}
+use Rattle.loop_rules.specs.Search.{lowest_at, lowest_in}
+use Rattle.loop_check.specs.Search.{checked_rules}
+use Rattle.loop_rules.proofs.Searching.{lowest_in_append}
 
 -- with no more than these rules look at
 abbrev pub bare : Spot → Spot
 bare w = spot w.scope w.rounds
 
 record Same (xs ys : List Site) : Type 0 where
-  at : (rs : List Reader) (b : Option Fault) → lowest_in rs b xs ≡ lowest_in rs b ys
+  at : (rs : List Reader) (b : Option Fault) → lowest_in (checked_rules rs) b xs ≡ lowest_in (checked_rules rs) b ys
 
 none : Same [] []
 none = record { at = λ rs b. refl }
 
 same_append : (xs ys us vs : List Site) → Same xs us → Same ys vs → Same (xs ++ ys) (us ++ vs)
 same_append xs ys us vs f g = record {
-  at = λ rs b. lowest_in_append rs b xs ys ∙ ap (λ c. lowest_in rs c ys) (f.at rs b) ∙ g.at rs (lowest_in rs b us) ∙ sym (lowest_in_append rs b us vs);
+  at = λ rs b. lowest_in_append (checked_rules rs) b xs ys ∙ ap (λ c. lowest_in (checked_rules rs) c ys) (f.at rs b) ∙ g.at rs (lowest_in (checked_rules rs) b us) ∙ sym (lowest_in_append (checked_rules rs) b us vs);
 }
 
-same_cons : (s t : Site) (xs ys : List Site) → ((rs : List Reader) (b : Option Fault) → lowest_at rs b s ≡ lowest_at rs b t) → Same xs ys → Same (s ∷ xs) (t ∷ ys)
-same_cons s t xs ys f g = record { at = λ rs b. ap (λ c. lowest_in rs c xs) (f rs b) ∙ g.at rs (lowest_at rs b t) }
+same_cons : (s t : Site) (xs ys : List Site) → ((rs : List Reader) (b : Option Fault) → lowest_at (checked_rules rs) b s ≡ lowest_at (checked_rules rs) b t) → Same xs ys → Same (s ∷ xs) (t ∷ ys)
+same_cons s t xs ys f g = record { at = λ rs b. ap (λ c. lowest_in (checked_rules rs) c xs) (f rs b) ∙ g.at rs (lowest_at (checked_rules rs) b t) }
 
 expr_apart : (w : Spot) (e : Expr) → Same (in_expr w e) (in_expr (bare w) e)
 expr_apart w (Int n p) = none
@@ -98,5 +99,5 @@ list_apart : (w : Spot) (ss : List Stmt) → Same (in_list w ss) (in_list (bare 
 list_apart w [] = none
 list_apart w (s ∷ ss) = rw (after_bare w s) (same_append _ _ _ _ (stmt_apart w s) (list_apart (spot_after w s) ss))
 
-pub bare_apart : (rs : List Reader) (b : Option Fault) (w : Spot) (ss : List Stmt) → lowest_in rs b (in_list w ss) ≡ lowest_in rs b (in_list (bare w) ss)
+pub bare_apart : (rs : List Reader) (b : Option Fault) (w : Spot) (ss : List Stmt) → lowest_in (checked_rules rs) b (in_list w ss) ≡ lowest_in (checked_rules rs) b (in_list (bare w) ss)
 bare_apart rs b w ss = (list_apart w ss).at rs b

@@ -14,7 +14,7 @@ use Rattle.loop_rules.specs.Sites.{Declares, Parallel, Spot, Site, in_whole, in_
 use Rattle.loop_meaning.specs.Cells.{Body, visible_after, bodies, bodies_all, bodies_of_list, bodies_of_funcs, bodies_of}
 use Rattle.loop_check.specs.Unbroken.{NoneBroken}
 use Rattle.loop_check.proofs.Lists.{Each, each_left, each_right, each_both}
-use Rattle.loop_check.proofs.Walking.{rows_list}
+use Rattle.loop_rules.proofs.Walking.{rows_list}
 use Rattle.loop_check.proofs.Fine.{Fine, AllFine, body_fine, funcs_fine, main_fine}
 
 after_spot : (w : Spot) (s : Stmt) → spot_after w s ≡ record w { scope = visible_after w.scope s }

@@ -15,15 +15,15 @@ use Rattle.loop_syntax.specs.declared.Stmt.{Stmt}
 use Rattle.loop_syntax.specs.declared.TableDecl.{TableDecl}
 use Rattle.loop_syntax.specs.declared.TableDecl.TheVariants.{Input, Made}
 use Rattle.loop_rules.specs.declared.part.Part.TheVariants.{OfSize, OfFunc}
-use Rattle.loop_rules.specs.Broken.{C1'}
+use Rattle.loop_rules.specs.declared.rule.Rule.TheVariants.{Names}
 use Rattle.loop_rules.specs.Unbroken.{IsResolved}
-use Rattle.loop_rules.specs.Scopes.{at, c1}
+use Rattle.loop_rules.specs.Scopes.{at, misnamed}
 use Rattle.loop_rules.specs.Carries.{carries, is_some_item}
 use Rattle.loop_rules.specs.Reductions.{any_loop}
-use Rattle.loop_rules.specs.Reading.{C8}
+use Rattle.loop_rules.specs.Reading.{CallsReader}
 use Rattle.loop_rules.specs.Sites.{Loop, Act, DeclaresTable, DeclaresFunc, DeclaresAll, Declares, Uses, Assigns, Folds, AssignsBoth, NamesTable, ReadsCell, WritesCell, Calls, Evaluates, Shows, Parallel, Spot, Site, in_carries, in_expr, in_whole, in_params, in_decls, in_list, in_func, in_funcs, in_main, in_par, the_loop, declared_var, spot_of_list, func_spot, main_spot, top, sites, tables_of}
 use Rattle.loop_check.specs.declared.reader.Reader.{Reader}
-use Rattle.loop_check.specs.Search.{reads_carried, c8}
+use Rattle.loop_check.specs.Search.{reads_carried, calls_reader}
 use Rattle.loop_check.specs.Readers.{Pair, pair, pairs_of, IsReaders}
 use Rattle.loop_check.proofs.Lists.{Each, each_left, each_right, each_both, each_of, each_at, contains_here, contains_there, contains_cons, contains_none}
 use Rattle.loop_check.proofs.Bools.{no_both, not_false, and_left, and_right}
@@ -68,7 +68,7 @@ carried_from (r ∷ rs) f t rounds h k = elim (contains_cons (pairs_of rs) (pair
 -- ---- carried tables are declared
 
 abbrev Named : Act → Spot → Type 0
-Named a w = c1 a w ≡ []
+Named a w = misnamed a w ≡ []
 
 abbrev AllNamed : List Site → Type 0
 AllNamed ss = Each (λ (s : Site). Named s.act s.spot) ss
@@ -170,7 +170,7 @@ module _ (p : Program) where
       )
 
   named_all : IsResolved p → AllNamed (sites p)
-  named_all r = each_of (λ (s : Site). Named s.act s.spot) (sites p) (λ s h. none_of (c1 s.act s.spot) (λ q k. r.unbroken C1' q tt (record { where_at = s; stands = h; breaks = k })))
+  named_all r = each_of (λ (s : Site). Named s.act s.spot) (sites p) (λ s h. none_of (misnamed s.act s.spot) (λ q k. r.unbroken Names q tt (record { where_at = s; stands = h; breaks = k })))
 
   sites_declared : IsResolved p → AllDeclared (sites p)
   sites_declared r =
@@ -187,14 +187,14 @@ module _ (p : Program) where
   -- ---- the readers tell
 
   module _ (resolved : IsResolved p) (rs : List Reader) (known : IsReaders p (tables_of p) rs) where
-    there_at : (s : Site) (q : Place) → Declared s.spot → C8 p s q → Contains (c8 rs s.act s.spot) q
+    there_at : (s : Site) (q : Place) → Declared s.spot → CallsReader p s q → Contains (calls_reader rs s.act s.spot) q
     there_at s q d h =
         let f = h.callee.text.items in
         let hit : reads_carried rs f s.spot.rounds ≡ true = carried_from rs f h.table s.spot.rounds (known.complete f h.table (d h.table h.carried) h.reads) h.carried in
         let one : Contains (at h.callee true) q = subst (λ z. Contains (h.callee.place ∷ []) z) (sym h.here) (contains_here [] h.callee.place) in
-        subst (λ a. Contains (c8 rs a s.spot) q) (sym h.is_call) (subst (λ b. Contains (at h.callee b) q) (sym hit) one)
+        subst (λ a. Contains (calls_reader rs a s.spot) q) (sym h.is_call) (subst (λ b. Contains (at h.callee b) q) (sym hit) one)
 
-    call_back : (c : Name) (n : ℕ) (w : Spot) (q : Place) (b : Bool) → reads_carried rs c.text.items w.rounds ≡ b → Contains (at c b) q → C8 p (record { act = Calls c n; spot = w }) q
+    call_back : (c : Name) (n : ℕ) (w : Spot) (q : Place) (b : Bool) → reads_carried rs c.text.items w.rounds ≡ b → Contains (at c b) q → CallsReader p (record { act = Calls c n; spot = w }) q
     call_back c n w q false e h = absurd (contains_none q h)
     call_back c n w q true e h =
         let k = carried_at rs c.text.items w.rounds e in
@@ -203,7 +203,7 @@ module _ (p : Program) where
         only : (x y : Place) → Contains (x ∷ []) y → y ≡ x
         only x y h = elim (contains_cons [] x y h) [ inl e ↦ sym e | inr k ↦ absurd (contains_none y k) ]
 
-    back_at : (a : Act) (w : Spot) (q : Place) → Contains (c8 rs a w) q → C8 p (record { act = a; spot = w }) q
+    back_at : (a : Act) (w : Spot) (q : Place) → Contains (calls_reader rs a w) q → CallsReader p (record { act = a; spot = w }) q
     back_at (Calls c n) w q h = call_back c n w q (reads_carried rs c.text.items w.rounds) refl h
     back_at (ReadsCell t a b) w q h = absurd (contains_none q h)
     back_at (WritesCell t a b) w q h = absurd (contains_none q h)

@@ -7,11 +7,11 @@ use Rattle.loop_syntax.specs.declared.Program.{Program}
 use Rattle.loop_rules.specs.declared.part.Part.TheVariants.{OfFunc}
 use Rattle.loop_rules.specs.Names.{func_of}
 use Rattle.loop_rules.specs.Sites.{Act, DeclaresTable, DeclaresFunc, DeclaresAll, Declares, Uses, Assigns, Folds, AssignsBoth, NamesTable, ReadsCell, WritesCell, Calls, Evaluates, Shows, Parallel, Spot, Site, in_whole, in_list, in_params, in_decls, declared_var, spot_of_list, top, tables_of, func_spot, in_func, in_funcs, in_main, sites}
-use Rattle.loop_rules.specs.Broken.{C1', C2', C3', C4', C5', C6', C7', C8', C9', C10'}
-use Rattle.loop_rules.specs.Scopes.{at, c1, c10}
-use Rattle.loop_rules.specs.Reductions.{any_loop, c2, c3}
-use Rattle.loop_rules.specs.Carries.{carries, c4, c5, c6}
-use Rattle.loop_rules.specs.Keeps.{in_function, c7, c9}
+use Rattle.loop_rules.specs.declared.rule.Rule.TheVariants.{Names, OuterVariables, Reductions, TableWrites, TableReads, CarryLists, Functions, ReadingCalls, Output, LoopVariables}
+use Rattle.loop_rules.specs.Scopes.{at, misnamed, loop_variable_set}
+use Rattle.loop_rules.specs.Reductions.{any_loop, outer_set, misreduced}
+use Rattle.loop_rules.specs.Carries.{carries, miswritten, misread, miscarried}
+use Rattle.loop_rules.specs.Keeps.{in_function, unfit_for_functions, shown_in_par}
 use Rattle.loop_rules.specs.Reading.{ReadsTable}
 use Rattle.loop_check.specs.Unbroken.{NoneBroken}
 use Rattle.loop_check.proofs.Lists.{Each, each_left, each_right, each_both, each_of, contains_here}
@@ -36,16 +36,16 @@ none_of (q ∷ qs) h = absurd (h q (contains_here qs q))
 
 -- no rule is broken by what is done at a spot
 pub record Fine (p : Program) (a : Act) (w : Spot) : Type 0 where
-  pub f1 : c1 a w ≡ []
-  pub f2 : c2 a w ≡ []
-  pub f3 : c3 a w ≡ []
-  pub f4 : c4 a w ≡ []
-  pub f5 : c5 a w ≡ []
-  pub f6 : c6 a w ≡ []
-  pub f7 : c7 a w ≡ []
+  pub f1 : misnamed a w ≡ []
+  pub f2 : outer_set a w ≡ []
+  pub f3 : misreduced a w ≡ []
+  pub f4 : miswritten a w ≡ []
+  pub f5 : misread a w ≡ []
+  pub f6 : miscarried a w ≡ []
+  pub f7 : unfit_for_functions a w ≡ []
   pub f8 : (c : Name) (n : ℕ) → a ≡ Calls c n → (t : List ℕ) → ReadsTable p c.text.items t → any_loop (carries t) w.rounds ≡ true → ⊥
-  pub f9 : c9 a w ≡ []
-  pub f10 : c10 a w ≡ []
+  pub f9 : shown_in_par a w ≡ []
+  pub f10 : loop_variable_set a w ≡ []
 
 abbrev pub AllFine : Program → List Site → Type 0
 AllFine p ss = Each (λ (s : Site). Fine p s.act s.spot) ss
@@ -55,16 +55,16 @@ AllFine p ss = Each (λ (s : Site). Fine p s.act s.spot) ss
 module _ (p : Program) (none : NoneBroken p) where
   fine_at : (s : Site) → Contains (sites p) s → Fine p s.act s.spot
   fine_at s h = record {
-    f1 = none_of (c1 s.act s.spot) (λ q k. none.unbroken C1' q (record { where_at = s; stands = h; breaks = k }));
-    f2 = none_of (c2 s.act s.spot) (λ q k. none.unbroken C2' q (record { where_at = s; stands = h; breaks = k }));
-    f3 = none_of (c3 s.act s.spot) (λ q k. none.unbroken C3' q (record { where_at = s; stands = h; breaks = k }));
-    f4 = none_of (c4 s.act s.spot) (λ q k. none.unbroken C4' q (record { where_at = s; stands = h; breaks = k }));
-    f5 = none_of (c5 s.act s.spot) (λ q k. none.unbroken C5' q (record { where_at = s; stands = h; breaks = k }));
-    f6 = none_of (c6 s.act s.spot) (λ q k. none.unbroken C6' q (record { where_at = s; stands = h; breaks = k }));
-    f7 = none_of (c7 s.act s.spot) (λ q k. none.unbroken C7' q (record { where_at = s; stands = h; breaks = k }));
-    f8 = λ c n e t r k. none.unbroken C8' c.place (record { where_at = s; stands = h; breaks = record { callee = c; arguments = n; is_call = e; table = t; reads = r; carried = k; here = refl } });
-    f9 = none_of (c9 s.act s.spot) (λ q k. none.unbroken C9' q (record { where_at = s; stands = h; breaks = k }));
-    f10 = none_of (c10 s.act s.spot) (λ q k. none.unbroken C10' q (record { where_at = s; stands = h; breaks = k }));
+    f1 = none_of (misnamed s.act s.spot) (λ q k. none.unbroken Names q (record { where_at = s; stands = h; breaks = k }));
+    f2 = none_of (outer_set s.act s.spot) (λ q k. none.unbroken OuterVariables q (record { where_at = s; stands = h; breaks = k }));
+    f3 = none_of (misreduced s.act s.spot) (λ q k. none.unbroken Reductions q (record { where_at = s; stands = h; breaks = k }));
+    f4 = none_of (miswritten s.act s.spot) (λ q k. none.unbroken TableWrites q (record { where_at = s; stands = h; breaks = k }));
+    f5 = none_of (misread s.act s.spot) (λ q k. none.unbroken TableReads q (record { where_at = s; stands = h; breaks = k }));
+    f6 = none_of (miscarried s.act s.spot) (λ q k. none.unbroken CarryLists q (record { where_at = s; stands = h; breaks = k }));
+    f7 = none_of (unfit_for_functions s.act s.spot) (λ q k. none.unbroken Functions q (record { where_at = s; stands = h; breaks = k }));
+    f8 = λ c n e t r k. none.unbroken ReadingCalls c.place (record { where_at = s; stands = h; breaks = record { callee = c; arguments = n; is_call = e; table = t; reads = r; carried = k; here = refl } });
+    f9 = none_of (shown_in_par s.act s.spot) (λ q k. none.unbroken Output q (record { where_at = s; stands = h; breaks = k }));
+    f10 = none_of (loop_variable_set s.act s.spot) (λ q k. none.unbroken LoopVariables q (record { where_at = s; stands = h; breaks = k }));
   }
 
   behind_tables : AllFine p (in_funcs p [] p.funcs.items ++ in_main p)

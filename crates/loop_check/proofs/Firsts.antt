@@ -1,18 +1,19 @@
 -- A program has one first broken rule of disjoint writes, which its tree alone decides.
-use Rattle.std.proofs.Common.{◌≡◌, ◌<◌, ◌⊎◌, inl, inr, ℕ, true, List, sym, ap, ◌∙◌, arith, subst}
+use Rattle.std.proofs.Common.{◌≡◌, ℕ, true, List, sym, ap, ◌∙◌, subst}
 use Rattle.std.specs.List.{Contains}
 use Rattle.tp_value.specs.declared.values.Place.{Place}
 use Rattle.loop_syntax.specs.declared.program.Program.{Program}
 use Rattle.loop_syntax.specs.Tree.{Spelled, spelled, program_of}
-use Rattle.loop_rules.specs.Broken.{Rule, C1', C2', C3', C4', C5', C6', C7', C8', C9', C10', C11', number_of, BreaksAt, Broken}
+use Rattle.loop_rules.specs.declared.rule.Rule.{Rule}
+use Rattle.loop_rules.specs.declared.rule.Rule.TheVariants.{Names, OuterVariables, Reductions, TableWrites, TableReads, CarryLists, Functions, ReadingCalls, Output, LoopVariables, Limits}
+use Rattle.loop_rules.specs.Broken.{BreaksAt, Broken}
 use Rattle.loop_rules.specs.Carries.{carries}
-use Rattle.loop_rules.specs.Reading.{C8, ReadsTable}
-use Rattle.loop_rules.specs.Resolving.{IsNoLater}
+use Rattle.loop_rules.specs.Reading.{CallsReader, ReadsTable}
 use Rattle.loop_rules.specs.Sites.{Site, sites}
+use Rattle.loop_rules.proofs.Faults.{same_first}
 use Rattle.loop_rules.proofs.Firsts.{resolved-tree}
 use Rattle.loop_check.specs.Checking.{IsOfCheck, IsFirstBroken}
 use Rattle.loop_check.specs.Unbroken.{NoneBroken}
-use Rattle.loop_check.proofs.First.{is_before_tells}
 use Rattle.loop_check.proofs.TreeSites.{Called, SiteTree, tree_sites}
 use Rattle.loop_check.proofs.TreeWalk.{act_tree, site_tree, program_same}
 use Rattle.loop_check.proofs.TreeBroken.{any_round, any_same, carries_in, carries_same, two, three, four, five, six, same_places}
@@ -20,25 +21,6 @@ use Rattle.loop_check.proofs.TreeReads.{has_tree, Stands, of_tree, Callee, calle
 use Rattle.loop_check.proofs.Verdict.{all_unbroken}
 
 -- ---- one first broken rule
-
-abbrev Earlier : Place → Place → Type 0
-Earlier p q = (p.line < q.line) ⊎ ((p.line ≡ q.line) × (p.col < q.col))
-
-one_way : (p q : Place) → Earlier p q → Earlier q p → ⊥
-one_way p q (inl h) (inl k) = omega arith
-one_way p q (inl h) (inr k) = omega (arith, k.0)
-one_way p q (inr h) (inl k) = omega (arith, h.0)
-one_way p q (inr h) (inr k) = omega (arith, h.1, k.1)
-
-not_itself : (p q : Place) → p ≡ q → Earlier p q → ⊥
-not_itself p q e (inl h) = let l : p.line ≡ q.line = ap (λ (r : Place). r.line) e in omega arith
-not_itself p q e (inr h) = let c : p.col ≡ q.col = ap (λ (r : Place). r.col) e in omega (arith, h.1)
-
-same_first : (r o : Rule) (p q : Place) → IsNoLater r p o q → IsNoLater o q r p → (number_of r ≡ number_of o) × (p ≡ q)
-same_first r o p q (inl h) (inl k) = absurd (one_way p q ((is_before_tells p q).0 h) ((is_before_tells q p).0 k))
-same_first r o p q (inl h) (inr k) = absurd (not_itself p q (sym k.0) ((is_before_tells p q).0 h))
-same_first r o p q (inr h) (inl k) = absurd (not_itself q p (sym h.0) ((is_before_tells q p).0 k))
-same_first r o p q (inr h) (inr k) = (omega (arith, h.1, k.1), h.0)
 
 pub firsts_agree : (p : Program) (n m : ℕ) (x y : Place) → IsFirstBroken p n x → IsFirstBroken p m y → (n ≡ m) × (x ≡ y)
 firsts_agree p n m x y f g =
@@ -61,24 +43,24 @@ pub record BadCall (p : Program) (t : SiteTree) (place : Place) : Type 0 where
 
 -- one of the rules of disjoint writes is broken there
 abbrev pub TreeBreaks : Program → Rule → SiteTree → Place → Type 0
-TreeBreaks p C1' t place = ⊥
-TreeBreaks p C2' t place = Contains (two t.act t.rounds) place
-TreeBreaks p C3' t place = Contains (three t.act t.rounds) place
-TreeBreaks p C4' t place = Contains (four t.act t.rounds) place
-TreeBreaks p C5' t place = Contains (five t.act t.rounds) place
-TreeBreaks p C6' t place = Contains (six t.act t.rounds) place
-TreeBreaks p C7' t place = ⊥
-TreeBreaks p C8' t place = BadCall p t place
-TreeBreaks p C9' t place = ⊥
-TreeBreaks p C10' t place = ⊥
-TreeBreaks p C11' t place = ⊥
+TreeBreaks p Names t place = ⊥
+TreeBreaks p OuterVariables t place = Contains (two t.act t.rounds) place
+TreeBreaks p Reductions t place = Contains (three t.act t.rounds) place
+TreeBreaks p TableWrites t place = Contains (four t.act t.rounds) place
+TreeBreaks p TableReads t place = Contains (five t.act t.rounds) place
+TreeBreaks p CarryLists t place = Contains (six t.act t.rounds) place
+TreeBreaks p Functions t place = ⊥
+TreeBreaks p ReadingCalls t place = BadCall p t place
+TreeBreaks p Output t place = ⊥
+TreeBreaks p LoopVariables t place = ⊥
+TreeBreaks p Limits t place = ⊥
 
 module _ (place : Place) where
   moved : {xs ys : List Place} → xs ≡ ys → Contains xs place → Contains ys place
   moved {xs} {ys} e h = subst (λ (zs : List Place). Contains zs place) e h
 
 module _ (p : Program) (s : Site) (place : Place) where
-  bad_call : C8 p s place → BadCall p (site_tree s) place
+  bad_call : CallsReader p s place → BadCall p (site_tree s) place
   bad_call h = record {
     callee = spelled h.callee;
     is_call = ap act_tree h.is_call;
@@ -88,7 +70,7 @@ module _ (p : Program) (s : Site) (place : Place) where
     here = h.here;
   }
 
-  call_back : BadCall p (site_tree s) place → C8 p s place
+  call_back : BadCall p (site_tree s) place → CallsReader p s place
   call_back h =
       let call : Callee s.act h.callee = callee_of s.act h.callee h.is_call in
       record {
@@ -102,47 +84,47 @@ module _ (p : Program) (s : Site) (place : Place) where
       }
 
   pub tree_breaks : (r : Rule) → IsOfCheck r → BreaksAt p r s place → TreeBreaks p r (site_tree s) place
-  tree_breaks C1' u h = absurd u
-  tree_breaks C2' u h = moved place (same_places s.spot s.act).by2 h
-  tree_breaks C3' u h = moved place (same_places s.spot s.act).by3 h
-  tree_breaks C4' u h = moved place (same_places s.spot s.act).by4 h
-  tree_breaks C5' u h = moved place (same_places s.spot s.act).by5 h
-  tree_breaks C6' u h = moved place (same_places s.spot s.act).by6 h
-  tree_breaks C7' u h = absurd u
-  tree_breaks C8' u h = bad_call h
-  tree_breaks C9' u h = absurd u
-  tree_breaks C10' u h = absurd u
-  tree_breaks C11' u h = absurd u
+  tree_breaks Names u h = absurd u
+  tree_breaks OuterVariables u h = moved place (same_places s.spot s.act).by2 h
+  tree_breaks Reductions u h = moved place (same_places s.spot s.act).by3 h
+  tree_breaks TableWrites u h = moved place (same_places s.spot s.act).by4 h
+  tree_breaks TableReads u h = moved place (same_places s.spot s.act).by5 h
+  tree_breaks CarryLists u h = moved place (same_places s.spot s.act).by6 h
+  tree_breaks Functions u h = absurd u
+  tree_breaks ReadingCalls u h = bad_call h
+  tree_breaks Output u h = absurd u
+  tree_breaks LoopVariables u h = absurd u
+  tree_breaks Limits u h = absurd u
 
   breaks_back : (r : Rule) → TreeBreaks p r (site_tree s) place → BreaksAt p r s place
-  breaks_back C1' h = absurd h
-  breaks_back C2' h = moved place (sym (same_places s.spot s.act).by2) h
-  breaks_back C3' h = moved place (sym (same_places s.spot s.act).by3) h
-  breaks_back C4' h = moved place (sym (same_places s.spot s.act).by4) h
-  breaks_back C5' h = moved place (sym (same_places s.spot s.act).by5) h
-  breaks_back C6' h = moved place (sym (same_places s.spot s.act).by6) h
-  breaks_back C7' h = absurd h
-  breaks_back C8' h = call_back h
-  breaks_back C9' h = absurd h
-  breaks_back C10' h = absurd h
-  breaks_back C11' h = absurd h
+  breaks_back Names h = absurd h
+  breaks_back OuterVariables h = moved place (sym (same_places s.spot s.act).by2) h
+  breaks_back Reductions h = moved place (sym (same_places s.spot s.act).by3) h
+  breaks_back TableWrites h = moved place (sym (same_places s.spot s.act).by4) h
+  breaks_back TableReads h = moved place (sym (same_places s.spot s.act).by5) h
+  breaks_back CarryLists h = moved place (sym (same_places s.spot s.act).by6) h
+  breaks_back Functions h = absurd h
+  breaks_back ReadingCalls h = call_back h
+  breaks_back Output h = absurd h
+  breaks_back LoopVariables h = absurd h
+  breaks_back Limits h = absurd h
 
 -- ---- programs with one tree
 
 module _ (p q : Program) (same : program_of p ≡ program_of q) where
   breaks_too : (r : Rule) (t : SiteTree) (place : Place) → TreeBreaks p r t place → TreeBreaks q r t place
-  breaks_too C1' t place h = h
-  breaks_too C2' t place h = h
-  breaks_too C3' t place h = h
-  breaks_too C4' t place h = h
-  breaks_too C5' t place h = h
-  breaks_too C6' t place h = h
-  breaks_too C7' t place h = h
-  breaks_too C8' t place h =
+  breaks_too Names t place h = h
+  breaks_too OuterVariables t place h = h
+  breaks_too Reductions t place h = h
+  breaks_too TableWrites t place h = h
+  breaks_too TableReads t place h = h
+  breaks_too CarryLists t place h = h
+  breaks_too Functions t place h = h
+  breaks_too ReadingCalls t place h =
       record { callee = h.callee; is_call = h.is_call; table = h.table; reads = reads_too p q same h.callee.text h.table h.reads; carried = h.carried; here = h.here }
-  breaks_too C9' t place h = h
-  breaks_too C10' t place h = h
-  breaks_too C11' t place h = h
+  breaks_too Output t place h = h
+  breaks_too LoopVariables t place h = h
+  breaks_too Limits t place h = h
 
   site_too : (s : Site) → Contains (sites p) s → Stands (sites q) (site_tree s)
   site_too s h =

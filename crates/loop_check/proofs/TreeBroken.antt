@@ -14,8 +14,8 @@ use Rattle.loop_syntax.specs.declared.statement.Reduce.{Reduce}
 use Rattle.loop_syntax.specs.Tree.{Spelled, spelled, Tree, TInt, TVar, tree_of, RowTree, RVar, RInt, row_of, CarryTree, CRows, CCells, carry_of, ReduceTree, reduce_of}
 use Rattle.loop_rules.specs.Names.{is_in, table_name, operator_of, item_of}
 use Rattle.loop_rules.specs.Sites.{Loop, Act, DeclaresTable, DeclaresFunc, DeclaresAll, Declares, Uses, Assigns, Folds, AssignsBoth, NamesTable, ReadsCell, WritesCell, Calls, Evaluates, Shows, Parallel, Spot}
-use Rattle.loop_rules.specs.Reductions.{any_loop, is_op, some_op, reduced, nearest_reduces, other_operator, reduced_otherwise, bad_targets, c2, c3}
-use Rattle.loop_rules.specs.Carries.{is_some_item, carries, is_var, is_int, is_row, fits, fits_some, has_shape, bad_write, bad_read, last_index, row_reduced, is_rows_item, is_within, outside_nearest, bad_item, bad_items, c4, c5, c6}
+use Rattle.loop_rules.specs.Reductions.{any_loop, is_op, some_op, reduced, nearest_reduces, other_operator, reduced_otherwise, bad_targets, outer_set, misreduced}
+use Rattle.loop_rules.specs.Carries.{is_some_item, carries, is_var, is_int, is_row, fits, fits_some, has_shape, bad_write, bad_read, last_index, row_reduced, is_rows_item, is_within, outside_nearest, bad_item, bad_items, miswritten, misread, miscarried}
 use Rattle.loop_rules.proofs.TreeRules.{at_name, carried}
 use Rattle.loop_check.proofs.TreeSites.{LoopTree, ActTree, Declared, Used, Assigned, Folded, Read, Written, InParallel}
 use Rattle.loop_check.proofs.TreeWalk.{loop_tree, rounds_tree, act_tree}
@@ -296,11 +296,11 @@ six _ rs = []
 
 -- each rule is broken at the same places
 pub record SamePlaces (a : Act) (w : Spot) : Type 0 where
-  pub by2 : c2 a w ≡ two (act_tree a) (rounds_tree w.rounds)
-  pub by3 : c3 a w ≡ three (act_tree a) (rounds_tree w.rounds)
-  pub by4 : c4 a w ≡ four (act_tree a) (rounds_tree w.rounds)
-  pub by5 : c5 a w ≡ five (act_tree a) (rounds_tree w.rounds)
-  pub by6 : c6 a w ≡ six (act_tree a) (rounds_tree w.rounds)
+  pub by2 : outer_set a w ≡ two (act_tree a) (rounds_tree w.rounds)
+  pub by3 : misreduced a w ≡ three (act_tree a) (rounds_tree w.rounds)
+  pub by4 : miswritten a w ≡ four (act_tree a) (rounds_tree w.rounds)
+  pub by5 : misread a w ≡ five (act_tree a) (rounds_tree w.rounds)
+  pub by6 : miscarried a w ≡ six (act_tree a) (rounds_tree w.rounds)
 
 module _ (w : Spot) where
   abbrev reduced_at : Name → Type 0

@@ -17,7 +17,7 @@ use Rattle.loop_syntax.specs.declared.Stmt.TheVariants.{Loop, Par, Let, Set, Put
 use Rattle.loop_rules.specs.Sites.{Site, Spot, site, Calls, top, tables_of, func_spot, spot_of_list, in_func, in_params, declared_var, in_expr, in_whole, in_args, in_app, in_carries, in_stmt, in_all, in_list, in_loop, in_par, spot_after}
 use Rattle.loop_check.specs.declared.usage.Usage.{Usage}
 use Rattle.loop_check.specs.Usage.{is_use, any_use, anywhere}
-use Rattle.loop_check.proofs.Walking.{in_looped, in_parallel}
+use Rattle.loop_rules.proofs.Walking.{in_looped, in_parallel}
 
 pub any_append : (u : Usage) (b : Bool) (xs ys : List Site) → any_use u b (xs ++ ys) ≡ any_use u (any_use u b xs) ys
 any_append u b [] ys = refl

@@ -5,23 +5,28 @@ use Rattle.loop_syntax.specs.declared.Program.{Program}
 use Rattle.loop_rules.specs.declared.resolved.RuleFault.{RuleFault}
 use Rattle.loop_rules.specs.declared.resolved.RuleFault.TheVariants as faults
 use Rattle.loop_rules.specs.Resolving.{IsNoLater}
-use Rattle.loop_rules.specs.Broken.{Rule, C1', C2', C3', C4', C5', C6', C7', C8', C9', C10', C11'}
-use Rattle.loop_rules.specs.Broken.{number_of, Broken}
-use Rattle.loop_check.specs.declared.fault.Fault.{Fault}
+use Rattle.loop_rules.specs.declared.rule.Rule.{Rule}
+use Rattle.loop_rules.specs.declared.rule.Rule.TheVariants.{Names, OuterVariables, Reductions}
+use Rattle.loop_rules.specs.declared.rule.Rule.TheVariants.{TableWrites, TableReads, CarryLists}
+use Rattle.loop_rules.specs.declared.rule.Rule.TheVariants.{Functions, ReadingCalls, Output}
+use Rattle.loop_rules.specs.declared.rule.Rule.TheVariants.{LoopVariables, Limits}
+use Rattle.loop_rules.specs.Broken.{Broken}
+use Rattle.loop_rules.specs.Rules.{number_of}
+use Rattle.loop_rules.specs.declared.fault.Fault.{Fault}
 
 -- whether `check` looks at a rule
 abbrev pub IsOfCheck : Rule → Type 0
-IsOfCheck C1' = ⊥
-IsOfCheck C2' = Unit {0}
-IsOfCheck C3' = Unit {0}
-IsOfCheck C4' = Unit {0}
-IsOfCheck C5' = Unit {0}
-IsOfCheck C6' = Unit {0}
-IsOfCheck C7' = ⊥
-IsOfCheck C8' = Unit {0}
-IsOfCheck C9' = ⊥
-IsOfCheck C10' = ⊥
-IsOfCheck C11' = ⊥
+IsOfCheck Names = ⊥
+IsOfCheck OuterVariables = Unit {0}
+IsOfCheck Reductions = Unit {0}
+IsOfCheck TableWrites = Unit {0}
+IsOfCheck TableReads = Unit {0}
+IsOfCheck CarryLists = Unit {0}
+IsOfCheck Functions = ⊥
+IsOfCheck ReadingCalls = Unit {0}
+IsOfCheck Output = ⊥
+IsOfCheck LoopVariables = ⊥
+IsOfCheck Limits = ⊥
 
 -- a rule of that number is broken at the place, and none of them comes before it
 pub record IsFirstBroken (program : Program) (number : ℕ) (place : Place) : Type 0 where
@@ -43,4 +48,4 @@ IsCause program faults.NoMemory = Unit {0}
 abbrev pub IsVerdict : Program → Option Fault → Type 0
 IsVerdict program None =
     (rule : Rule) (place : Place) → IsOfCheck rule → Broken program rule place → ⊥
-IsVerdict program (Some fault) = IsFirstBroken program fault.rule fault.place
+IsVerdict program (Some fault) = IsFirstBroken program (number_of fault.rule) fault.place

@@ -11,12 +11,13 @@ use Rattle.loop_check.specs.Usage.{uses}
 
 -- the names with those functions that do that and aren't among them
 abbrev pub add_users : Program → Usage → List Func → List (List ℕ) → List (List ℕ)
-add_users p u [] xs = xs
-add_users p u (f ∷ fs) xs =
-    add_users p u fs
+add_users program usage [] names = names
+add_users program usage (func ∷ funcs) names =
+    add_users program usage funcs
     (cond
-    (not (is_in xs f.name.text.items) && uses p u (func_of p.funcs.items f.name.text.items))
-    (xs ++ f.name.text.items ∷ []) xs)
+    (not (is_in names func.name.text.items)
+    && uses program usage (func_of program.funcs.items func.name.text.items))
+    (names ++ func.name.text.items ∷ []) names)
 
 -- a function and a table
 pub record Pair : Type 0 where
@@ -24,21 +25,22 @@ pub record Pair : Type 0 where
   pub table : List ℕ
 
 abbrev pub pair : List ℕ → List ℕ → Pair
-pair t f = record { func = f; table = t }
+pair table func = record { func = func; table = table }
 
 -- what readers stand for
 abbrev pub pairs_of : List Reader → List Pair
-pairs_of rs = map (λ r. pair r.table.now r.func.now) rs
+pairs_of readers = map (λ reader. pair reader.table.now reader.func.now) readers
 
 -- these are exactly the functions that read the table t, themselves or through calls
-pub record IsReadersOf (p : Program) (t : List ℕ) (xs : List (List ℕ)) : Type 0 where
-  pub sound : (f : List ℕ) → is_in xs f ≡ true → ReadsTable p f t
-  pub complete : (f : List ℕ) → ReadsTable p f t → is_in xs f ≡ true
+pub record IsReadersOf (program : Program) (table : List ℕ) (names : List (List ℕ)) : Type 0 where
+  pub sound : (func : List ℕ) → is_in names func ≡ true → ReadsTable program func table
+  pub complete : (func : List ℕ) → ReadsTable program func table → is_in names func ≡ true
 
 -- the readers are exactly the functions that read one of these tables, each with it
-pub record IsReaders (p : Program) (tables : List Name) (rs : List Reader) : Type 0 where
-  pub sound : (r : Pair) → Contains (pairs_of rs) r → ReadsTable p r.func r.table
-  pub complete : (f t : List ℕ)
-      → is_in (texts tables) t ≡ true
-      → ReadsTable p f t
-      → Contains (pairs_of rs) (pair t f)
+pub record IsReaders (program : Program) (tables : List Name) (readers : List Reader) : Type 0 where
+  pub sound : (read : Pair) → Contains (pairs_of readers) read →
+      ReadsTable program read.func read.table
+  pub complete : (func table : List ℕ)
+      → is_in (texts tables) table ≡ true
+      → ReadsTable program func table
+      → Contains (pairs_of readers) (pair table func)

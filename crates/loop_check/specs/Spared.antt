@@ -10,32 +10,35 @@ use Rattle.loop_meaning.specs.Cells.{Cell, read_cells, write_cells, Body, bodies
 use Rattle.loop_meaning.specs.State.{State, Emits, Ran}
 
 -- what an iteration of a `par` leaves alone, which begins in that state and runs so
-pub record Spares (b : Body) (s : State) (r : Ran) : Type 0 where
+pub record Spares (body : Body) (state : State) (ran : Ran) : Type 0 where
   -- of the tables that `par` loops round this one carry it touches only those that this one carries
   -- too
-  pub tables : (c : Cell) → Contains (read_cells r.notes ++ write_cells r.notes) c
-      → any_loop (carries c.table) b.rounds ≡ true → carries c.table b.loop ≡ true
+  pub tables : (cell : Cell) → Contains (read_cells ran.notes ++ write_cells ran.notes) cell
+      → any_loop (carries cell.table) body.rounds ≡ true → carries cell.table body.loop ≡ true
   -- it prints no number, and no table
-  pub output : r.state.output ≡ s.output
-  pub emits : (t : List ℕ) → ¬ (Contains r.notes (Emits t))
+  pub output : ran.state.output ≡ state.output
+  pub emits : (table : List ℕ) → ¬ (Contains ran.notes (Emits table))
 
 -- what a call of the function f leaves alone
-pub record CallSpares (p : Program) (f : List ℕ) (s : State) (r : Ran) : Type 0 where
+pub record CallSpares (program : Program) (func : List ℕ) (state : State) (ran : Ran) : Type 0 where
   -- it writes no cell, and prints nothing
-  pub tables : r.state.tables ≡ s.tables
-  pub writes : (c : Cell) → ¬ (Contains (write_cells r.notes) c)
-  pub output : r.state.output ≡ s.output
-  pub emits : (t : List ℕ) → ¬ (Contains r.notes (Emits t))
+  pub tables : ran.state.tables ≡ state.tables
+  pub writes : (cell : Cell) → ¬ (Contains (write_cells ran.notes) cell)
+  pub output : ran.state.output ≡ state.output
+  pub emits : (table : List ℕ) → ¬ (Contains ran.notes (Emits table))
   -- each cell that it reads is of a table that the function reads, itself or through calls
-  pub reads : (c : Cell) → Contains (read_cells r.notes) c → ReadsTable p f c.table
+  pub reads : (cell : Cell) → Contains (read_cells ran.notes) cell
+      → ReadsTable program func cell.table
 
 -- the run of a call
 abbrev pub call_of : Program → ℕ → ℕ → List ℕ → Place → List ℤ → State → Ran
-call_of p fuel depth f place ns s = ((setting p fuel depth []).call f place ns [] s).ran
+call_of program fuel depth func place arguments state =
+    ((setting program fuel depth []).call func place arguments [] state).ran
 
 -- each iteration of a `par` of the program, and each call, leaves that alone, from whatever state
-pub record Spared (p : Program) : Type 0 where
-  pub each : (b : Body) → Contains (bodies_of p) b → (fuel depth : ℕ) (s : State) (i : ℤ)
-      → Spares b s (run_of p fuel depth b i s)
-  pub calls : (f : List ℕ) (fuel depth : ℕ) (place : Place) (ns : List ℤ) (s : State)
-      → CallSpares p f s (call_of p fuel depth f place ns s)
+pub record Spared (program : Program) : Type 0 where
+  pub each : (body : Body) → Contains (bodies_of program) body
+      → (fuel depth : ℕ) (state : State) (i : ℤ)
+      → Spares body state (run_of program fuel depth body i state)
+  pub calls : (func : List ℕ) (fuel depth : ℕ) (place : Place) (arguments : List ℤ) (state : State)
+      → CallSpares program func state (call_of program fuel depth func place arguments state)

@@ -9,24 +9,24 @@ use Rattle.loop_check.specs.Walk.{spot}
 
 -- whether that is a read of the table t
 abbrev pub reads_table : Usage → List ℕ → Bool
-reads_table (usage.Reads u) t = bytes_eq t u.now
-reads_table (usage.Calls g) t = false
+reads_table (usage.Reads read) table = bytes_eq table read.now
+reads_table (usage.Calls called) table = false
 
 -- whether that is a call of the function f
 abbrev pub calls_func : Usage → List ℕ → Bool
-calls_func (usage.Reads u) f = false
-calls_func (usage.Calls g) f = bytes_eq f g.now
+calls_func (usage.Reads read) func = false
+calls_func (usage.Calls called) func = bytes_eq func called.now
 
 -- whether that is done at a place
 abbrev pub is_use : Usage → Act → Bool
-is_use u (ReadsCell t a b) = reads_table u t.text.items
-is_use u (Calls f n) = calls_func u f.text.items
-is_use u _ = false
+is_use what (ReadsCell table row_index column_index) = reads_table what table.text.items
+is_use what (Calls func arguments) = calls_func what func.text.items
+is_use what _ = false
 
 -- whether that was found, or is done at one of these places
 abbrev pub any_use : Usage → Bool → List Site → Bool
-any_use u found [] = found
-any_use u found (s ∷ ss) = any_use u (is_use u s.act || found) ss
+any_use what found [] = found
+any_use what found (site ∷ sites) = any_use what (is_use what site.act || found) sites
 
 -- a spot that nothing is known of
 abbrev pub anywhere : Spot
@@ -34,5 +34,5 @@ anywhere = spot [] []
 
 -- whether a function does that
 abbrev pub uses : Program → Usage → Option Func → Bool
-uses p u None = false
-uses p u (Some g) = any_use u false (in_func p g)
+uses program what None = false
+uses program what (Some func) = any_use what false (in_func program func)

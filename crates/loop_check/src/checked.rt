@@ -8,10 +8,9 @@ ghost use Rattle.loop_check.specs.Parts.{Parted};
 ghost use Rattle.loop_check.specs.Spared.{Spared};
 ghost use Rattle.loop_check.specs.Unbroken.{NoneBroken};
 
-use crate::fault::Fault;
 use crate::readers::all_readers;
 use crate::whole::first_fault;
-use loop_rules::{Resolved, RuleFault};
+use loop_rules::{Fault, Resolved, RuleFault};
 use loop_syntax::Program;
 use std::alloc::Global;
 use std::marker::Model;
@@ -83,7 +82,7 @@ pub fn check(alloc: Global, program: Resolved) -> Result<Checked, RuleFault>
     match fault_of(alloc, program.program())? {
         None => Ok(Checked { resolved: program }),
         Some(fault) => Err(RuleFault::Broken {
-            rule: fault.rule,
+            rule: fault.rule.number(),
             place: fault.place,
         }),
     }

@@ -33,20 +33,22 @@ pub fn spared(program: &Program)
 
 /// Where a program lies in memory is no matter: of two programs with one tree both break no rule at
 /// all or neither, and both have the same first broken one of those that `check` looks at.
-pub fn only_the_tree_counts(p: &Program, q: &Program)
-    ensures unbroken { program_of p.now ≡ program_of q.now → NoneBroken p.now → NoneBroken q.now }
-    ensures broken { program_of p.now ≡ program_of q.now
+pub fn only_the_tree_counts(program: &Program, other: &Program)
+    ensures unbroken { program_of program.now ≡ program_of other.now → NoneBroken program.now →
+        NoneBroken other.now }
+    ensures broken { program_of program.now ≡ program_of other.now
         → (rule : ℕ) (place : Place)
-        → IsFirstBroken p.now rule place
-        → IsFirstBroken q.now rule place }
+        → IsFirstBroken program.now rule place
+        → IsFirstBroken other.now rule place }
 {}
 
 /// Of the rules that `check` looks at a program has one first broken rule, and none where it breaks
 /// no rule.
-pub fn one_rule_is_first(p: &Program)
+pub fn one_rule_is_first(program: &Program)
     ensures alone { (rule other : ℕ) (place elsewhere : Place)
-        → IsFirstBroken p.now rule place
-        → IsFirstBroken p.now other elsewhere
+        → IsFirstBroken program.now rule place
+        → IsFirstBroken program.now other elsewhere
         → (rule ≡ other) × (place ≡ elsewhere) }
-    ensures not_both { (rule : ℕ) (place : Place) → NoneBroken p.now → IsFirstBroken p.now rule place → ⊥ }
+    ensures not_both { (rule : ℕ) (place : Place) → NoneBroken program.now →
+        IsFirstBroken program.now rule place → ⊥ }
 {}

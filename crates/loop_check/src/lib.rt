@@ -6,7 +6,6 @@
 mod checked;
 mod clauses;
 mod expression;
-mod fault;
 pub mod laws;
 mod names;
 mod reader;

@@ -2,64 +2,42 @@
 
 ghost use Rattle.std.specs.Prelude.{◌≡◌, MatchOption, Option, None, Some, map};
 ghost use Rattle.std.specs.Borrow.{Bor};
-ghost use Rattle.loop_rules.specs.Names.{is_in, operator_of, item_of, table_name};
+ghost use Rattle.loop_rules.specs.Names.{is_in, item_of};
 ghost use Rattle.loop_rules.specs.Reductions.{is_op};
 ghost use Rattle.loop_check.specs.Walk.{texts_of};
 
-use loop_syntax::{Carry, Name, Reduce};
+use loop_syntax::Carry;
 use tp_value::Op;
 
 /// Whether a name is among these.
-pub fn is_in(names: &[&[u8]], x: &[u8]) -> bool
-    ensures { result ≡ is_in (texts_of names.now) x.now }
+pub fn is_in(names: &[&[u8]], name: &[u8]) -> bool
+    ensures { result ≡ is_in (texts_of names.now) name.now }
 {
     for y in names {
-        if *y == x {
+        if *y == name {
             return true;
         }
     }
     false
 }
 
-/// The operator that a reduce list gives to x, the first where it names x twice.
-pub fn operator_of(reduces: &[Reduce], x: &[u8]) -> Option<Op>
-    ensures { result ≡ operator_of reduces.now x.now }
-{
-    for r in reduces {
-        if r.target.text.as_slice() == x {
-            return Some(r.op);
-        }
-    }
-    None
-}
-
 /// Whether there is an operator, and it is this one.
-pub fn is_op(o: Op, p: Option<Op>) -> bool
-    ensures { result ≡ is_op o p }
+pub fn is_op(op: Op, other: Option<Op>) -> bool
+    ensures { result ≡ is_op op other }
 {
-    match p {
+    match other {
         None => false,
-        Some(q) => o == q,
-    }
-}
-
-/// The table of a carry item.
-pub fn table_name(c: &Carry) -> &Name
-    ensures { result.now ≡ table_name c.now }
-{
-    match c {
-        Carry::Rows(t, _) => t,
-        Carry::Cells(t, _, _) => t,
+        Some(q) => op == q,
     }
 }
 
 /// The item of a carry list for that table, the first where it names the table twice.
-pub fn item_of<'a>(carries: &'a [Carry], t: &[u8]) -> Option<&'a Carry>
-    ensures { MatchOption result (item_of carries.now t.now ≡ None)
-        (λ c. item_of carries.now t.now ≡ Some c.now) }
+pub fn item_of<'a>(carries: &'a [Carry], table: &[u8]) -> Option<&'a Carry>
+    ensures { MatchOption result (item_of carries.now table.now ≡ None)
+        (λ c. item_of carries.now table.now ≡ Some c.now) }
 {
     for c in carries {
-        if table_name(c).text.as_slice() == t {
+        if c.table().text.as_slice() == table {
             return Some(c);
         }
     }

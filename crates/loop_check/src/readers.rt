@@ -1,7 +1,6 @@
 // Which functions read which tables, themselves or through calls.
 
 ghost use Rattle.std.specs.Prelude.{◌≡◌, ◌++◌, IfOk, map};
-ghost use Rattle.loop_rules.specs.Declarations.{table_of_decl};
 ghost use Rattle.loop_rules.specs.Sites.{tables_of};
 ghost use Rattle.loop_check.specs.Walk.{texts_of};
 ghost use Rattle.loop_check.specs.Readers.{add_users, IsReadersOf, pair, pairs_of, IsReaders};
@@ -9,18 +8,22 @@ ghost use Rattle.loop_check.specs.Readers.{add_users, IsReadersOf, pair, pairs_o
 use crate::names::is_in;
 use crate::reader::Reader;
 use crate::usage::{Usage, uses};
-use loop_syntax::{Name, Program, TableDecl};
+use loop_syntax::Program;
 use std::alloc::Global;
 use tp_value::NoMemory;
 
 /// Adds the functions that do that, each once.
-fn add_users<'a>(names: &mut Vec<&'a [u8]>, program: &'a Program, u: &Usage) -> Result<(), NoMemory>
+fn add_users<'a>(
+    names: &mut Vec<&'a [u8]>,
+    program: &'a Program,
+    usage: &Usage,
+) -> Result<(), NoMemory>
     ensures { IfOk result
         (λ r. texts_of names.new.items
-        ≡ add_users program.now u.now program.now.funcs.items (texts_of names.old.items)) }
+        ≡ add_users program.now usage.now program.now.funcs.items (texts_of names.old.items)) }
 {
     for f in &program.funcs {
-        if !is_in(names, &f.name.text) && uses(program, &f.name.text, u) {
+        if !is_in(names, &f.name.text) && uses(program, &f.name.text, usage) {
             names.push(&f.name.text)?;
         }
     }
@@ -29,11 +32,15 @@ fn add_users<'a>(names: &mut Vec<&'a [u8]>, program: &'a Program, u: &Usage) -> 
 
 /// The functions that read a table. Those that read it themselves come first; behind each function
 /// come those that call it.
-fn readers_of<'a>(alloc: Global, program: &'a Program, t: &[u8]) -> Result<Vec<&'a [u8]>, NoMemory>
-    ensures { IfOk result (λ names. IsReadersOf program.now t.now (texts_of names.items)) }
+fn readers_of<'a>(
+    alloc: Global,
+    program: &'a Program,
+    table: &[u8],
+) -> Result<Vec<&'a [u8]>, NoMemory>
+    ensures { IfOk result (λ names. IsReadersOf program.now table.now (texts_of names.items)) }
 {
     let mut names = Vec::new(alloc);
-    add_users(&mut names, program, &Usage::Reads(t))?;
+    add_users(&mut names, program, &Usage::Reads(table))?;
     for i in 0..usize::MAX {
         if i >= names.len() {
             return Ok(names);
@@ -60,23 +67,13 @@ fn push_readers<'a>(
     Ok(())
 }
 
-/// The name of a declared table.
-fn table_of_decl(d: &TableDecl) -> &Name
-    ensures { result.now ≡ table_of_decl d.now }
-{
-    match d {
-        TableDecl::Input(t) => t,
-        TableDecl::Made(t, _, _) => t,
-    }
-}
-
 /// The functions that read declared tables, each with each table that it reads.
 pub fn all_readers<'a>(alloc: Global, program: &'a Program) -> Result<Vec<Reader<'a>>, NoMemory>
     ensures { IfOk result (λ readers. IsReaders program.now (tables_of program.now) readers.items) }
 {
     let mut readers = Vec::new(alloc);
     for d in &program.tables {
-        let t = table_of_decl(d);
+        let t = d.name();
         let names = readers_of(alloc, program, &t.text)?;
         push_readers(&mut readers, &names, &t.text)?;
     }

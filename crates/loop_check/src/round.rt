@@ -4,8 +4,8 @@ ghost use Rattle.std.specs.Prelude.{◌≡◌, map};
 ghost use Rattle.loop_rules.specs.Reductions.{any_loop};
 ghost use Rattle.loop_check.specs.Walk.{loop_of, rounds_of, holds, nearest_holds};
 
-use crate::names::{is_in, is_op, item_of, operator_of};
-use loop_syntax::{ParLoop, Reduce};
+use crate::names::{is_in, is_op, item_of};
+use loop_syntax::{ParLoop, Reduce, operator_of};
 
 /// A `par`, with the variables that are declared outside its body.
 #[derive(Clone, Copy)]

@@ -11,11 +11,11 @@ use crate::round::Round;
 use loop_syntax::{Carry, Expr, RowAt};
 
 /// Whether an index is that bare name.
-fn is_var(e: &Expr, y: &[u8]) -> bool
-    ensures { result ≡ is_var e.now y.now }
+fn is_var(index: &Expr, name: &[u8]) -> bool
+    ensures { result ≡ is_var index.now name.now }
 {
-    match e {
-        Expr::Var(x) => x.text.as_slice() == y,
+    match index {
+        Expr::Var(x) => x.text.as_slice() == name,
         Expr::Int(_, _) => false,
         Expr::Cell(_, _, _) => false,
         Expr::Rows(_) => false,
@@ -26,11 +26,11 @@ fn is_var(e: &Expr, y: &[u8]) -> bool
 }
 
 /// Whether an index is that bare literal, by its value.
-fn is_int(e: &Expr, m: i64) -> bool
-    ensures { result ≡ is_int e.now m }
+fn is_int(index: &Expr, number: i64) -> bool
+    ensures { result ≡ is_int index.now number }
 {
-    match e {
-        Expr::Int(n, _) => *n == m,
+    match index {
+        Expr::Int(n, _) => *n == number,
         Expr::Var(_) => false,
         Expr::Cell(_, _, _) => false,
         Expr::Rows(_) => false,
@@ -40,41 +40,41 @@ fn is_int(e: &Expr, m: i64) -> bool
     }
 }
 
-fn is_row(k: &RowAt, a: &Expr) -> bool
-    ensures { result ≡ is_row k.now a.now }
+fn is_row(fixed: &RowAt, index: &Expr) -> bool
+    ensures { result ≡ is_row fixed.now index.now }
 {
-    match k {
-        RowAt::Var(k) => is_var(a, &k.text),
-        RowAt::Int(n) => is_int(a, *n),
+    match fixed {
+        RowAt::Var(k) => is_var(index, &k.text),
+        RowAt::Int(n) => is_int(index, *n),
     }
 }
 
 /// Whether a cell has the shape of a carry item.
-fn fits(c: &Carry, a: &Expr, b: &Expr) -> bool
-    ensures { result ≡ fits c.now a.now b.now }
+fn fits(item: &Carry, row: &Expr, column: &Expr) -> bool
+    ensures { result ≡ fits item.now row.now column.now }
 {
-    match c {
-        Carry::Rows(_, i) => is_var(a, &i.text),
-        Carry::Cells(_, k, j) => is_row(k, a) && is_var(b, &j.text),
+    match item {
+        Carry::Rows(_, i) => is_var(row, &i.text),
+        Carry::Cells(_, k, j) => is_row(k, row) && is_var(column, &j.text),
     }
 }
 
 /// Whether a `par` carries t, and the cell has the shape of that item.
-pub fn has_shape(round: &Round, t: &[u8], a: &Expr, b: &Expr) -> bool
-    ensures { result ≡ has_shape (loop_of round.now) t.now a.now b.now }
+pub fn has_shape(round: &Round, table: &[u8], row: &Expr, column: &Expr) -> bool
+    ensures { result ≡ has_shape (loop_of round.now) table.now row.now column.now }
 {
-    match item_of(&round.par.carries, t) {
-        Some(c) => fits(c, a, b),
+    match item_of(&round.par.carries, table) {
+        Some(c) => fits(c, row, column),
         None => false,
     }
 }
 
 /// Whether a `par` carries `t[i]` with the row i.
-fn carries_row(round: &Round, t: &[u8], k: &RowAt) -> bool
-    ensures { result ≡ is_rows_item (item_of (loop_of round.now).carries t.now) k.now }
+fn carries_row(round: &Round, table: &[u8], fixed: &RowAt) -> bool
+    ensures { result ≡ is_rows_item (item_of (loop_of round.now).carries table.now) fixed.now }
 {
-    match item_of(&round.par.carries, t) {
-        Some(Carry::Rows(_, i)) => match k {
+    match item_of(&round.par.carries, table) {
+        Some(Carry::Rows(_, i)) => match fixed {
             RowAt::Var(k) => i.text.as_slice() == k.text.as_slice(),
             RowAt::Int(_) => false,
         },
@@ -84,10 +84,10 @@ fn carries_row(round: &Round, t: &[u8], k: &RowAt) -> bool
 }
 
 /// Whether an item is `t[i][j]` where that `par` carries `t[i]`.
-pub fn is_within(round: &Round, c: &Carry) -> bool
-    ensures { result ≡ is_within (loop_of round.now) c.now }
+pub fn is_within(round: &Round, item: &Carry) -> bool
+    ensures { result ≡ is_within (loop_of round.now) item.now }
 {
-    match c {
+    match item {
         Carry::Rows(_, _) => false,
         Carry::Cells(t, k, _) => carries_row(round, &t.text, k),
     }

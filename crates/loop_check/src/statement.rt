@@ -1,175 +1,191 @@
 // The walk over statements.
 
 ghost use Rattle.std.specs.Prelude.{◌≡◌, ◌∷◌, ◌++◌, IfOk, IsTrue};
-ghost use Rattle.loop_rules.specs.Carries.{c4, bad_write};
-ghost use Rattle.loop_rules.specs.Reductions.{c2, c3};
+ghost use Rattle.loop_rules.specs.Carries.{miswritten, bad_write};
+ghost use Rattle.loop_rules.specs.Reductions.{outer_set, misreduced};
 ghost use Rattle.loop_rules.specs.Sites.{site, spot_after, spot_of_list, in_stmt, in_list};
 ghost use Rattle.loop_rules.specs.Sites.{in_whole, declared_var, in_par, the_loop, Assigns, Folds};
 ghost use Rattle.loop_rules.specs.Sites.{Declares, WritesCell};
-ghost use Rattle.loop_check.specs.Search.{lowest, lowest_in};
+ghost use Rattle.loop_rules.specs.Search.{lowest, lowest_in};
+ghost use Rattle.loop_check.specs.Search.{checked_rules};
 ghost use Rattle.loop_check.specs.Walk.{texts_of, rounds_of, spot, inside, Walked};
 
 use crate::clauses::parallel;
-use crate::expression::{REDUCED, in_app, in_carries, in_whole, occurs};
-use crate::fault::{Fault, note_if};
+use crate::expression::{in_app, in_carries, in_whole, occurs};
 use crate::reader::Reader;
 use crate::round::{Round, Test, any_round, nearest};
 use crate::shape::has_shape;
 use crate::spot::Spot;
+use loop_rules::{Fault, Rule, note_if};
 use loop_syntax::{App, Expr, Name, ParLoop, Stmt};
 use std::alloc::Global;
 use tp_value::NoMemory;
 
-/// The number of the rule on variables that a body may not set.
-const OUTSIDE: u8 = 2;
-
-/// The number of the rule on writes.
-const WRITES: u8 = 4;
-
-fn assigns(w: &Spot, found: &mut Option<Fault>, x: &Name)
+fn assigns(spot: &Spot, found: &mut Option<Fault>, variable: &Name)
     ensures { found.new
-        ≡ lowest (lowest found.old 2 (c2 (Assigns x.now) (inside w.now))) 3
-        (c3 (Assigns x.now) (inside w.now)) }
+        ≡ lowest (lowest found.old Rule.OuterVariables (outer_set (Assigns variable.now)
+        (inside spot.now)))
+        Rule.Reductions
+        (misreduced (Assigns variable.now) (inside spot.now)) }
 {
-    let outside = any_round(w.rounds, &Test::Outside(&x.text));
-    note_if(found, OUTSIDE, outside, x.place);
-    let reduced = any_round(w.rounds, &Test::Reduces(&x.text));
-    note_if(found, REDUCED, reduced, x.place);
+    let outside = any_round(spot.rounds, &Test::Outside(&variable.text));
+    note_if(found, Rule::OuterVariables, outside, variable.place);
+    let reduced = any_round(spot.rounds, &Test::Reduces(&variable.text));
+    note_if(found, Rule::Reductions, reduced, variable.place);
 }
 
-fn folds(w: &Spot, found: &mut Option<Fault>, x: &Name)
-    ensures { found.new ≡ lowest found.old 3 (c3 (Folds x.now) (inside w.now)) }
+fn folds(spot: &Spot, found: &mut Option<Fault>, variable: &Name)
+    ensures { found.new
+        ≡ lowest found.old Rule.Reductions (misreduced (Folds variable.now) (inside spot.now)) }
 {
-    let reduced = nearest(w.rounds, &Test::Reduces(&x.text));
-    note_if(found, REDUCED, !reduced, x.place);
+    let reduced = nearest(spot.rounds, &Test::Reduces(&variable.text));
+    note_if(found, Rule::Reductions, !reduced, variable.place);
 }
 
 /// Whether a write is inside loops that don't all carry the table, or without the nearest one's
 /// shape.
-fn bad_write(rounds: &[Round], t: &[u8], a: &Expr, b: &Expr) -> bool
-    ensures { result ≡ bad_write (rounds_of rounds.now) t.now a.now b.now }
+fn bad_write(rounds: &[Round], table: &[u8], row: &Expr, column: &Expr) -> bool
+    ensures { result ≡ bad_write (rounds_of rounds.now) table.now row.now column.now }
 {
     match rounds.first() {
-        Some(round) => any_round(rounds, &Test::Lacks(t)) || !has_shape(round, t, a, b),
+        Some(round) => any_round(rounds, &Test::Lacks(table))
+            || !has_shape(round, table, row, column),
         None => false,
     }
 }
 
-fn writes(w: &Spot, found: &mut Option<Fault>, t: &Name, a: &Expr, b: &Expr)
-    ensures { found.new ≡ lowest found.old 4 (c4 (WritesCell t.now a.now b.now) (inside w.now)) }
+fn writes(spot: &Spot, found: &mut Option<Fault>, table: &Name, row: &Expr, column: &Expr)
+    ensures { found.new
+        ≡ lowest found.old Rule.TableWrites (miswritten (WritesCell table.now row.now column.now)
+        (inside spot.now)) }
 {
-    note_if(found, WRITES, bad_write(w.rounds, &t.text, a, b), t.place);
+    note_if(
+        found,
+        Rule::TableWrites,
+        bad_write(spot.rounds, &table.text, row, column),
+        table.place,
+    );
 }
 
 // Statements without blocks.
 
 fn in_put(
-    w: &Spot,
+    spot: &Spot,
     readers: &[Reader],
     found: &mut Option<Fault>,
-    t: &Name,
-    a: &Expr,
-    b: &Expr,
-    e: &Expr,
+    table: &Name,
+    row: &Expr,
+    column: &Expr,
+    value: &Expr,
 )
     ensures { found.new
-        ≡ lowest_in readers.now found.old
-        (in_stmt (inside w.now) (Stmt.Put t.now a.now b.now e.now)) }
+        ≡ lowest_in (checked_rules readers.now) found.old
+        (in_stmt (inside spot.now) (Stmt.Put table.now row.now column.now value.now)) }
 {
-    writes(w, found, t, a, b);
-    in_whole(w, readers, found, a);
-    in_whole(w, readers, found, b);
-    in_whole(w, readers, found, e);
+    writes(spot, found, table, row, column);
+    in_whole(spot, readers, found, row);
+    in_whole(spot, readers, found, column);
+    in_whole(spot, readers, found, value);
 }
 
 fn in_both(
-    w: &Spot,
+    spot: &Spot,
     readers: &[Reader],
     found: &mut Option<Fault>,
-    x: &Name,
-    f: &App,
-    y: &Name,
-    g: &App,
+    first: &Name,
+    first_call: &App,
+    second: &Name,
+    second_call: &App,
 )
     ensures { found.new
-        ≡ lowest_in readers.now found.old
-        (in_stmt (inside w.now) (Stmt.Both x.now f.now y.now g.now)) }
+        ≡ lowest_in (checked_rules readers.now) found.old
+        (in_stmt (inside spot.now) (Stmt.Both first.now first_call.now second.now
+        second_call.now)) }
 {
-    assigns(w, found, x);
-    in_app(w, readers, found, f);
-    assigns(w, found, y);
-    in_app(w, readers, found, g);
+    assigns(spot, found, first);
+    in_app(spot, readers, found, first_call);
+    assigns(spot, found, second);
+    in_app(spot, readers, found, second_call);
 }
 
 /// The two bounds of a loop over x.
-fn in_bounds(w: &Spot, readers: &[Reader], found: &mut Option<Fault>, x: &Name, a: &Expr, b: &Expr)
-    ensures { let s = inside w.now in found.new
-        ≡ lowest_in readers.now found.old
-        (site s (Declares x.now) ∷ in_whole s a.now ++ in_whole s b.now) }
+fn in_bounds(
+    spot: &Spot,
+    readers: &[Reader],
+    found: &mut Option<Fault>,
+    variable: &Name,
+    from: &Expr,
+    to: &Expr,
+)
+    ensures { let s = inside spot.now in found.new
+        ≡ lowest_in (checked_rules readers.now) found.old
+        (site s (Declares variable.now) ∷ in_whole s from.now ++ in_whole s to.now) }
 {
-    occurs(w, found, x);
-    in_whole(w, readers, found, a);
-    in_whole(w, readers, found, b);
+    occurs(spot, found, variable);
+    in_whole(spot, readers, found, from);
+    in_whole(spot, readers, found, to);
 }
 
 #[cycle(walk)]
 fn in_stmt<'a>(
     alloc: Global,
-    w: &mut Spot<'a, '_>,
+    spot: &mut Spot<'a, '_>,
     readers: &[Reader],
     found: &mut Option<Fault>,
-    s: &'a Stmt,
+    statement: &'a Stmt,
 ) -> Result<(), NoMemory>
     ensures { IfOk result
-        (λ u. Walked readers.now found.old found.new (in_stmt (inside w.old) s.now) w.new
-        (spot_after (inside w.old) s.now)) }
+        (λ u.
+        Walked readers.now found.old found.new (in_stmt (inside spot.old) statement.now)
+        spot.new
+        (spot_after (inside spot.old) statement.now)) }
 {
-    match s {
+    match statement {
         Stmt::Let(x, e) => {
-            occurs(w, found, x);
-            in_whole(w, readers, found, e);
-            w.scope.push(&x.text)?;
+            occurs(spot, found, x);
+            in_whole(spot, readers, found, e);
+            spot.scope.push(&x.text)?;
             Ok(())
         }
         Stmt::Set(x, e) => {
-            assigns(w, found, x);
-            in_whole(w, readers, found, e);
+            assigns(spot, found, x);
+            in_whole(spot, readers, found, e);
             Ok(())
         }
         Stmt::Put(t, a, b, e) => {
-            in_put(w, readers, found, t, a, b, e);
+            in_put(spot, readers, found, t, a, b, e);
             Ok(())
         }
         Stmt::If(e, body, other) => {
-            in_whole(w, readers, found, e);
-            in_block(alloc, w, readers, found, body)?;
-            in_block(alloc, w, readers, found, other)
+            in_whole(spot, readers, found, e);
+            in_block(alloc, spot, readers, found, body)?;
+            in_block(alloc, spot, readers, found, other)
         }
         Stmt::While(e, body) => {
-            in_whole(w, readers, found, e);
-            in_block(alloc, w, readers, found, body)
+            in_whole(spot, readers, found, e);
+            in_block(alloc, spot, readers, found, body)
         }
         Stmt::Loop(x, a, b, body) => {
-            in_bounds(w, readers, found, x, a, b);
-            in_loop(alloc, w, readers, found, body, x)
+            in_bounds(spot, readers, found, x, a, b);
+            in_loop(alloc, spot, readers, found, body, x)
         }
-        Stmt::Par(l) => in_par(alloc, w, readers, found, l),
+        Stmt::Par(l) => in_par(alloc, spot, readers, found, l),
         Stmt::Fold(x, e) => {
-            folds(w, found, x);
-            in_whole(w, readers, found, e);
+            folds(spot, found, x);
+            in_whole(spot, readers, found, e);
             Ok(())
         }
         Stmt::Call(x, f) => {
-            assigns(w, found, x);
-            in_app(w, readers, found, f);
+            assigns(spot, found, x);
+            in_app(spot, readers, found, f);
             Ok(())
         }
         Stmt::Both(x, f, y, g) => {
-            in_both(w, readers, found, x, f, y, g);
+            in_both(spot, readers, found, x, f, y, g);
             Ok(())
         }
         Stmt::Print(_, e) => {
-            in_whole(w, readers, found, e);
+            in_whole(spot, readers, found, e);
             Ok(())
         }
         Stmt::Emit(_, _) => Ok(()),
@@ -180,17 +196,17 @@ fn in_stmt<'a>(
 #[cycle(walk)]
 pub fn in_list<'a>(
     alloc: Global,
-    w: &mut Spot<'a, '_>,
+    spot: &mut Spot<'a, '_>,
     readers: &[Reader],
     found: &mut Option<Fault>,
     body: &'a [Stmt],
 ) -> Result<(), NoMemory>
     ensures { IfOk result
-        (λ u. Walked readers.now found.old found.new (in_list (inside w.old) body.now) w.new
-        (spot_of_list (inside w.old) body.now)) }
+        (λ u. Walked readers.now found.old found.new (in_list (inside spot.old) body.now) spot.new
+        (spot_of_list (inside spot.old) body.now)) }
 {
     for s in body {
-        in_stmt(alloc, w, readers, found, s)?;
+        in_stmt(alloc, spot, readers, found, s)?;
     }
     Ok(())
 }
@@ -199,18 +215,18 @@ pub fn in_list<'a>(
 #[cycle(walk)]
 fn in_block<'a>(
     alloc: Global,
-    w: &mut Spot<'a, '_>,
+    spot: &mut Spot<'a, '_>,
     readers: &[Reader],
     found: &mut Option<Fault>,
     body: &'a [Stmt],
 ) -> Result<(), NoMemory>
     ensures { IfOk result
-        (λ u. Walked readers.now found.old found.new (in_list (inside w.old) body.now) w.new
-        (inside w.old)) }
+        (λ u. Walked readers.now found.old found.new (in_list (inside spot.old) body.now) spot.new
+        (inside spot.old)) }
 {
-    let n = w.scope.len();
-    in_list(alloc, w, readers, found, body)?;
-    w.scope.truncate(n);
+    let n = spot.scope.len();
+    in_list(alloc, spot, readers, found, body)?;
+    spot.scope.truncate(n);
     Ok(())
 }
 
@@ -218,20 +234,21 @@ fn in_block<'a>(
 #[cycle(walk)]
 fn in_loop<'a>(
     alloc: Global,
-    w: &mut Spot<'a, '_>,
+    spot: &mut Spot<'a, '_>,
     readers: &[Reader],
     found: &mut Option<Fault>,
     body: &'a [Stmt],
-    x: &'a Name,
+    variable: &'a Name,
 ) -> Result<(), NoMemory>
     ensures { IfOk result
         (λ u. Walked readers.now found.old found.new
-        (in_list (declared_var (inside w.old) x.now) body.now) w.new (inside w.old)) }
+        (in_list (declared_var (inside spot.old) variable.now) body.now) spot.new
+        (inside spot.old)) }
 {
-    let n = w.scope.len();
-    w.scope.push(&x.text)?;
-    in_list(alloc, w, readers, found, body)?;
-    w.scope.truncate(n);
+    let n = spot.scope.len();
+    spot.scope.push(&variable.text)?;
+    in_list(alloc, spot, readers, found, body)?;
+    spot.scope.truncate(n);
     Ok(())
 }
 
@@ -266,42 +283,52 @@ fn in_body<'a>(
     rounds: &[Round],
     readers: &[Reader],
     found: &mut Option<Fault>,
-    l: &'a ParLoop,
+    par_loop: &'a ParLoop,
 ) -> Result<(), NoMemory>
     ensures { IfOk result
         (λ u. found.new
-        ≡ lowest_in readers.now found.old
+        ≡ lowest_in (checked_rules readers.now) found.old
         (in_list
-        (declared_var (spot (texts_of scope.entry.items) (rounds_of rounds.now)) l.now.var)
-        l.now.body.items)) }
+        (declared_var (spot (texts_of scope.entry.items) (rounds_of rounds.now)) par_loop.now.var)
+        par_loop.now.body.items)) }
 {
     let mut w = Spot {
         scope,
         rounds: &*rounds,
     };
-    in_loop(alloc, &mut w, readers, found, &l.body, &l.var)
+    in_loop(alloc, &mut w, readers, found, &par_loop.body, &par_loop.var)
 }
 
 /// A `par`.
 #[cycle(walk)]
 fn in_par<'a>(
     alloc: Global,
-    w: &Spot<'a, '_>,
+    spot: &Spot<'a, '_>,
     readers: &[Reader],
     found: &mut Option<Fault>,
-    l: &'a ParLoop,
+    par_loop: &'a ParLoop,
 ) -> Result<(), NoMemory>
     ensures { IfOk result
-        (λ u. found.new ≡ lowest_in readers.now found.old (in_stmt (inside w.now) (Stmt.Par l.now))) }
+        (λ u.
+        found.new
+        ≡ lowest_in (checked_rules readers.now) found.old
+        (in_stmt (inside spot.now) (Stmt.Par par_loop.now))) }
 {
     let round = Round {
-        outside: w.scope.as_slice(),
-        par: l,
+        outside: spot.scope.as_slice(),
+        par: par_loop,
     };
-    parallel(w, found, &round);
-    in_bounds(w, readers, found, &l.var, &l.from, &l.to);
-    in_carries(w, readers, found, &l.carries);
-    let rounds = with_round(alloc, round, w.rounds)?;
-    let scope = copied(alloc, &w.scope)?;
-    in_body(alloc, scope, &rounds, readers, found, l)
+    parallel(spot, found, &round);
+    in_bounds(
+        spot,
+        readers,
+        found,
+        &par_loop.var,
+        &par_loop.from,
+        &par_loop.to,
+    );
+    in_carries(spot, readers, found, &par_loop.carries);
+    let rounds = with_round(alloc, round, spot.rounds)?;
+    let scope = copied(alloc, &spot.scope)?;
+    in_body(alloc, scope, &rounds, readers, found, par_loop)
 }

@@ -1,11 +1,11 @@
 // What functions do themselves.
 
-ghost use Rattle.std.specs.Prelude.{◌≡◌, ◌++◌, ◌||◌, MatchOption, Option, None, Some};
+ghost use Rattle.std.specs.Prelude.{◌≡◌, ◌++◌, ◌||◌, None, Some};
 ghost use Rattle.loop_rules.specs.Names.{func_of};
 ghost use Rattle.loop_rules.specs.Sites.{in_expr, in_whole, in_args, in_app, in_stmt, in_list};
 ghost use Rattle.loop_check.specs.Usage.{reads_table, calls_func, any_use, anywhere, uses};
 
-use loop_syntax::{App, Expr, Func, ParLoop, Program, Stmt};
+use loop_syntax::{App, Expr, ParLoop, Program, Stmt};
 
 /// What is looked for in a function.
 #[derive(Clone, Copy)]
@@ -17,12 +17,12 @@ pub enum Usage<'a> {
 }
 
 /// A read of a table.
-fn reads(u: &Usage, found: &mut bool, t: &[u8])
-    ensures { found.new ≡ (reads_table u.now t.now || found.old) }
+fn reads(usage: &Usage, found: &mut bool, name: &[u8])
+    ensures { found.new ≡ (reads_table usage.now name.now || found.old) }
 {
-    match u {
+    match usage {
         Usage::Reads(table) => {
-            if t == *table {
+            if name == *table {
                 *found = true;
             }
         }
@@ -31,13 +31,13 @@ fn reads(u: &Usage, found: &mut bool, t: &[u8])
 }
 
 /// A call of a function.
-fn calls(u: &Usage, found: &mut bool, f: &[u8])
-    ensures { found.new ≡ (calls_func u.now f.now || found.old) }
+fn calls(usage: &Usage, found: &mut bool, callee: &[u8])
+    ensures { found.new ≡ (calls_func usage.now callee.now || found.old) }
 {
-    match u {
+    match usage {
         Usage::Reads(_) => {}
         Usage::Calls(func) => {
-            if f == *func {
+            if callee == *func {
                 *found = true;
             }
         }
@@ -45,138 +45,128 @@ fn calls(u: &Usage, found: &mut bool, f: &[u8])
 }
 
 #[tactic(auto, using(crate::proofs::Using::any_append))]
-fn in_expr(u: &Usage, found: &mut bool, e: &Expr)
-    ensures { found.new ≡ any_use u.now found.old (in_expr anywhere e.now) }
+fn in_expr(usage: &Usage, found: &mut bool, expression: &Expr)
+    ensures { found.new ≡ any_use usage.now found.old (in_expr anywhere expression.now) }
 {
-    match e {
+    match expression {
         Expr::Int(_, _) => {}
         Expr::Var(_) => {}
         Expr::Cell(t, a, b) => {
-            reads(u, found, &t.text);
-            in_expr(u, found, a);
-            in_expr(u, found, b);
+            reads(usage, found, &t.text);
+            in_expr(usage, found, a);
+            in_expr(usage, found, b);
         }
         Expr::Rows(_) => {}
         Expr::Cols(_) => {}
-        Expr::Neg(a, _) => in_expr(u, found, a),
+        Expr::Neg(a, _) => in_expr(usage, found, a),
         Expr::Bin(_, _, a, b) => {
-            in_expr(u, found, a);
-            in_expr(u, found, b);
+            in_expr(usage, found, a);
+            in_expr(usage, found, b);
         }
     }
 }
 
-fn in_args(u: &Usage, found: &mut bool, es: &[Expr])
-    ensures { found.new ≡ any_use u.now found.old (in_args anywhere es.now) }
+fn in_args(usage: &Usage, found: &mut bool, arguments: &[Expr])
+    ensures { found.new ≡ any_use usage.now found.old (in_args anywhere arguments.now) }
 {
-    for e in es {
-        in_expr(u, found, e);
+    for e in arguments {
+        in_expr(usage, found, e);
     }
 }
 
-fn in_app(u: &Usage, found: &mut bool, f: &App)
-    ensures { found.new ≡ any_use u.now found.old (in_app anywhere f.now) }
+fn in_app(usage: &Usage, found: &mut bool, call: &App)
+    ensures { found.new ≡ any_use usage.now found.old (in_app anywhere call.now) }
 {
-    calls(u, found, &f.callee.text);
-    in_args(u, found, &f.args);
+    calls(usage, found, &call.callee.text);
+    in_args(usage, found, &call.args);
 }
 
 #[tactic(auto, using(crate::proofs::Using::any_append))]
-fn in_two(u: &Usage, found: &mut bool, a: &Expr, b: &Expr)
+fn in_two(usage: &Usage, found: &mut bool, first: &Expr, second: &Expr)
     ensures { found.new
-        ≡ any_use u.now found.old (in_whole anywhere a.now ++ in_whole anywhere b.now) }
+        ≡ any_use usage.now found.old (in_whole anywhere first.now
+        ++ in_whole anywhere second.now) }
 {
-    in_expr(u, found, a);
-    in_expr(u, found, b);
+    in_expr(usage, found, first);
+    in_expr(usage, found, second);
 }
 
 #[tactic(auto, using(crate::proofs::Using::any_append))]
-fn in_put(u: &Usage, found: &mut bool, a: &Expr, b: &Expr, e: &Expr)
+fn in_put(usage: &Usage, found: &mut bool, row: &Expr, column: &Expr, value: &Expr)
     ensures { found.new
-        ≡ any_use u.now found.old
-        (in_whole anywhere a.now ++ (in_whole anywhere b.now ++ in_whole anywhere e.now)) }
+        ≡ any_use usage.now found.old
+        (in_whole anywhere row.now
+        ++ (in_whole anywhere column.now ++ in_whole anywhere value.now)) }
 {
-    in_expr(u, found, a);
-    in_expr(u, found, b);
-    in_expr(u, found, e);
+    in_expr(usage, found, row);
+    in_expr(usage, found, column);
+    in_expr(usage, found, value);
 }
 
-fn in_both(u: &Usage, found: &mut bool, f: &App, g: &App)
-    ensures { found.new ≡ any_use u.now found.old (in_app anywhere f.now ++ in_app anywhere g.now) }
+fn in_both(usage: &Usage, found: &mut bool, first: &App, second: &App)
+    ensures { found.new
+        ≡ any_use usage.now found.old (in_app anywhere first.now ++ in_app anywhere second.now) }
 {
-    in_app(u, found, f);
-    in_app(u, found, g);
+    in_app(usage, found, first);
+    in_app(usage, found, second);
 }
 
 #[cycle(walk)]
-fn in_stmt(u: &Usage, found: &mut bool, s: &Stmt)
-    ensures { found.new ≡ any_use u.now found.old (in_stmt anywhere s.now) }
+fn in_stmt(usage: &Usage, found: &mut bool, statement: &Stmt)
+    ensures { found.new ≡ any_use usage.now found.old (in_stmt anywhere statement.now) }
 {
-    match s {
-        Stmt::Let(_, e) => in_expr(u, found, e),
-        Stmt::Set(_, e) => in_expr(u, found, e),
-        Stmt::Put(_, a, b, e) => in_put(u, found, a, b, e),
+    match statement {
+        Stmt::Let(_, e) => in_expr(usage, found, e),
+        Stmt::Set(_, e) => in_expr(usage, found, e),
+        Stmt::Put(_, a, b, e) => in_put(usage, found, a, b, e),
         Stmt::If(e, body, other) => {
-            in_expr(u, found, e);
-            in_list(u, found, body);
-            in_list(u, found, other);
+            in_expr(usage, found, e);
+            in_list(usage, found, body);
+            in_list(usage, found, other);
         }
         Stmt::While(e, body) => {
-            in_expr(u, found, e);
-            in_list(u, found, body);
+            in_expr(usage, found, e);
+            in_list(usage, found, body);
         }
         Stmt::Loop(_, a, b, body) => {
-            in_two(u, found, a, b);
-            in_list(u, found, body);
+            in_two(usage, found, a, b);
+            in_list(usage, found, body);
         }
-        Stmt::Par(l) => in_par(u, found, l),
-        Stmt::Fold(_, e) => in_expr(u, found, e),
-        Stmt::Call(_, f) => in_app(u, found, f),
-        Stmt::Both(_, f, _, g) => in_both(u, found, f, g),
-        Stmt::Print(_, e) => in_expr(u, found, e),
+        Stmt::Par(l) => in_par(usage, found, l),
+        Stmt::Fold(_, e) => in_expr(usage, found, e),
+        Stmt::Call(_, f) => in_app(usage, found, f),
+        Stmt::Both(_, f, _, g) => in_both(usage, found, f, g),
+        Stmt::Print(_, e) => in_expr(usage, found, e),
         Stmt::Emit(_, _) => {}
     }
 }
 
 #[cycle(walk)]
-fn in_list(u: &Usage, found: &mut bool, body: &[Stmt])
-    ensures { found.new ≡ any_use u.now found.old (in_list anywhere body.now) }
+fn in_list(usage: &Usage, found: &mut bool, body: &[Stmt])
+    ensures { found.new ≡ any_use usage.now found.old (in_list anywhere body.now) }
 {
     for s in body {
-        in_stmt(u, found, s);
+        in_stmt(usage, found, s);
     }
 }
 
 #[cycle(walk)]
-fn in_par(u: &Usage, found: &mut bool, l: &ParLoop)
-    ensures { found.new ≡ any_use u.now found.old (in_stmt anywhere (Stmt.Par l.now)) }
+fn in_par(usage: &Usage, found: &mut bool, par: &ParLoop)
+    ensures { found.new ≡ any_use usage.now found.old (in_stmt anywhere (Stmt.Par par.now)) }
 {
-    in_two(u, found, &l.from, &l.to);
-    in_list(u, found, &l.body);
-}
-
-/// The function of that name, the first where two have it.
-fn func_of<'a>(funcs: &'a [Func], x: &[u8]) -> Option<&'a Func>
-    ensures { MatchOption result (func_of funcs.now x.now ≡ None)
-        (λ f. func_of funcs.now x.now ≡ Some f.now) }
-{
-    for f in funcs {
-        if f.name.text.as_slice() == x {
-            return Some(f);
-        }
-    }
-    None
+    in_two(usage, found, &par.from, &par.to);
+    in_list(usage, found, &par.body);
 }
 
 /// Whether the function of that name does that.
-pub fn uses(program: &Program, name: &[u8], u: &Usage) -> bool
-    ensures { result ≡ uses program.now u.now (func_of program.now.funcs.items name.now) }
+pub fn uses(program: &Program, name: &[u8], usage: &Usage) -> bool
+    ensures { result ≡ uses program.now usage.now (func_of program.now.funcs.items name.now) }
 {
-    match func_of(&program.funcs, name) {
+    match program.func(name) {
         Some(g) => {
             let mut found = false;
-            in_list(u, &mut found, &g.body);
-            in_expr(u, &mut found, &g.result);
+            in_list(usage, &mut found, &g.body);
+            in_expr(usage, &mut found, &g.result);
             found
         }
         None => false,

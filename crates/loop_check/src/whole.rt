@@ -3,14 +3,15 @@
 ghost use Rattle.std.specs.Prelude.{◌≡◌, IfOk, None, [], map};
 ghost use Rattle.loop_rules.specs.Names.{texts};
 ghost use Rattle.loop_rules.specs.Sites.{sites, in_list};
-ghost use Rattle.loop_check.specs.Search.{lowest_in};
+ghost use Rattle.loop_rules.specs.Search.{lowest_in};
+ghost use Rattle.loop_check.specs.Search.{checked_rules};
 ghost use Rattle.loop_check.specs.Walk.{texts_of, spot};
 ghost use Rattle.loop_check.specs.Whole.{lowest_of_funcs};
 
-use crate::fault::Fault;
 use crate::reader::Reader;
 use crate::spot::Spot;
 use crate::statement::in_list;
+use loop_rules::Fault;
 use loop_syntax::{Func, Name, Program, Stmt};
 use std::alloc::Global;
 use tp_value::NoMemory;
@@ -36,7 +37,7 @@ fn in_body<'a>(
 ) -> Result<(), NoMemory>
     ensures { IfOk result
         (λ u. found.new
-        ≡ lowest_in readers.now found.old
+        ≡ lowest_in (checked_rules readers.now) found.old
         (in_list (spot (texts_of scope.entry.items) []) body.now)) }
 {
     let mut w = Spot { scope, rounds: &[] };
@@ -47,26 +48,26 @@ fn in_func(
     alloc: Global,
     readers: &[Reader],
     found: &mut Option<Fault>,
-    f: &Func,
+    func: &Func,
 ) -> Result<(), NoMemory>
     ensures { IfOk result
         (λ u. found.new
-        ≡ lowest_in readers.now found.old
-        (in_list (spot (texts f.now.params.items) []) f.now.body.items)) }
+        ≡ lowest_in (checked_rules readers.now) found.old
+        (in_list (spot (texts func.now.params.items) []) func.now.body.items)) }
 {
-    let scope = texts(alloc, &f.params)?;
-    in_body(alloc, scope, readers, found, &f.body)
+    let scope = texts(alloc, &func.params)?;
+    in_body(alloc, scope, readers, found, &func.body)
 }
 
 fn in_funcs(
     alloc: Global,
     readers: &[Reader],
     found: &mut Option<Fault>,
-    fs: &[Func],
+    funcs: &[Func],
 ) -> Result<(), NoMemory>
-    ensures { IfOk result (λ u. found.new ≡ lowest_of_funcs readers.now found.old fs.now) }
+    ensures { IfOk result (λ u. found.new ≡ lowest_of_funcs readers.now found.old funcs.now) }
 {
-    for f in fs {
+    for f in funcs {
         in_func(alloc, readers, found, f)?;
     }
     Ok(())
@@ -79,7 +80,9 @@ fn in_main(
     body: &[Stmt],
 ) -> Result<(), NoMemory>
     ensures { IfOk result
-        (λ u. found.new ≡ lowest_in readers.now found.old (in_list (spot [] []) body.now)) }
+        (λ u.
+        found.new
+        ≡ lowest_in (checked_rules readers.now) found.old (in_list (spot [] []) body.now)) }
 {
     in_body(alloc, Vec::new(alloc), readers, found, body)
 }
@@ -90,7 +93,8 @@ pub fn first_fault(
     program: &Program,
     readers: &[Reader],
 ) -> Result<Option<Fault>, NoMemory>
-    ensures { IfOk result (λ fault. fault ≡ lowest_in readers.now None (sites program.now)) }
+    ensures { IfOk result (λ fault.
+        fault ≡ lowest_in (checked_rules readers.now) None (sites program.now)) }
 {
     let mut found = None;
     in_funcs(alloc, readers, &mut found, &program.funcs)?;

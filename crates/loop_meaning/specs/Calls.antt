@@ -33,7 +33,9 @@ number_in (Traps k p) = pos 0
 abbrev pub returned : Expr → List Variable → Ran → Called
 returned e vs r = record {
   value = number_in (eval r.state.vars r.state.tables e).answer;
-  ran = let end : Ran = after r (λ s. given e s (λ n. done s)) in record end { state = record end.state { vars = vs } };
+  ran =
+      let end : Ran = after r (λ s. given e s (λ n. done s)) in
+      record end { state = record end.state { vars = vs } };
 }
 
 -- the body of a function, with fresh variables
@@ -48,7 +50,9 @@ no_value r = record { value = pos 0; ran = r }
 
 -- goes on to the body of a call where the tick was counted
 abbrev pub call_on : Stop → Ran → (State → Called) → Called
-call_on Done r go = let c : Called = go r.state in record { value = c.value; ran = noted r.notes c.ran }
+call_on Done r go =
+    let c : Called = go r.state in
+    record { value = c.value; ran = noted r.notes c.ran }
 call_on (Trap k p) r go = no_value r
 call_on NoFuel r go = no_value r
 

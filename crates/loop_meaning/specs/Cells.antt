@@ -70,7 +70,12 @@ abbrev mutual
   bodies vs rounds (While' e p body) = bodies_all vs rounds body
   bodies vs rounds (Loop' x a b p body) = bodies_all (vs ++ x.text.items ∷ []) rounds body
   bodies vs rounds (Par' place x a b carry_place carries reduces p body) =
-      let loop : Loop = record { outside = vs; var = x.text.items; carries = carries.items; reduces = reduces.items } in
+      let loop : Loop = record {
+        outside = vs;
+        var = x.text.items;
+        carries = carries.items;
+        reduces = reduces.items;
+      } in
       record { loop = loop; rounds = rounds; statements = items-the_row-Stmt _ body }
       ∷ bodies_all (vs ++ x.text.items ∷ []) (loop ∷ rounds) body
   bodies vs rounds _ = []

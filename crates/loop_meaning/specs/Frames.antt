@@ -63,7 +63,9 @@ run_pair call true true f p ns g q ms s = one_call (call g q ms [] s)
 -- a frame, at a depth of calls. A frame of the other kind than its source has nothing to run
 abbrev pub run_frame : Program → ℕ → ℕ → Source → Frame → State → FrameRan
 run_frame p fuel depth (OfPar l) (Range next end accs) s =
-    let r : Ran = run_range p fuel depth l next end (record s { vars = with_accs l.reduces.items accs s.vars }) in
+    let r : Ran =
+    run_range p fuel depth l next end
+    (record s { vars = with_accs l.reduces.items accs s.vars }) in
     record { ran = r; results = accs_of l.reduces.items r.state.vars }
 run_frame p fuel depth (OfPar l) (Pair second args taken) s = record { ran = done s; results = [] }
 run_frame p fuel depth (OfBoth f place ns second_place child) (Range next end accs) s =

@@ -1,3 +1,5 @@
+-- ---- what is promised
+
 -- State: variables, tables, output and ticks; how a run ends, and its notes
 pub mod State
 -- Expressions: the value of an expression, or its trap
@@ -22,5 +24,7 @@ pub mod InRange
 pub mod Told
 -- Only: what statements may do beyond their variables
 pub mod Only
+-- ---- inside: the evaluator
+
 -- Ends: what the evaluator holds and answers
 pub mod Ends

@@ -1,14 +1,13 @@
 // Functions, their arguments, and how a call ends.
 
-ghost use Rattle.std.specs.Prelude.{◌≡◌, IfOk, MatchOption, Some, None, pos};
-ghost use Rattle.loop_rules.specs.Names.{func_of};
+ghost use Rattle.std.specs.Prelude.{◌≡◌, IfOk, pos};
 ghost use Rattle.loop_meaning.specs.Calls.{bound};
 ghost use Rattle.loop_meaning.specs.Ends.{state_of, NumbersOf};
 
 use crate::expression::value_of;
 use crate::memory::Memory;
 use crate::value::{Answer, Variable};
-use loop_syntax::{Expr, Func, Name};
+use loop_syntax::{Expr, Name};
 use std::alloc::Global;
 use tp_value::{Items, NoMemory, Place, Stop, TrapKind};
 
@@ -39,12 +38,12 @@ pub enum Numbers {
 }
 
 /// The numbers of a list of arguments, from left to right.
-pub fn numbers_of(alloc: Global, m: &Memory, es: &[Expr]) -> Result<Numbers, NoMemory>
-    ensures { IfOk result (λ ns. NumbersOf es.now (state_of m.now) ns) }
+pub fn numbers_of(alloc: Global, memory: &Memory, arguments: &[Expr]) -> Result<Numbers, NoMemory>
+    ensures { IfOk result (λ ns. NumbersOf arguments.now (state_of memory.now) ns) }
 {
     let mut ns = Vec::new(alloc);
-    for e in es {
-        match value_of(m, e) {
+    for e in arguments {
+        match value_of(memory, e) {
             Answer::Number(n) => ns.push(n)?,
             Answer::Traps(kind, place) => return Ok(Numbers::Traps(kind, place)),
         }
@@ -53,29 +52,19 @@ pub fn numbers_of(alloc: Global, m: &Memory, es: &[Expr]) -> Result<Numbers, NoM
 }
 
 /// The parameters with their arguments.
-pub fn bound(alloc: Global, params: &[Name], ns: &[i64]) -> Result<Vec<Variable>, NoMemory>
-    ensures { IfOk result (λ v. v.items ≡ bound params.now ns.now) }
+pub fn bound(alloc: Global, params: &[Name], arguments: &[i64]) -> Result<Vec<Variable>, NoMemory>
+    ensures { IfOk result (λ v. v.items ≡ bound params.now arguments.now) }
 {
     let mut vars = Vec::new(alloc);
     for i in 0..params.len() {
-        if i >= ns.len() {
+        if i >= arguments.len() {
             return Ok(vars);
         }
         let name = Items::new(params[i].text.to_vec(alloc)?);
-        vars.push(Variable { name, value: ns[i] })?;
+        vars.push(Variable {
+            name,
+            value: arguments[i],
+        })?;
     }
     Ok(vars)
-}
-
-/// The function of that name.
-pub fn func_of<'a>(funcs: &'a [Func], x: &[u8]) -> Option<&'a Func>
-    ensures { MatchOption result (func_of funcs.now x.now ≡ None)
-        (λ f. func_of funcs.now x.now ≡ Some f.now) }
-{
-    for f in funcs {
-        if f.name.text.as_slice() == x {
-            return Some(f);
-        }
-    }
-    None
 }

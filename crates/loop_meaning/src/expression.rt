@@ -12,11 +12,11 @@ use loop_syntax::{BinOp, Expr, Name};
 use tp_value::{Table, TrapKind};
 
 /// The value of the variable of that name, or 0 where there is none.
-pub fn lookup(vars: &[Variable], x: &[u8]) -> i64
-    ensures { result ≡ lookup vars.now x.now }
+pub fn lookup(vars: &[Variable], name: &[u8]) -> i64
+    ensures { result ≡ lookup vars.now name.now }
 {
     for v in vars {
-        if v.name.items() == x {
+        if v.name.items() == name {
             return v.value;
         }
     }
@@ -24,12 +24,12 @@ pub fn lookup(vars: &[Variable], x: &[u8]) -> i64
 }
 
 /// The table of that name.
-pub fn table_at<'a>(tables: &'a [Table], x: &[u8]) -> Option<&'a Table>
-    ensures { MatchOption result (table_of tables.now x.now ≡ no_table)
-        (λ t. t.now ≡ table_of tables.now x.now) }
+pub fn table_at<'a>(tables: &'a [Table], name: &[u8]) -> Option<&'a Table>
+    ensures { MatchOption result (table_of tables.now name.now ≡ no_table)
+        (λ t. t.now ≡ table_of tables.now name.now) }
 {
     for t in tables {
-        if t.name.items() == x {
+        if t.name.items() == name {
             return Some(t);
         }
     }
@@ -48,46 +48,46 @@ pub fn index_below(i: i64, n: u32) -> Option<u64>
     if k < u64::from(n) { Some(k) } else { None }
 }
 
-fn cell_at(t: &Table, row: u64, col: u64) -> i64
-    requires row_in { row < t.now.rows }
-    requires col_in { col < t.now.cols }
-    ensures { result ≡ slice_index_or t.now.cells (row * t.now.cols + col) (pos 0) }
+fn cell_at(table: &Table, row: u64, col: u64) -> i64
+    requires row_in { row < table.now.rows }
+    requires col_in { col < table.now.cols }
+    ensures { result ≡ slice_index_or table.now.cells (row * table.now.cols + col) (pos 0) }
 {
-    let (_rows, cols) = (t.rows, t.cols);
+    let (_rows, cols) = (table.rows, table.cols);
     let at = row * u64::from(cols) + col;
-    match t.cells.items().get(at as usize) {
+    match table.cells.items().get(at as usize) {
         Some(v) => *v,
         None => 0,
     }
 }
 
-fn cell(t: &Table, i: i64, j: i64) -> Option<i64>
-    ensures { MatchOption result (has_cell t.now i j ≡ false)
-        (λ v. (has_cell t.now i j ≡ true) × (v ≡ cell_of t.now i j)) }
+fn cell(table: &Table, i: i64, j: i64) -> Option<i64>
+    ensures { MatchOption result (has_cell table.now i j ≡ false)
+        (λ v. (has_cell table.now i j ≡ true) × (v ≡ cell_of table.now i j)) }
 {
-    let row = index_below(i, t.rows)?;
-    let col = index_below(j, t.cols)?;
-    Some(cell_at(t, row, col))
+    let row = index_below(i, table.rows)?;
+    let col = index_below(j, table.cols)?;
+    Some(cell_at(table, row, col))
 }
 
-fn read_cell(tables: &[Table], t: &Name, i: i64, j: i64) -> Answer
-    ensures { result ≡ (read_cell tables.now t.now i j).answer }
+fn read_cell(tables: &[Table], name: &Name, i: i64, j: i64) -> Answer
+    ensures { result ≡ (read_cell tables.now name.now i j).answer }
 {
-    let found = match table_at(tables, t.text.as_slice()) {
+    let found = match table_at(tables, name.text.as_slice()) {
         Some(table) => cell(table, i, j),
         None => None,
     };
     match found {
         Some(v) => Answer::Number(v),
-        None => Answer::Traps(TrapKind::Index, t.place),
+        None => Answer::Traps(TrapKind::Index, name.place),
     }
 }
 
 /// The value of an expression over variables and tables.
-fn eval(vars: &[Variable], tables: &[Table], e: &Expr) -> Answer
-    ensures { result ≡ (eval vars.now tables.now e.now).answer }
+fn eval(vars: &[Variable], tables: &[Table], expression: &Expr) -> Answer
+    ensures { result ≡ (eval vars.now tables.now expression.now).answer }
 {
-    match e {
+    match expression {
         Expr::Int(n, _) => Answer::Number(*n),
         Expr::Var(x) => Answer::Number(lookup(vars, x.text.as_slice())),
         Expr::Cell(t, a, b) => match eval(vars, tables, a) {
@@ -120,8 +120,8 @@ fn eval(vars: &[Variable], tables: &[Table], e: &Expr) -> Answer
 }
 
 /// The value of an expression.
-pub fn value_of(m: &Memory, e: &Expr) -> Answer
-    ensures { result ≡ (eval m.now.vars.items m.now.tables.items e.now).answer }
+pub fn value_of(memory: &Memory, expression: &Expr) -> Answer
+    ensures { result ≡ (eval memory.now.vars.items memory.now.tables.items expression.now).answer }
 {
-    eval(&m.vars, &m.tables, e)
+    eval(&memory.vars, &memory.tables, expression)
 }

@@ -49,26 +49,31 @@ pub fn keeps_within_fuel(program: &Program, tables: &[Table], fuel: u64)
 /// Statements only add to the output, and never take ticks back, at any depth of calls and under
 /// any reduce list, wherever they begin within the fuel.
 pub fn only_adds(program: &Program, fuel: u64)
-    ensures output { (depth : ℕ) (rs : List Reduce) (body : List statement.Stmt) (s : State) → s.ticks ≤ fuel →
+    ensures output { (depth : ℕ) (rs : List Reduce) (body : List statement.Stmt) (s : State) →
+        s.ticks ≤ fuel →
         (more : List ℕ)
         × ((run_list (setting program.now fuel depth rs) body s).state.output
         ≡ s.output ++ more) }
-    ensures ticks { (depth : ℕ) (rs : List Reduce) (body : List statement.Stmt) (s : State) → s.ticks ≤ fuel →
+    ensures ticks { (depth : ℕ) (rs : List Reduce) (body : List statement.Stmt) (s : State) →
+        s.ticks ≤ fuel →
         s.ticks ≤ (run_list (setting program.now fuel depth rs) body s).state.ticks }
 {}
 
 /// More fuel changes nothing where the first fuel was enough: the outcome and the chances to split
 /// off a task are the same, and so is any run of statements, its state and its notes.
 pub fn more_fuel_changes_nothing(program: &Program, tables: &[Table], fuel: u64)
-    ensures outcome { (more : ℕ) → fuel ≤ more → (meaning program.now tables.now fuel).stop ≢ Stop.NoFuel →
+    ensures outcome { (more : ℕ) → fuel ≤ more →
+        (meaning program.now tables.now fuel).stop ≢ Stop.NoFuel →
         meaning program.now tables.now more ≡ meaning program.now tables.now fuel }
-    ensures chances { (more : ℕ) → fuel ≤ more → (meaning program.now tables.now fuel).stop ≢ Stop.NoFuel →
+    ensures chances { (more : ℕ) → fuel ≤ more →
+        (meaning program.now tables.now fuel).stop ≢ Stop.NoFuel →
         chances program.now tables.now more ≡ chances program.now tables.now fuel }
     ensures statements { (more : ℕ)
         → fuel ≤ more
         → (depth : ℕ) (rs : List Reduce) (body : List statement.Stmt) (s : State) →
         (run_list (setting program.now fuel depth rs) body s).stop ≢ Stop.NoFuel →
-        run_list (setting program.now more depth rs) body s ≡ run_list (setting program.now fuel depth rs) body s }
+        run_list (setting program.now more depth rs) body s
+        ≡ run_list (setting program.now fuel depth rs) body s }
 {}
 
 /// A frame of the whole range of a `par`, with the reduced variables' own values as accumulators,
@@ -78,7 +83,8 @@ pub fn more_fuel_changes_nothing(program: &Program, tables: &[Table], fuel: u64)
 pub fn whole_frames_are_the_loop(program: &Program, fuel: u64)
     ensures par { (depth : ℕ) (rs : List Reduce) (l : ParLoop) (s : State) →
         run (setting program.now fuel depth rs) (Par l) s ≡
-        given_two l.from l.to s (λ i j. unless_wide (too_wide i j) l.place (iterations program.now fuel depth l i j) s) }
+        given_two l.from l.to s (λ i j.
+        unless_wide (too_wide i j) l.place (iterations program.now fuel depth l i j) s) }
     ensures range { (depth : ℕ) (l : ParLoop) (i j : ℤ) (accs : List (Op × ℤ)) (s : State) →
         map (λ (a : Op × ℤ). a.1) accs ≡ accs_of l.reduces.items s.vars →
         (run_frame program.now fuel depth (OfPar l) (Range i j accs) s).ran ≡
@@ -87,9 +93,10 @@ pub fn whole_frames_are_the_loop(program: &Program, fuel: u64)
         map (λ (a : Op × ℤ). a.1) accs ≡ accs_of l.reduces.items s.vars →
         (run_frame program.now fuel depth (OfPar l) (Range i j accs) s).results ≡
         accs_of l.reduces.items (iterations program.now fuel depth l i j s).state.vars }
-    ensures both { (depth : ℕ) (rs : List Reduce) (child : Bool) (x : Name) (f : App) (y : Name) (g : App)
-        (s : State) →
-        run (setting program.now fuel depth rs) (Both x f y g) s ≡ both_by_frame program.now fuel depth child x f y g s }
+    ensures both { (depth : ℕ) (rs : List Reduce) (child : Bool)
+        (x : Name) (f : App) (y : Name) (g : App) (s : State) →
+        run (setting program.now fuel depth rs) (Both x f y g) s
+        ≡ both_by_frame program.now fuel depth child x f y g s }
 {}
 
 /// A call at a depth below 10,000 counts its tick and runs the body one level deeper, so depth
@@ -100,9 +107,10 @@ pub fn calls_reach_the_limit(program: &Program, fuel: u64)
         (begin : List Note) (s : State) →
         depth < MAX_CALL_DEPTH → s.ticks < fuel →
         (setting program.now fuel depth rs).call f place ns begin s ≡
-        enter (setting program.now fuel (depth + 1) []) (func_of program.now.funcs.items f) ns begin (record s { ticks = s.ticks + 1 }) }
-    ensures traps { (rs : List Reduce) (f : List ℕ) (place : Place) (ns : List ℤ) (begin : List Note)
-        (s : State) →
+        enter (setting program.now fuel (depth + 1) []) (func_of program.now.funcs.items f)
+        ns begin (record s { ticks = s.ticks + 1 }) }
+    ensures traps { (rs : List Reduce) (f : List ℕ) (place : Place) (ns : List ℤ)
+        (begin : List Note) (s : State) →
         s.ticks < fuel →
         (setting program.now fuel MAX_CALL_DEPTH rs).call f place ns begin s
         ≡ no_value (trapped Deep place (record s { ticks = s.ticks + 1 })) }
@@ -142,7 +150,8 @@ pub fn notes_tell_all(program: &Program, fuel: u64)
     ensures iterations { (depth : ℕ) (rs : List Reduce) (body : List statement.Stmt) (x : List ℕ)
         (again ns : List Note) →
         write_cells again ≡ [] → write_cells ns ≡ [] → (n : ℕ) (i : ℤ) →
-        NotesTell (iterate fuel x (run_list (setting program.now fuel depth rs) body) again ns n i) }
+        NotesTell
+        (iterate fuel x (run_list (setting program.now fuel depth rs) body) again ns n i) }
     ensures calls { (depth : ℕ) (rs : List Reduce) (f : List ℕ) (place : Place) (ns : List ℤ)
         (begin : List Note)
         → write_cells begin ≡ [] →
@@ -157,7 +166,8 @@ pub fn what_is_before_only_moves(program: &Program, fuel: u64)
     ensures iterations { (depth : ℕ) (rs : List Reduce) (body : List statement.Stmt) (x : List ℕ)
         (again ns : List Note) →
         write_cells again ≡ [] → write_cells ns ≡ [] → (n : ℕ) (i : ℤ) →
-        Moves fuel (iterate fuel x (run_list (setting program.now fuel depth rs) body) again ns n i) }
+        Moves fuel
+        (iterate fuel x (run_list (setting program.now fuel depth rs) body) again ns n i) }
     ensures calls { (depth : ℕ) (rs : List Reduce) (f : List ℕ) (place : Place) (ns : List ℤ)
         (begin : List Note)
         → write_cells begin ≡ [] →
@@ -184,30 +194,37 @@ pub fn only_prints_print(program: &Program, fuel: u64)
         (run_list (setting program.now fuel depth rs) body s).state.output ≡ s.output }
     ensures output { (depth : ℕ) (rs : List Reduce) (f : List ℕ) (place : Place) (ns : List ℤ)
         (begin : List Note) (s : State) →
-        All OnlyCounts program.now.funcs.items → ((setting program.now fuel depth rs).call f place ns begin s).ran.state.output ≡ s.output }
+        All OnlyCounts program.now.funcs.items →
+        ((setting program.now fuel depth rs).call f place ns begin s).ran.state.output ≡ s.output }
     ensures tables { (depth : ℕ) (rs : List Reduce) (f : List ℕ) (place : Place) (ns : List ℤ)
         (begin : List Note) (s : State) →
-        All OnlyCounts program.now.funcs.items → ((setting program.now fuel depth rs).call f place ns begin s).ran.state.tables ≡ s.tables }
+        All OnlyCounts program.now.funcs.items →
+        ((setting program.now fuel depth rs).call f place ns begin s).ran.state.tables ≡ s.tables }
     ensures writes { (depth : ℕ) (rs : List Reduce) (f : List ℕ) (place : Place) (ns : List ℤ)
         (begin : List Note) (s : State) →
         All OnlyCounts program.now.funcs.items → (c : Cell) →
-        Contains (write_cells ((setting program.now fuel depth rs).call f place ns begin s).ran.notes) c → Contains (write_cells begin) c }
+        Contains
+        (write_cells ((setting program.now fuel depth rs).call f place ns begin s).ran.notes) c →
+        Contains (write_cells begin) c }
 {}
 
 /// Where a program lies in memory is no matter: two programs with one tree run in the same way over
 /// the same tables, so they have the same outcome and the same chances to split off a task.
-pub fn only_the_tree_counts(p: &Program, q: &Program, tables: &[Table], fuel: u64)
-    ensures run { program_of p.now ≡ program_of q.now
-        → whole_run p.now tables.now fuel ≡ whole_run q.now tables.now fuel }
-    ensures outcome { program_of p.now ≡ program_of q.now
-        → meaning p.now tables.now fuel ≡ meaning q.now tables.now fuel }
-    ensures chances { program_of p.now ≡ program_of q.now
-        → chances p.now tables.now fuel ≡ chances q.now tables.now fuel }
+pub fn only_the_tree_counts(program: &Program, other: &Program, tables: &[Table], fuel: u64)
+    ensures run { program_of program.now ≡ program_of other.now
+        → whole_run program.now tables.now fuel ≡ whole_run other.now tables.now fuel }
+    ensures outcome { program_of program.now ≡ program_of other.now
+        → meaning program.now tables.now fuel ≡ meaning other.now tables.now fuel }
+    ensures chances { program_of program.now ≡ program_of other.now
+        → chances program.now tables.now fuel ≡ chances other.now tables.now fuel }
 {}
 
 /// The `par` loops of a `par` are itself and those of its body, where its variable is visible too
 /// and where it is the nearest of the `par` loops round.
-pub fn a_par_is_round_its_body(l: &Parallel)
-    ensures { (vs : List (List ℕ)) (rounds : List Loop) → bodies vs rounds (Par l.now) ≡
-        body_of vs rounds l.now ∷ bodies_of_list (vs ++ l.now.var.text.items ∷ []) ((body_of vs rounds l.now).loop ∷ rounds) l.now.body.items }
+pub fn a_par_is_round_its_body(par: &Parallel)
+    ensures { (vs : List (List ℕ)) (rounds : List Loop) → bodies vs rounds (Par par.now) ≡
+        body_of vs rounds par.now
+        ∷ bodies_of_list (vs ++ par.now.var.text.items ∷ [])
+        ((body_of vs rounds par.now).loop ∷ rounds)
+        par.now.body.items }
 {}

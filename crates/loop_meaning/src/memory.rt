@@ -22,34 +22,35 @@ pub struct Memory {
 }
 
 /// Counts a tick, or stops where the fuel is spent.
-pub fn count_tick(m: &mut Memory, fuel: u64) -> Stop
+pub fn count_tick(memory: &mut Memory, fuel: u64) -> Stop
     requires { fuel ≤ MAX_FUEL }
-    ensures { Ends (tick fuel (state_of m.old)) result (state_of m.new) }
+    ensures { Ends (tick fuel (state_of memory.old)) result (state_of memory.new) }
 {
-    if m.ticks < fuel {
-        m.ticks += 1;
+    if memory.ticks < fuel {
+        memory.ticks += 1;
         Stop::Done
     } else {
-        m.ticks = fuel + 1;
+        memory.ticks = fuel + 1;
         Stop::NoFuel
     }
 }
 
 /// Makes a variable visible.
-pub fn declare(alloc: Global, m: &mut Memory, x: &[u8], n: i64) -> Result<(), NoMemory>
+pub fn declare(alloc: Global, memory: &mut Memory, variable: &[u8], n: i64) -> Result<(), NoMemory>
     ensures { OnOk result
-        (let s = state_of m.old in state_of m.new ≡ record s { vars = declare s.vars x.now n }) }
+        (let s = state_of memory.old in state_of memory.new
+        ≡ record s { vars = declare s.vars variable.now n }) }
 {
-    let name = Items::new(x.to_vec(alloc)?);
-    m.vars.push(Variable { name, value: n })?;
+    let name = Items::new(variable.to_vec(alloc)?);
+    memory.vars.push(Variable { name, value: n })?;
     Ok(())
 }
 
-fn assign_in(vars: &mut [Variable], x: &[u8], n: i64)
-    ensures { vars.new ≡ assign vars.old x.now n }
+fn assign_in(vars: &mut [Variable], variable: &[u8], n: i64)
+    ensures { vars.new ≡ assign vars.old variable.now n }
 {
     for i in 0..vars.len() {
-        if vars[i].name.items() == x {
+        if vars[i].name.items() == variable {
             vars[i].value = n;
             return;
         }
@@ -57,15 +58,17 @@ fn assign_in(vars: &mut [Variable], x: &[u8], n: i64)
 }
 
 /// Sets a variable.
-pub fn assign(m: &mut Memory, x: &[u8], n: i64)
-    ensures { let s = state_of m.old in state_of m.new ≡ record s { vars = assign s.vars x.now n } }
+pub fn assign(memory: &mut Memory, variable: &[u8], n: i64)
+    ensures { let s = state_of memory.old in state_of memory.new
+        ≡ record s { vars = assign s.vars variable.now n } }
 {
-    assign_in(&mut m.vars, x, n);
+    assign_in(&mut memory.vars, variable, n);
 }
 
 /// Leaves the first variables visible.
-pub fn leave(m: &mut Memory, n: usize)
-    ensures { let s = state_of m.old in state_of m.new ≡ record s { vars = take n s.vars } }
+pub fn leave(memory: &mut Memory, count: usize)
+    ensures { let s = state_of memory.old in state_of memory.new
+        ≡ record s { vars = take count s.vars } }
 {
-    m.vars.truncate(n);
+    memory.vars.truncate(count);
 }

@@ -21,22 +21,22 @@ use tp_value::{
 };
 
 /// One more than the most cells that tables may have together: as good as any greater number.
-const TOO_MANY_CELLS: u64 = 4_000_001;
+const TOO_MANY_CELLS: u64 = MAX_TABLE_CELLS as u64 + 1;
 
 /// The cells of a table, or `TOO_MANY_CELLS` where there are more.
-fn cell_count(t: &Table) -> u64
-    ensures { result ≡ min (cell_count t.now) TOO_MANY_CELLS }
+fn cell_count(table: &Table) -> u64
+    ensures { result ≡ min (cell_count table.now) TOO_MANY_CELLS }
 {
-    let (rows, cols) = (t.rows, t.cols);
+    let (rows, cols) = (table.rows, table.cols);
     let cells = u64::from(rows) * u64::from(cols);
     cells.min(TOO_MANY_CELLS)
 }
 
 /// The cells of the table of that name, or `TOO_MANY_CELLS` where there are more.
-fn cells_of(given: &[Table], x: &[u8]) -> u64
-    ensures { result ≡ min (cell_count (table_of given.now x.now)) TOO_MANY_CELLS }
+fn cells_of(given: &[Table], name: &[u8]) -> u64
+    ensures { result ≡ min (cell_count (table_of given.now name.now)) TOO_MANY_CELLS }
 {
-    match table_at(given, x) {
+    match table_at(given, name) {
         Some(t) => cell_count(t),
         None => 0,
     }
@@ -58,10 +58,10 @@ fn input_cells(decls: &[TableDecl], given: &[Table]) -> u64
     cells
 }
 
-fn copied(alloc: Global, given: &[Table], x: &[u8]) -> Result<Table, NoMemory>
-    ensures { IfOk result (λ t. t ≡ table_of given.now x.now) }
+fn copied(alloc: Global, given: &[Table], table: &[u8]) -> Result<Table, NoMemory>
+    ensures { IfOk result (λ t. t ≡ table_of given.now table.now) }
 {
-    match table_at(given, x) {
+    match table_at(given, table) {
         Some(t) => Ok(Table {
             name: Items::new(t.name.items().to_vec(alloc)?),
             rows: t.rows,
@@ -104,13 +104,13 @@ fn more_cells(cells: u64, i: i64, j: i64) -> Option<u64>
     }
 }
 
-fn make_table(alloc: Global, x: &Name, i: i64, j: i64) -> Result<Table, NoMemory>
+fn make_table(alloc: Global, table: &Name, i: i64, j: i64) -> Result<Table, NoMemory>
     requires rows { unsigned_abs i ≤ MAX_SIDE }
     requires cols { unsigned_abs j ≤ MAX_SIDE }
     requires cells { unsigned_abs i * unsigned_abs j ≤ MAX_TABLE_CELLS }
-    ensures { IfOk result (λ t. t ≡ zero_table x.now i j) }
+    ensures { IfOk result (λ t. t ≡ zero_table table.now i j) }
 {
-    let name = Items::new(x.text.to_vec(alloc)?);
+    let name = Items::new(table.text.to_vec(alloc)?);
     let (rows, cols) = (i.unsigned_abs() as u32, j.unsigned_abs() as u32);
     let n = (rows as usize) * (cols as usize);
     let cells = Items::new(vec![in alloc; 0i64; n]?);
@@ -128,21 +128,25 @@ fn make_tables(
     given: &[Table],
     first: u64,
     decls: &[TableDecl],
-    m: &mut Memory,
+    memory: &mut Memory,
 ) -> Result<Stop, NoMemory>
     requires { first ≤ TOO_MANY_CELLS }
     ensures { IfOk result
-        (λ y. Ends (make_tables given.now first decls.now (state_of m.old)) y (state_of m.new)) }
+        (λ y.
+        Ends (make_tables given.now first decls.now (state_of memory.old)) y
+        (state_of memory.new)) }
 {
     let mut cells = first;
     for d in decls {
         match d {
-            TableDecl::Input(x) => m.tables.push(copied(alloc, given, x.text.as_slice())?)?,
-            TableDecl::Made(x, a, b) => match value_of(m, a) {
-                Answer::Number(i) => match value_of(m, b) {
+            TableDecl::Input(x) => memory
+                .tables
+                .push(copied(alloc, given, x.text.as_slice())?)?,
+            TableDecl::Made(x, a, b) => match value_of(memory, a) {
+                Answer::Number(i) => match value_of(memory, b) {
                     Answer::Number(j) => match more_cells(cells, i, j) {
                         Some(n) => {
-                            m.tables.push(make_table(alloc, x, i, j)?)?;
+                            memory.tables.push(make_table(alloc, x, i, j)?)?;
                             cells = n;
                         }
                         None => return Ok(Stop::Trap(TrapKind::Size, x.place)),
@@ -157,16 +161,24 @@ fn make_tables(
 }
 
 /// Makes the tables and runs main.
-fn run_main(k: &Setting, tables: &[Table], m: &mut Memory) -> Result<Stop, NoMemory>
-    requires no_reduces { k.now.reduces.now ≡ [] }
-    requires depth { k.now.depth ≡ 0 }
-    requires first { state_of m.old ≡ first_state }
+fn run_main(setting: &Setting, tables: &[Table], memory: &mut Memory) -> Result<Stop, NoMemory>
+    requires no_reduces { setting.now.reduces.now ≡ [] }
+    requires depth { setting.now.depth ≡ 0 }
+    requires first { state_of memory.old ≡ first_state }
     ensures { IfOk result
-        (λ y. Ends (whole_run k.now.program.now tables.now k.now.fuel) y (state_of m.new)) }
+        (λ y.
+        Ends (whole_run setting.now.program.now tables.now setting.now.fuel) y
+        (state_of memory.new)) }
 {
-    let cells = input_cells(&k.program.tables, tables);
-    match make_tables(k.alloc, tables, cells, &k.program.tables, m)? {
-        Stop::Done => run_list(k, m, &k.program.main),
+    let cells = input_cells(&setting.program.tables, tables);
+    match make_tables(
+        setting.alloc,
+        tables,
+        cells,
+        &setting.program.tables,
+        memory,
+    )? {
+        Stop::Done => run_list(setting, memory, &setting.program.main),
         stop => Ok(stop),
     }
 }
@@ -189,16 +201,16 @@ pub fn plain_run(
         fuel,
         depth: 0,
     };
-    let mut m = Memory {
+    let mut memory = Memory {
         vars: Vec::new(alloc),
         tables: Vec::new(alloc),
         output: Vec::new(alloc),
         ticks: 0,
     };
-    let stop = run_main(&setting, tables, &mut m)?;
+    let stop = run_main(&setting, tables, &mut memory)?;
     Ok(Outcome {
         stop,
-        output: Items::new(m.output),
-        ticks: m.ticks,
+        output: Items::new(memory.output),
+        ticks: memory.ticks,
     })
 }

@@ -9,7 +9,7 @@ ghost use Rattle.loop_meaning.specs.Statements.{unless_wide, too_wide};
 ghost use Rattle.loop_meaning.specs.Calls.{call_at, enter};
 ghost use Rattle.loop_meaning.specs.Ends.{setting_of, state_of, Ends, CallEnds};
 
-use crate::argument::{Numbers, Returned, bound, func_of, numbers_of, stopped};
+use crate::argument::{Numbers, Returned, bound, numbers_of, stopped};
 use crate::expression::value_of;
 use crate::memory::{Memory, assign, count_tick, declare, leave};
 use crate::setting::Setting;
@@ -20,43 +20,47 @@ use std::mem;
 use tp_value::{MAX_CALL_DEPTH, MAX_PAR_LENGTH, NoMemory, Stop, TrapKind};
 
 #[cycle(run)]
-fn run_stmt(k: &Setting, m: &mut Memory, s: &Stmt) -> Result<Stop, NoMemory>
+fn run_stmt(setting: &Setting, memory: &mut Memory, statement: &Stmt) -> Result<Stop, NoMemory>
     ensures { IfOk result
-        (λ x. Ends (run (setting_of k.now) s.now (state_of m.old)) x (state_of m.new)) }
+        (λ x.
+        Ends (run (setting_of setting.now) statement.now (state_of memory.old)) x
+        (state_of memory.new)) }
 {
-    match s {
-        Stmt::Let(x, e) => run_let(k.alloc, m, x, e),
-        Stmt::Set(x, e) => Ok(run_set(m, x, e)),
-        Stmt::Put(t, a, b, e) => Ok(run_put(k.alloc, m, t, a, b, e)),
-        Stmt::If(e, body, other) => match value_of(m, e) {
+    match statement {
+        Stmt::Let(x, e) => run_let(setting.alloc, memory, x, e),
+        Stmt::Set(x, e) => Ok(run_set(memory, x, e)),
+        Stmt::Put(t, a, b, e) => Ok(run_put(setting.alloc, memory, t, a, b, e)),
+        Stmt::If(e, body, other) => match value_of(memory, e) {
             Answer::Number(n) => {
                 if n != 0 {
-                    run_block(k, m, body)
+                    run_block(setting, memory, body)
                 } else {
-                    run_block(k, m, other)
+                    run_block(setting, memory, other)
                 }
             }
             Answer::Traps(kind, place) => Ok(Stop::Trap(kind, place)),
         },
-        Stmt::While(e, body) => run_while(k, m, body, e),
-        Stmt::Loop(x, a, b, body) => run_loop(k, m, body, x, a, b),
-        Stmt::Par(l) => run_par(k, m, l),
-        Stmt::Fold(x, e) => Ok(run_fold(m, k.reduces, x, e)),
-        Stmt::Call(x, f) => run_call(k, m, x, f),
-        Stmt::Both(x, f, y, g) => run_both(k, m, x, f, y, g),
-        Stmt::Print(_, e) => run_print(k.alloc, m, e),
-        Stmt::Emit(_, t) => run_emit(m, t),
+        Stmt::While(e, body) => run_while(setting, memory, body, e),
+        Stmt::Loop(x, a, b, body) => run_loop(setting, memory, body, x, a, b),
+        Stmt::Par(l) => run_par(setting, memory, l),
+        Stmt::Fold(x, e) => Ok(run_fold(memory, setting.reduces, x, e)),
+        Stmt::Call(x, f) => run_call(setting, memory, x, f),
+        Stmt::Both(x, f, y, g) => run_both(setting, memory, x, f, y, g),
+        Stmt::Print(_, e) => run_print(setting.alloc, memory, e),
+        Stmt::Emit(_, t) => run_emit(memory, t),
     }
 }
 
 /// The statements of a list in order.
 #[cycle(run)]
-pub fn run_list(k: &Setting, m: &mut Memory, body: &[Stmt]) -> Result<Stop, NoMemory>
+pub fn run_list(setting: &Setting, memory: &mut Memory, body: &[Stmt]) -> Result<Stop, NoMemory>
     ensures { IfOk result
-        (λ x. Ends (run_list (setting_of k.now) body.now (state_of m.old)) x (state_of m.new)) }
+        (λ x.
+        Ends (run_list (setting_of setting.now) body.now (state_of memory.old)) x
+        (state_of memory.new)) }
 {
     for s in body {
-        match run_stmt(k, m, s)? {
+        match run_stmt(setting, memory, s)? {
             Stop::Done => {}
             stop => return Ok(stop),
         }
@@ -65,29 +69,35 @@ pub fn run_list(k: &Setting, m: &mut Memory, body: &[Stmt]) -> Result<Stop, NoMe
 }
 
 #[cycle(run)]
-fn run_block(k: &Setting, m: &mut Memory, body: &[Stmt]) -> Result<Stop, NoMemory>
+fn run_block(setting: &Setting, memory: &mut Memory, body: &[Stmt]) -> Result<Stop, NoMemory>
     ensures { IfOk result
-        (λ x. Ends (block (run_list (setting_of k.now) body.now) (state_of m.old)) x
-        (state_of m.new)) }
+        (λ x. Ends (block (run_list (setting_of setting.now) body.now) (state_of memory.old)) x
+        (state_of memory.new)) }
 {
-    let n = m.vars.len();
-    let stop = run_list(k, m, body)?;
-    leave(m, n);
+    let n = memory.vars.len();
+    let stop = run_list(setting, memory, body)?;
+    leave(memory, n);
     Ok(stop)
 }
 
 /// A `while`: each turn counts a tick, so that turns beyond the fuel and one are never begun.
 #[cycle(run)]
-fn run_while(k: &Setting, m: &mut Memory, body: &[Stmt], e: &Expr) -> Result<Stop, NoMemory>
+fn run_while(
+    setting: &Setting,
+    memory: &mut Memory,
+    body: &[Stmt],
+    condition: &Expr,
+) -> Result<Stop, NoMemory>
     ensures { IfOk result
         (λ x. Ends
-        (turns (k.now.fuel + 1) k.now.fuel e.now (block (run_list (setting_of k.now) body.now))
-        (state_of m.old))
-        x (state_of m.new)) }
+        (turns (setting.now.fuel + 1) setting.now.fuel condition.now
+        (block (run_list (setting_of setting.now) body.now))
+        (state_of memory.old))
+        x (state_of memory.new)) }
 {
-    let turns = k.fuel + 1;
+    let turns = setting.fuel + 1;
     for i in 0..turns {
-        match value_of(m, e) {
+        match value_of(memory, condition) {
             Answer::Number(n) => {
                 if n == 0 {
                     return Ok(Stop::Done);
@@ -95,11 +105,11 @@ fn run_while(k: &Setting, m: &mut Memory, body: &[Stmt], e: &Expr) -> Result<Sto
             }
             Answer::Traps(kind, place) => return Ok(Stop::Trap(kind, place)),
         }
-        match count_tick(m, k.fuel) {
+        match count_tick(memory, setting.fuel) {
             Stop::Done => {}
             stop => return Ok(stop),
         }
-        match run_block(k, m, body)? {
+        match run_block(setting, memory, body)? {
             Stop::Done => {}
             stop => return Ok(stop),
         }
@@ -110,50 +120,58 @@ fn run_while(k: &Setting, m: &mut Memory, body: &[Stmt], e: &Expr) -> Result<Sto
 /// One iteration over the variable x, with the number i.
 #[cycle(run)]
 fn run_iteration(
-    k: &Setting,
-    m: &mut Memory,
+    setting: &Setting,
+    memory: &mut Memory,
     body: &[Stmt],
-    x: &[u8],
+    variable: &[u8],
     i: i64,
 ) -> Result<Stop, NoMemory>
     ensures { IfOk result
         (λ y. Ends
-        (iteration k.now.fuel x.now (run_list (setting_of k.now) body.now) [] i (state_of m.old))
-        y (state_of m.new)) }
+        (iteration setting.now.fuel variable.now (run_list (setting_of setting.now) body.now) [] i
+        (state_of memory.old))
+        y (state_of memory.new)) }
 {
-    let n = m.vars.len();
-    match count_tick(m, k.fuel) {
+    let n = memory.vars.len();
+    match count_tick(memory, setting.fuel) {
         Stop::Done => {}
         stop => {
-            leave(m, n);
+            leave(memory, n);
             return Ok(stop);
         }
     }
-    declare(k.alloc, m, x, i)?;
-    let stop = run_list(k, m, body)?;
-    leave(m, n);
+    declare(setting.alloc, memory, variable, i)?;
+    let stop = run_list(setting, memory, body)?;
+    leave(memory, n);
     Ok(stop)
 }
 
 /// The iterations with the numbers first, first + 1, .. of which there are n.
 #[cycle(run)]
 fn run_iterations(
-    k: &Setting,
-    m: &mut Memory,
+    setting: &Setting,
+    memory: &mut Memory,
     body: &[Stmt],
-    x: &[u8],
+    variable: &[u8],
     first: i64,
     n: u64,
 ) -> Result<Stop, NoMemory>
     requires { FitsSigned w64 (first +ℤ pos n) }
     ensures { IfOk result
         (λ y. Ends
-        (iterate k.now.fuel x.now (run_list (setting_of k.now) body.now) [] [] n first
-        (state_of m.old))
-        y (state_of m.new)) }
+        (iterate setting.now.fuel variable.now (run_list (setting_of setting.now) body.now) [] [] n
+        first
+        (state_of memory.old))
+        y (state_of memory.new)) }
 {
     for j in 0..n {
-        match run_iteration(k, m, body, x, first.wrapping_add_unsigned(j))? {
+        match run_iteration(
+            setting,
+            memory,
+            body,
+            variable,
+            first.wrapping_add_unsigned(j),
+        )? {
             Stop::Done => {}
             stop => return Ok(stop),
         }
@@ -170,23 +188,32 @@ fn gap(a: i64, b: i64) -> u64
 
 #[cycle(run)]
 fn run_loop(
-    k: &Setting,
-    m: &mut Memory,
+    setting: &Setting,
+    memory: &mut Memory,
     body: &[Stmt],
-    x: &Name,
-    a: &Expr,
-    b: &Expr,
+    variable: &Name,
+    from: &Expr,
+    to: &Expr,
 ) -> Result<Stop, NoMemory>
     ensures { IfOk result
         (λ y. Ends
-        (let s = state_of m.old in given_two a.now b.now s
-        (λ i j. iterate k.now.fuel x.now.text.items (run_list (setting_of k.now) body.now) [] []
+        (let s = state_of memory.old in given_two from.now to.now s
+        (λ i j.
+        iterate setting.now.fuel variable.now.text.items
+        (run_list (setting_of setting.now) body.now) [] []
         (int_gap i j) i s))
-        y (state_of m.new)) }
+        y (state_of memory.new)) }
 {
-    match value_of(m, a) {
-        Answer::Number(i) => match value_of(m, b) {
-            Answer::Number(j) => run_iterations(k, m, body, x.text.as_slice(), i, gap(i, j)),
+    match value_of(memory, from) {
+        Answer::Number(i) => match value_of(memory, to) {
+            Answer::Number(j) => run_iterations(
+                setting,
+                memory,
+                body,
+                variable.text.as_slice(),
+                i,
+                gap(i, j),
+            ),
             Answer::Traps(kind, place) => Ok(Stop::Trap(kind, place)),
         },
         Answer::Traps(kind, place) => Ok(Stop::Trap(kind, place)),
@@ -195,47 +222,53 @@ fn run_loop(
 
 /// The iterations of a `par`, of which there are n.
 #[cycle(run)]
-fn run_body(k: &Setting, m: &mut Memory, l: &ParLoop, first: i64, n: u64) -> Result<Stop, NoMemory>
+fn run_body(
+    setting: &Setting,
+    memory: &mut Memory,
+    par: &ParLoop,
+    first: i64,
+    n: u64,
+) -> Result<Stop, NoMemory>
     requires { FitsSigned w64 (first +ℤ pos n) }
     ensures { IfOk result
         (λ y. Ends
-        (iterate k.now.fuel l.now.var.text.items
-        (run_list (record (setting_of k.now) { reduces = l.now.reduces.items })
-        l.now.body.items)
-        [] [] n first (state_of m.old))
-        y (state_of m.new)) }
+        (iterate setting.now.fuel par.now.var.text.items
+        (run_list (record (setting_of setting.now) { reduces = par.now.reduces.items })
+        par.now.body.items)
+        [] [] n first (state_of memory.old))
+        y (state_of memory.new)) }
 {
     let inner = Setting {
-        alloc: k.alloc,
-        program: k.program,
-        reduces: &l.reduces,
-        fuel: k.fuel,
-        depth: k.depth,
+        alloc: setting.alloc,
+        program: setting.program,
+        reduces: &par.reduces,
+        fuel: setting.fuel,
+        depth: setting.depth,
     };
-    run_iterations(&inner, m, &l.body, l.var.text.as_slice(), first, n)
+    run_iterations(&inner, memory, &par.body, par.var.text.as_slice(), first, n)
 }
 
 #[cycle(run)]
-fn run_par(k: &Setting, m: &mut Memory, l: &ParLoop) -> Result<Stop, NoMemory>
+fn run_par(setting: &Setting, memory: &mut Memory, par: &ParLoop) -> Result<Stop, NoMemory>
     ensures { IfOk result
         (λ y. Ends
-        (let s = state_of m.old in given_two l.now.from l.now.to s
-        (λ i j. unless_wide (too_wide i j) l.now.place
-        (iterate k.now.fuel l.now.var.text.items
-        (run_list (record (setting_of k.now) { reduces = l.now.reduces.items })
-        l.now.body.items)
+        (let s = state_of memory.old in given_two par.now.from par.now.to s
+        (λ i j. unless_wide (too_wide i j) par.now.place
+        (iterate setting.now.fuel par.now.var.text.items
+        (run_list (record (setting_of setting.now) { reduces = par.now.reduces.items })
+        par.now.body.items)
         [] [] (int_gap i j) i)
         s))
-        y (state_of m.new)) }
+        y (state_of memory.new)) }
 {
-    match value_of(m, &l.from) {
-        Answer::Number(i) => match value_of(m, &l.to) {
+    match value_of(memory, &par.from) {
+        Answer::Number(i) => match value_of(memory, &par.to) {
             Answer::Number(j) => {
                 let n = gap(i, j);
                 if n > MAX_PAR_LENGTH {
-                    Ok(Stop::Trap(TrapKind::Wide, l.place))
+                    Ok(Stop::Trap(TrapKind::Wide, par.place))
                 } else {
-                    run_body(k, m, l, i, n)
+                    run_body(setting, memory, par, i, n)
                 }
             }
             Answer::Traps(kind, place) => Ok(Stop::Trap(kind, place)),
@@ -246,25 +279,30 @@ fn run_par(k: &Setting, m: &mut Memory, l: &ParLoop) -> Result<Stop, NoMemory>
 
 /// A function's body and its result, at the depth of its call.
 #[cycle(run)]
-fn enter(k: &Setting, m: &mut Memory, f: &Func, ns: &[i64]) -> Result<Returned, NoMemory>
+fn enter(
+    setting: &Setting,
+    memory: &mut Memory,
+    func: &Func,
+    arguments: &[i64],
+) -> Result<Returned, NoMemory>
     ensures { IfOk result
         (λ r. CallEnds
-        (enter (record (setting_of k.now) { reduces = [] }) (Some f.now) ns.now []
-        (state_of m.old))
-        r.stop r.value (state_of m.new)) }
+        (enter (record (setting_of setting.now) { reduces = [] }) (Some func.now) arguments.now []
+        (state_of memory.old))
+        r.stop r.value (state_of memory.new)) }
 {
     let inner = Setting {
-        alloc: k.alloc,
-        program: k.program,
+        alloc: setting.alloc,
+        program: setting.program,
         reduces: &[],
-        fuel: k.fuel,
-        depth: k.depth,
+        fuel: setting.fuel,
+        depth: setting.depth,
     };
-    let vars = bound(k.alloc, &f.params, ns)?;
-    let saved = mem::replace(&mut m.vars, vars);
-    let done = run_list(&inner, m, &f.body)?;
+    let vars = bound(setting.alloc, &func.params, arguments)?;
+    let saved = mem::replace(&mut memory.vars, vars);
+    let done = run_list(&inner, memory, &func.body)?;
     let end = match done {
-        Stop::Done => match value_of(m, &f.result) {
+        Stop::Done => match value_of(memory, &func.result) {
             Answer::Number(value) => Returned {
                 stop: Stop::Done,
                 value,
@@ -273,50 +311,64 @@ fn enter(k: &Setting, m: &mut Memory, f: &Func, ns: &[i64]) -> Result<Returned, 
         },
         stop => stopped(stop),
     };
-    m.vars = saved;
+    memory.vars = saved;
     Ok(end)
 }
 
 /// A call of a function.
 #[cycle(run)]
-fn call(k: &Setting, m: &mut Memory, f: &Name, ns: &[i64]) -> Result<Returned, NoMemory>
+fn call(
+    setting: &Setting,
+    memory: &mut Memory,
+    callee: &Name,
+    arguments: &[i64],
+) -> Result<Returned, NoMemory>
     ensures { IfOk result
         (λ r. CallEnds
-        (call_at k.now.program.now.funcs.items k.now.fuel (MAX_CALL_DEPTH - k.now.depth)
-        f.now.text.items f.now.place ns.now [] (state_of m.old))
-        r.stop r.value (state_of m.new)) }
+        (call_at setting.now.program.now.funcs.items setting.now.fuel
+        (MAX_CALL_DEPTH - setting.now.depth)
+        callee.now.text.items callee.now.place arguments.now [] (state_of memory.old))
+        r.stop r.value (state_of memory.new)) }
 {
-    match count_tick(m, k.fuel) {
+    match count_tick(memory, setting.fuel) {
         Stop::Done => {}
         stop => return Ok(stopped(stop)),
     }
-    if k.depth >= MAX_CALL_DEPTH {
-        return Ok(stopped(Stop::Trap(TrapKind::Deep, f.place)));
+    if setting.depth >= MAX_CALL_DEPTH {
+        return Ok(stopped(Stop::Trap(TrapKind::Deep, callee.place)));
     }
     let inner = Setting {
-        alloc: k.alloc,
-        program: k.program,
+        alloc: setting.alloc,
+        program: setting.program,
         reduces: &[],
-        fuel: k.fuel,
-        depth: k.depth + 1,
+        fuel: setting.fuel,
+        depth: setting.depth + 1,
     };
-    match func_of(&k.program.funcs, f.text.as_slice()) {
-        Some(g) => enter(&inner, m, g, ns),
+    match setting.program.func(&callee.text) {
+        Some(g) => enter(&inner, memory, g, arguments),
         None => Ok(stopped(Stop::Done)),
     }
 }
 
 #[cycle(run)]
-fn run_call(k: &Setting, m: &mut Memory, x: &Name, f: &App) -> Result<Stop, NoMemory>
+fn run_call(
+    setting: &Setting,
+    memory: &mut Memory,
+    target: &Name,
+    application: &App,
+) -> Result<Stop, NoMemory>
     ensures { IfOk result
-        (λ y. Ends (run_call (setting_of k.now) x.now f.now (state_of m.old)) y (state_of m.new)) }
+        (λ y.
+        Ends
+        (run_call (setting_of setting.now) target.now application.now (state_of memory.old))
+        y (state_of memory.new)) }
 {
-    match numbers_of(k.alloc, m, &f.args)? {
+    match numbers_of(setting.alloc, memory, &application.args)? {
         Numbers::All(ns) => {
-            let end = call(k, m, &f.callee, &ns)?;
+            let end = call(setting, memory, &application.callee, &ns)?;
             match end.stop {
                 Stop::Done => {
-                    assign(m, x.text.as_slice(), end.value);
+                    assign(memory, target.text.as_slice(), end.value);
                     Ok(Stop::Done)
                 }
                 stop => Ok(stop),
@@ -329,51 +381,66 @@ fn run_call(k: &Setting, m: &mut Memory, x: &Name, f: &App) -> Result<Stop, NoMe
 /// The two calls of a `both`, and then its two assignments.
 #[cycle(run)]
 fn run_two(
-    k: &Setting,
-    m: &mut Memory,
-    x: &Name,
-    f: &Name,
-    ns: &[i64],
-    y: &Name,
-    g: &Name,
-    ms: &[i64],
+    setting: &Setting,
+    memory: &mut Memory,
+    target: &Name,
+    callee: &Name,
+    arguments: &[i64],
+    second_target: &Name,
+    second_callee: &Name,
+    second_arguments: &[i64],
 ) -> Result<Stop, NoMemory>
     ensures { IfOk result
         (λ r. Ends
-        (two_calls (setting_of k.now) x.now f.now ns.now y.now g.now ms.now [] (state_of m.old)) r
-        (state_of m.new)) }
+        (two_calls (setting_of setting.now) target.now callee.now arguments.now second_target.now
+        second_callee.now second_arguments.now [] (state_of memory.old))
+        r
+        (state_of memory.new)) }
 {
-    let first = call(k, m, f, ns)?;
+    let first = call(setting, memory, callee, arguments)?;
     match first.stop {
         Stop::Done => {}
         stop => return Ok(stop),
     }
-    let second = call(k, m, g, ms)?;
+    let second = call(setting, memory, second_callee, second_arguments)?;
     match second.stop {
         Stop::Done => {}
         stop => return Ok(stop),
     }
-    assign(m, x.text.as_slice(), first.value);
-    assign(m, y.text.as_slice(), second.value);
+    assign(memory, target.text.as_slice(), first.value);
+    assign(memory, second_target.text.as_slice(), second.value);
     Ok(Stop::Done)
 }
 
 #[cycle(run)]
 fn run_both(
-    k: &Setting,
-    m: &mut Memory,
-    x: &Name,
-    f: &App,
-    z: &Name,
-    g: &App,
+    setting: &Setting,
+    memory: &mut Memory,
+    target: &Name,
+    application: &App,
+    second_target: &Name,
+    second_application: &App,
 ) -> Result<Stop, NoMemory>
     ensures { IfOk result
-        (λ y. Ends (run_both (setting_of k.now) x.now f.now z.now g.now (state_of m.old)) y
-        (state_of m.new)) }
+        (λ y.
+        Ends
+        (run_both (setting_of setting.now) target.now application.now second_target.now
+        second_application.now (state_of memory.old))
+        y
+        (state_of memory.new)) }
 {
-    match numbers_of(k.alloc, m, &f.args)? {
-        Numbers::All(ns) => match numbers_of(k.alloc, m, &g.args)? {
-            Numbers::All(ms) => run_two(k, m, x, &f.callee, &ns, z, &g.callee, &ms),
+    match numbers_of(setting.alloc, memory, &application.args)? {
+        Numbers::All(ns) => match numbers_of(setting.alloc, memory, &second_application.args)? {
+            Numbers::All(ms) => run_two(
+                setting,
+                memory,
+                target,
+                &application.callee,
+                &ns,
+                second_target,
+                &second_application.callee,
+                &ms,
+            ),
             Numbers::Traps(kind, place) => Ok(Stop::Trap(kind, place)),
         },
         Numbers::Traps(kind, place) => Ok(Stop::Trap(kind, place)),

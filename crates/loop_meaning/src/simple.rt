@@ -11,23 +11,30 @@ ghost use Rattle.loop_meaning.specs.Ends.{state_of, Ends};
 use crate::expression::{index_below, lookup, table_at, value_of};
 use crate::memory::{Memory, assign, declare};
 use crate::value::Answer;
-use loop_syntax::{Expr, Name, Reduce};
+use loop_syntax::{Expr, Name, Reduce, operator_of};
 use reduce_ops::combine;
 use std::alloc::Global;
 use std::mem;
 use table_text::push_row_text;
-use tp_value::{Items, NoMemory, Op, Stop, Table, TrapKind};
+use tp_value::{Items, NoMemory, Stop, Table, TrapKind};
 
 /// `let x = e;`
-pub fn run_let(alloc: Global, m: &mut Memory, x: &Name, e: &Expr) -> Result<Stop, NoMemory>
-    ensures { let s = state_of m.old in IfOk result
+pub fn run_let(
+    alloc: Global,
+    memory: &mut Memory,
+    variable: &Name,
+    value: &Expr,
+) -> Result<Stop, NoMemory>
+    ensures { let s = state_of memory.old in IfOk result
         (λ y. Ends
-        (given e.now s (λ n. done (record s { vars = declare s.vars x.now.text.items n }))) y
-        (state_of m.new)) }
+        (given value.now s (λ n.
+        done (record s { vars = declare s.vars variable.now.text.items n })))
+        y
+        (state_of memory.new)) }
 {
-    match value_of(m, e) {
+    match value_of(memory, value) {
         Answer::Number(n) => {
-            declare(alloc, m, x.text.as_slice(), n)?;
+            declare(alloc, memory, variable.text.as_slice(), n)?;
             Ok(Stop::Done)
         }
         Answer::Traps(kind, place) => Ok(Stop::Trap(kind, place)),
@@ -35,47 +42,37 @@ pub fn run_let(alloc: Global, m: &mut Memory, x: &Name, e: &Expr) -> Result<Stop
 }
 
 /// `x = e;`
-pub fn run_set(m: &mut Memory, x: &Name, e: &Expr) -> Stop
-    ensures { let s = state_of m.old in Ends (given e.now s (λ n. done (set_var x.now n s))) result
-        (state_of m.new) }
+pub fn run_set(memory: &mut Memory, variable: &Name, value: &Expr) -> Stop
+    ensures { let s = state_of memory.old in
+        Ends (given value.now s (λ n. done (set_var variable.now n s))) result
+        (state_of memory.new) }
 {
-    match value_of(m, e) {
+    match value_of(memory, value) {
         Answer::Number(n) => {
-            assign(m, x.text.as_slice(), n);
+            assign(memory, variable.text.as_slice(), n);
             Stop::Done
         }
         Answer::Traps(kind, place) => Stop::Trap(kind, place),
     }
 }
 
-/// The operator that a reduce list gives to x.
-fn operator_of(reduces: &[Reduce], x: &[u8]) -> Option<Op>
-    ensures { result ≡ operator_of reduces.now x.now }
-{
-    for r in reduces {
-        if r.target.text.as_slice() == x {
-            return Some(r.op);
-        }
-    }
-    None
-}
-
 /// `fold x with e;`
-pub fn run_fold(m: &mut Memory, reduces: &[Reduce], x: &Name, e: &Expr) -> Stop
-    ensures { let s = state_of m.old in Ends
-        (given e.now s
+pub fn run_fold(memory: &mut Memory, reduces: &[Reduce], variable: &Name, value: &Expr) -> Stop
+    ensures { let s = state_of memory.old in Ends
+        (given value.now s
         (λ n. done
         (record s {
-          vars = folded (operator_of reduces.now x.now.text.items) s.vars x.now.text.items n;
+          vars = folded (operator_of reduces.now variable.now.text.items) s.vars
+              variable.now.text.items n;
         })))
-        result (state_of m.new) }
+        result (state_of memory.new) }
 {
-    match value_of(m, e) {
+    match value_of(memory, value) {
         Answer::Number(n) => {
-            match operator_of(reduces, x.text.as_slice()) {
+            match operator_of(reduces, variable.text.as_slice()) {
                 Some(op) => {
-                    let old = lookup(&m.vars, x.text.as_slice());
-                    assign(m, x.text.as_slice(), combine(op, old, n));
+                    let old = lookup(&memory.vars, variable.text.as_slice());
+                    assign(memory, variable.text.as_slice(), combine(op, old, n));
                 }
                 None => {}
             }
@@ -94,27 +91,29 @@ fn push_number(alloc: Global, out: &mut Vec<u8>, n: i64) -> Result<(), NoMemory>
 }
 
 /// `print e;`
-pub fn run_print(alloc: Global, m: &mut Memory, e: &Expr) -> Result<Stop, NoMemory>
-    ensures { let s = state_of m.old in IfOk result
-        (λ y. Ends (given e.now s (λ n. done (print_line n s))) y (state_of m.new)) }
+pub fn run_print(alloc: Global, memory: &mut Memory, value: &Expr) -> Result<Stop, NoMemory>
+    ensures { let s = state_of memory.old in IfOk result
+        (λ y. Ends (given value.now s (λ n. done (print_line n s))) y (state_of memory.new)) }
 {
-    match value_of(m, e) {
+    match value_of(memory, value) {
         Answer::Number(n) => {
-            push_number(alloc, &mut m.output, n)?;
-            m.output.push(b'\n')?;
+            push_number(alloc, &mut memory.output, n)?;
+            memory.output.push(b'\n')?;
             Ok(Stop::Done)
         }
         Answer::Traps(kind, place) => Ok(Stop::Trap(kind, place)),
     }
 }
 
-fn push_table(out: &mut Vec<u8>, t: &Table) -> Result<(), NoMemory>
+fn push_table(out: &mut Vec<u8>, table: &Table) -> Result<(), NoMemory>
     ensures { IfOk result
-        (λ u. out.new.items ≡ out.old.items ++ row_lines t.now.rows t.now.cols t.now.cells) }
+        (λ u.
+        out.new.items
+        ≡ out.old.items ++ row_lines table.now.rows table.now.cols table.now.cells) }
 {
-    let cols = t.cols as usize;
-    let mut rest = t.cells.items();
-    for k in 0..t.rows {
+    let cols = table.cols as usize;
+    let mut rest = table.cells.items();
+    for k in 0..table.rows {
         let n = cols.min(rest.len());
         let (row, others) = rest.split_at(n);
         push_row_text(out, row)?;
@@ -124,42 +123,46 @@ fn push_table(out: &mut Vec<u8>, t: &Table) -> Result<(), NoMemory>
 }
 
 /// `emit t;`
-pub fn run_emit(m: &mut Memory, t: &Name) -> Result<Stop, NoMemory>
-    ensures { let s = state_of m.old in IfOk result
-        (λ y. Ends (done (print_table (table_of s.tables t.now.text.items) s)) y (state_of m.new)) }
+pub fn run_emit(memory: &mut Memory, name: &Name) -> Result<Stop, NoMemory>
+    ensures { let s = state_of memory.old in IfOk result
+        (λ y.
+        Ends (done (print_table (table_of s.tables name.now.text.items) s)) y
+        (state_of memory.new)) }
 {
-    match table_at(&m.tables, t.text.as_slice()) {
-        Some(table) => push_table(&mut m.output, table)?,
+    match table_at(&memory.tables, name.text.as_slice()) {
+        Some(table) => push_table(&mut memory.output, table)?,
         None => {}
     }
     Ok(Stop::Done)
 }
 
-fn put_in(alloc: Global, t: &mut Table, i: i64, j: i64, n: i64) -> bool
-    ensures answer { result ≡ has_cell t.old i j }
-    ensures after { t.new ≡ (if has_cell t.old i j then with_cell t.old i j n else t.old) }
+fn put_in(alloc: Global, table: &mut Table, i: i64, j: i64, n: i64) -> bool
+    ensures answer { result ≡ has_cell table.old i j }
+    ensures after { table.new
+        ≡ (if has_cell table.old i j then with_cell table.old i j n else table.old) }
 {
-    let (row, col) = match (index_below(i, t.rows), index_below(j, t.cols)) {
+    let (row, col) = match (index_below(i, table.rows), index_below(j, table.cols)) {
         (Some(row), Some(col)) => (row, col),
         _ => return false,
     };
-    let at = (row * u64::from(t.cols) + col) as usize;
-    let mut cells = mem::replace(&mut t.cells, Items::new(Vec::new(alloc))).into_vec();
+    let at = (row * u64::from(table.cols) + col) as usize;
+    let mut cells = mem::replace(&mut table.cells, Items::new(Vec::new(alloc))).into_vec();
     if at < cells.len() {
         cells[at] = n;
     }
-    t.cells = Items::new(cells);
+    table.cells = Items::new(cells);
     true
 }
 
-fn put_cell(alloc: Global, tables: &mut [Table], x: &[u8], i: i64, j: i64, n: i64) -> bool
-    ensures answer { result ≡ has_cell (table_of tables.old x.now) i j }
+fn put_cell(alloc: Global, tables: &mut [Table], name: &[u8], i: i64, j: i64, n: i64) -> bool
+    ensures answer { result ≡ has_cell (table_of tables.old name.now) i j }
     ensures after { tables.new
-        ≡ (if has_cell (table_of tables.old x.now) i j then write_cell tables.old x.now i j n else
+        ≡ (if has_cell (table_of tables.old name.now) i j then write_cell tables.old name.now i j n
+        else
         tables.old) }
 {
     for k in 0..tables.len() {
-        if tables[k].name.items() == x {
+        if tables[k].name.items() == name {
             return put_in(alloc, &mut tables[k], i, j, n);
         }
     }
@@ -167,19 +170,28 @@ fn put_cell(alloc: Global, tables: &mut [Table], x: &[u8], i: i64, j: i64, n: i6
 }
 
 /// `t[a][b] = e;`
-pub fn run_put(alloc: Global, m: &mut Memory, t: &Name, a: &Expr, b: &Expr, e: &Expr) -> Stop
-    ensures { let s = state_of m.old in Ends
-        (given_two a.now b.now s (λ i j. given e.now s (λ n. put_cell t.now i j n s))) result
-        (state_of m.new) }
+pub fn run_put(
+    alloc: Global,
+    memory: &mut Memory,
+    table: &Name,
+    row: &Expr,
+    column: &Expr,
+    value: &Expr,
+) -> Stop
+    ensures { let s = state_of memory.old in Ends
+        (given_two row.now column.now s (λ i j.
+        given value.now s (λ n. put_cell table.now i j n s)))
+        result
+        (state_of memory.new) }
 {
-    match value_of(m, a) {
-        Answer::Number(i) => match value_of(m, b) {
-            Answer::Number(j) => match value_of(m, e) {
+    match value_of(memory, row) {
+        Answer::Number(i) => match value_of(memory, column) {
+            Answer::Number(j) => match value_of(memory, value) {
                 Answer::Number(n) => {
-                    if put_cell(alloc, &mut m.tables, t.text.as_slice(), i, j, n) {
+                    if put_cell(alloc, &mut memory.tables, table.text.as_slice(), i, j, n) {
                         Stop::Done
                     } else {
-                        Stop::Trap(TrapKind::Index, t.place)
+                        Stop::Trap(TrapKind::Index, table.place)
                     }
                 }
                 Answer::Traps(kind, place) => Stop::Trap(kind, place),

@@ -1,5 +1,6 @@
 -- The grammar of programs: what each form is made of, and which tokens it is.
-use Rattle.std.specs.Prelude.{◌≡◌, ℕ, suc, ℤ, List, [], ◌∷◌, ◌++◌, ◌≤◌, length, take, drop}
+use Rattle.std.specs.Prelude.{◌≡◌, ℕ, suc, ℤ, List, [], ◌∷◌, ◌++◌, ◌≤◌, ◌<◌, length, take, drop}
+use Rattle.tp_value.specs.declared.limits.TheConstants.{MAX_BLOCK_NESTING, MAX_EXPRESSION_TOKENS}
 use Rattle.tp_value.specs.declared.values.Place.{Place}
 use Rattle.tp_value.specs.declared.values.Op.{Op}
 use Rattle.tp_value.specs.declared.values.Op.TheVariants as reducers
@@ -245,13 +246,14 @@ mutual
     in_later : {item what : Item} {items : List Item} {ts mid us : List Token} → Fits item ts mid →
         ComesIn items mid what us → ComesIn (item ∷ items) ts what us
 
--- what comes at these tokens is too deep, at the second list: the last of 257 tokens that begin an
--- expression, or the brace of a block inside 32 others
+-- what comes at these tokens is too deep, at the second list: the first token past the limit, where
+-- the tokens up to it begin an expression, or the brace of a block inside as many as there may be
 pub data IsTooDeep : Item → List Token → List Token → Type 0 where
-  long_expr : {e : Tree} {ts us : List Token} → 257 ≤ length ts → BeginsExpr (take 257 ts) →
-      us ≡ drop 256 ts → IsTooDeep (AnExpr e) ts us
-  deep_brace : {l : ℕ} {t : Token} {rest us : List Token} → 32 ≤ l → Is OpenBrace t →
-      us ≡ t ∷ rest → IsTooDeep (ABrace l) (t ∷ rest) us
+  long_expr : {e : Tree} {ts us : List Token} → MAX_EXPRESSION_TOKENS < length ts →
+      BeginsExpr (take (suc MAX_EXPRESSION_TOKENS) ts) → us ≡ drop MAX_EXPRESSION_TOKENS ts →
+      IsTooDeep (AnExpr e) ts us
+  deep_brace : {l : ℕ} {t : Token} {rest us : List Token} → MAX_BLOCK_NESTING ≤ l →
+      Is OpenBrace t → us ≡ t ∷ rest → IsTooDeep (ABrace l) (t ∷ rest) us
 
 -- something too deep comes in the item
 pub record DeepIn (item : Item) (ts us : List Token) : Type 0 where

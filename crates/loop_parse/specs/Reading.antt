@@ -4,6 +4,7 @@
 use Rattle.std.specs.Prelude.{◌≡◌, ℕ, zero, suc, List, [], ◌∷◌, ◌++◌, ◌-◌, ◌&&◌, length, take, drop}
 use Rattle.std.specs.Prelude.{nat_le, true, Option, Some, None, Result, Ok, Err, Bool, false}
 use Rattle.std.specs.Prelude.{nat_eq, if◌then◌else◌}
+use Rattle.tp_value.specs.declared.limits.TheConstants.{MAX_BLOCK_NESTING, MAX_EXPRESSION_TOKENS}
 use Rattle.tp_value.specs.declared.values.Place.{Place}
 use Rattle.tp_value.specs.declared.values.Op.{Op}
 use Rattle.tp_value.specs.declared.values.Op.TheVariants as reducers
@@ -235,15 +236,15 @@ is_empty (t ∷ ts) = false
 
 -- how many tokens of an outermost expression are looked at: one more than it may have
 abbrev pub window : ℕ
-window = 257
+window = suc MAX_EXPRESSION_TOKENS
 
 -- what the reading of the window says of the whole
 abbrev pub limited : List Token → Reply Tree → Reply Tree
 limited ts (Ok x) =
-    if nat_le window (length ts) && is_empty x.1 then Err (Deep (drop 256 ts))
+    if nat_le window (length ts) && is_empty x.1 then Err (Deep (drop MAX_EXPRESSION_TOKENS ts))
     else Ok (x.0, drop (length (take window ts) - length x.1) ts)
 limited ts (Err (Form us)) =
-    if nat_le window (length ts) && is_empty us then Err (Deep (drop 256 ts))
+    if nat_le window (length ts) && is_empty us then Err (Deep (drop MAX_EXPRESSION_TOKENS ts))
     else Err (Form (drop (length (take window ts) - length us) ts))
 limited ts (Err (Deep us)) = Err (Deep us)
 
@@ -258,7 +259,7 @@ pub record Limits : Type 0 where
   pub is_deep : ℕ → Bool
 
 abbrev pub within : Limits
-within = record { outermost = outer; is_deep = λ level. nat_le 32 level }
+within = record { outermost = outer; is_deep = λ level. nat_le MAX_BLOCK_NESTING level }
 
 abbrev pub unlimited : Limits
 unlimited = record { outermost = expr; is_deep = λ level. false }

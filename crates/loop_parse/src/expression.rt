@@ -101,7 +101,7 @@ fn skip<'a>(source: &[u8], tokens: &'a [Lexeme], count: usize) -> &'a [Lexeme]
 /// The last of the tokens looked at, and those after it.
 fn last_looked_at<'a>(source: &[u8], tokens: &'a [Lexeme]) -> &'a [Lexeme]
     requires { window ≤ length (seen source.now tokens.now) }
-    ensures { seen source.now result.now ≡ drop 256 (seen source.now tokens.now) }
+    ensures { seen source.now result.now ≡ drop MAX_EXPRESSION_TOKENS (seen source.now tokens.now) }
 {
     skip(source, tokens, WINDOW - 1)
 }

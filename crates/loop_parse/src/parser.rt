@@ -1,6 +1,7 @@
 // The parser's call.
 
 ghost use Rattle.std.specs.Prelude.{◌≡◌, ◌≤◌, ℕ, length, IfOk, IfErr};
+ghost use Rattle.tp_value.specs.declared.limits.TheConstants.{MAX_SOURCE_BYTES};
 ghost use Rattle.loop_lex.specs.Lexical.{AreTokensOf, EachIsTokenOf, place_of, place_after};
 ghost use Rattle.loop_syntax.specs.Tree.{program_of};
 ghost use Rattle.loop_parse.specs.Terms.{seen, tokens_of};
@@ -22,8 +23,8 @@ pub enum ParseFault {
     /// E3: the place of the first token at which no program continues, or of the byte after the
     /// text's last byte.
     Form(Place),
-    /// E14: the place of the brace of a block inside 32 others, or of the 257th token of an
-    /// expression.
+    /// E14: the place of the brace of a block inside `MAX_BLOCK_NESTING` others, or of the token of
+    /// an expression behind `MAX_EXPRESSION_TOKENS` others.
     Deep(Place),
     /// There was no memory.
     NoMemory,
@@ -53,9 +54,9 @@ impl<T: Drop> From<AllocFailed<T>> for ParseFault {
 
 /// The tree of a text, from its tokens. The fault is the first of the text: `Form` where no program
 /// continues, `Deep` where a block or an expression is too large. The time is linear in the text,
-/// and calls go no deeper than 32 blocks and 256 tokens of an expression need.
+/// and calls go no deeper than the limits on blocks and on tokens of an expression ask for.
 pub fn parse(alloc: Global, source: &[u8], tokens: &[Token]) -> Result<Program, ParseFault>
-    requires small { length source.now ≤ 1048576 }
+    requires small { length source.now ≤ MAX_SOURCE_BYTES }
     requires lexed { AreTokensOf source.now tokens.now }
     ensures tree { IfOk result (λ p. Reads source.now (program_of p)) }
     ensures no_other { IfOk result (λ p. IsOnlyTree source.now (program_of p)) }
@@ -100,7 +101,7 @@ fn finish(source: &[u8], found: Program, rest: &[Lexeme]) -> Result<Program, Par
 
 /// The fault with its place.
 fn fault_at(source: &[u8], halt: Halt) -> ParseFault
-    requires { length source.now ≤ 1048576 }
+    requires { length source.now ≤ MAX_SOURCE_BYTES }
     ensures { IsPlaced source.now halt.entry result }
 {
     match halt {
@@ -112,7 +113,7 @@ fn fault_at(source: &[u8], halt: Halt) -> ParseFault
 
 /// The place where these tokens begin, or of the byte after the text's last.
 fn place_at(source: &[u8], rest: &[Lexeme]) -> Place
-    requires { length source.now ≤ 1048576 }
+    requires { length source.now ≤ MAX_SOURCE_BYTES }
     ensures { result ≡ place_at source.now (seen source.now rest.now) }
 {
     match next(source, rest) {
@@ -123,7 +124,7 @@ fn place_at(source: &[u8], rest: &[Lexeme]) -> Place
 
 /// The place of the byte after the text's last.
 fn end_of(source: &[u8]) -> Place
-    requires { length source.now ≤ 1048576 }
+    requires { length source.now ≤ MAX_SOURCE_BYTES }
     ensures { result ≡ place_of source.now }
 {
     let mut place = Place { line: 1, col: 1 };

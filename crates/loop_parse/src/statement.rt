@@ -29,7 +29,7 @@ pub(crate) fn block<'a>(
     level: u32,
     tokens: &'a [Lexeme],
 ) -> Result<(Vec<Stmt>, &'a [Lexeme]), Halt<'a>>
-    requires { level ≤ 32 }
+    requires { level ≤ MAX_BLOCK_NESTING }
     ensures reads { (n : ℕ) → length (seen source.now tokens.now) ≤ n →
         Gives source.now (λ x. (nodes_of x.0.items, seen source.now x.1.now)) result
         (block within n level (seen source.now tokens.now)) }
@@ -53,7 +53,7 @@ pub(crate) fn open_brace<'a>(
         (open_brace within level (seen source.now tokens.now)) }
     ensures shorter { IfOk result (λ x.
         length (seen source.now x.1.now) < length (seen source.now tokens.now)) }
-    ensures room { OnOk result (level < 32) }
+    ensures room { OnOk result (level < MAX_BLOCK_NESTING) }
 {
     let (open, rest) = expect(source, tokens, Fixed::OpenBrace)?;
     if level >= MAX_BLOCK_NESTING {
@@ -70,7 +70,7 @@ fn inner_statements<'a>(
     level: u32,
     tokens: &'a [Lexeme],
 ) -> Result<(Vec<Stmt>, &'a [Lexeme]), Halt<'a>>
-    requires { level ≤ 32 }
+    requires { level ≤ MAX_BLOCK_NESTING }
     ensures reads { (n : ℕ) → length (seen source.now tokens.now) < n →
         Gives source.now (λ x. (map node_of x.0.items, seen source.now x.1.now)) result
         (inner_stmts within n level (seen source.now tokens.now)) }
@@ -89,7 +89,7 @@ pub(crate) fn statements<'a>(
     level: u32,
     tokens: &'a [Lexeme],
 ) -> Result<(Vec<Stmt>, &'a [Lexeme]), Halt<'a>>
-    requires { level ≤ 32 }
+    requires { level ≤ MAX_BLOCK_NESTING }
     ensures reads { (n : ℕ) → length (seen source.now tokens.now) ≤ n →
         Gives source.now (λ x. (map node_of x.0.items, seen source.now x.1.now)) result
         (stmts within n level (seen source.now tokens.now)) }
@@ -153,7 +153,7 @@ fn statement<'a>(
     level: u32,
     tokens: &'a [Lexeme],
 ) -> Result<(Stmt, &'a [Lexeme]), Halt<'a>>
-    requires { level ≤ 32 }
+    requires { level ≤ MAX_BLOCK_NESTING }
     ensures reads { (n : ℕ) → length (seen source.now tokens.now) ≤ n →
         Gives source.now (λ x. (node_of x.0, seen source.now x.1.now)) result
         (stmt within n level (seen source.now tokens.now)) }
@@ -188,7 +188,7 @@ fn if_rest<'a>(
     level: u32,
     tokens: &'a [Lexeme],
 ) -> Result<(Stmt, &'a [Lexeme]), Halt<'a>>
-    requires { level ≤ 32 }
+    requires { level ≤ MAX_BLOCK_NESTING }
     ensures reads { (n : ℕ) → length (seen source.now tokens.now) ≤ n →
         Gives source.now (λ x. (node_of x.0, seen source.now x.1.now)) result
         (if_rest within n level (seen source.now tokens.now)) }
@@ -210,7 +210,7 @@ fn else_block<'a>(
     level: u32,
     tokens: &'a [Lexeme],
 ) -> Result<(Vec<Stmt>, &'a [Lexeme]), Halt<'a>>
-    requires { level ≤ 32 }
+    requires { level ≤ MAX_BLOCK_NESTING }
     ensures reads { (n : ℕ) → length (seen source.now tokens.now) ≤ n →
         Gives source.now (λ x. (nodes_of x.0.items, seen source.now x.1.now)) result
         (else_block within n level (seen source.now tokens.now)) }
@@ -233,7 +233,7 @@ fn while_rest<'a>(
     level: u32,
     tokens: &'a [Lexeme],
 ) -> Result<(Stmt, &'a [Lexeme]), Halt<'a>>
-    requires { level ≤ 32 }
+    requires { level ≤ MAX_BLOCK_NESTING }
     ensures reads { (n : ℕ) → length (seen source.now tokens.now) ≤ n →
         Gives source.now (λ x. (node_of x.0, seen source.now x.1.now)) result
         (while_rest within n level (seen source.now tokens.now)) }
@@ -254,7 +254,7 @@ fn loop_rest<'a>(
     level: u32,
     tokens: &'a [Lexeme],
 ) -> Result<(Stmt, &'a [Lexeme]), Halt<'a>>
-    requires { level ≤ 32 }
+    requires { level ≤ MAX_BLOCK_NESTING }
     ensures reads { (n : ℕ) → length (seen source.now tokens.now) ≤ n →
         Gives source.now (λ x. (node_of x.0, seen source.now x.1.now)) result
         (loop_rest within n level (seen source.now tokens.now)) }
@@ -280,7 +280,7 @@ fn par_rest<'a>(
     place: Place,
     tokens: &'a [Lexeme],
 ) -> Result<(Stmt, &'a [Lexeme]), Halt<'a>>
-    requires { level ≤ 32 }
+    requires { level ≤ MAX_BLOCK_NESTING }
     ensures reads { (n : ℕ) → length (seen source.now tokens.now) ≤ n →
         Gives source.now (λ x. (node_of x.0, seen source.now x.1.now)) result
         (par_rest within n level place (seen source.now tokens.now)) }
@@ -308,7 +308,7 @@ fn par_tail<'a>(
     to: Expr,
     tokens: &'a [Lexeme],
 ) -> Result<(Stmt, &'a [Lexeme]), Halt<'a>>
-    requires { level ≤ 32 }
+    requires { level ≤ MAX_BLOCK_NESTING }
     ensures reads { (n : ℕ) → length (seen source.now tokens.now) ≤ n →
         Gives source.now (λ x. (node_of x.0, seen source.now x.1.now)) result
         (par_tail within n level place (spelled var) (tree_of from) (tree_of to)

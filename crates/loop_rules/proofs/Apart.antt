@@ -10,7 +10,7 @@ use Rattle.loop_syntax.specs.declared.Stmt.{Stmt, Row_of-Stmt, end_of-Stmt, more
 use Rattle.loop_syntax.specs.declared.Stmt.TheVariants.{Let, Set, Put, If', While', Loop', Par', Fold, Call, Both, Print, Emit}
 use Rattle.loop_rules.specs.declared.fault.Fault.{Fault}
 use Rattle.loop_rules.specs.Sites.{Site, Spot, in_expr, in_whole, in_args, in_app, in_carries, in_stmt, in_all, in_list, in_loop, in_par, spot_after}
-use Rattle.loop_rules.specs.Search.{lowest_at, lowest_in}
+use Rattle.loop_rules.specs.Search.{lowest_at, lowest_in, resolved_rules}
 use Rattle.loop_rules.proofs.Searching.{lowest_in_append}
 
 -- without the loops round
@@ -18,18 +18,18 @@ abbrev pub bare : Spot → Spot
 bare w = record w { rounds = [] }
 
 record Same (xs ys : List Site) : Type 0 where
-  at : (b : Option Fault) → lowest_in b xs ≡ lowest_in b ys
+  at : (b : Option Fault) → lowest_in resolved_rules b xs ≡ lowest_in resolved_rules b ys
 
 none : Same [] []
 none = record { at = λ b. refl }
 
 same_append : (xs ys us vs : List Site) → Same xs us → Same ys vs → Same (xs ++ ys) (us ++ vs)
 same_append xs ys us vs f g = record {
-  at = λ b. lowest_in_append b xs ys ∙ ap (λ c. lowest_in c ys) (f.at b) ∙ g.at (lowest_in b us) ∙ sym (lowest_in_append b us vs);
+  at = λ b. lowest_in_append resolved_rules b xs ys ∙ ap (λ c. lowest_in resolved_rules c ys) (f.at b) ∙ g.at (lowest_in resolved_rules b us) ∙ sym (lowest_in_append resolved_rules b us vs);
 }
 
-same_cons : (s t : Site) (xs ys : List Site) → ((b : Option Fault) → lowest_at b s ≡ lowest_at b t) → Same xs ys → Same (s ∷ xs) (t ∷ ys)
-same_cons s t xs ys f g = record { at = λ b. ap (λ c. lowest_in c xs) (f b) ∙ g.at (lowest_at b t) }
+same_cons : (s t : Site) (xs ys : List Site) → ((b : Option Fault) → lowest_at resolved_rules b s ≡ lowest_at resolved_rules b t) → Same xs ys → Same (s ∷ xs) (t ∷ ys)
+same_cons s t xs ys f g = record { at = λ b. ap (λ c. lowest_in resolved_rules c xs) (f b) ∙ g.at (lowest_at resolved_rules b t) }
 
 expr_apart : (w : Spot) (e : Expr) → Same (in_expr w e) (in_expr (bare w) e)
 expr_apart w (Int n p) = none
@@ -95,5 +95,5 @@ list_apart : (w : Spot) (ss : List Stmt) → Same (in_list w ss) (in_list (bare 
 list_apart w [] = none
 list_apart w (s ∷ ss) = rw (after_bare w s) (same_append _ _ _ _ (stmt_apart w s) (list_apart (spot_after w s) ss))
 
-pub rounds_apart : (b : Option Fault) (w : Spot) (ss : List Stmt) → lowest_in b (in_list w ss) ≡ lowest_in b (in_list (bare w) ss)
+pub rounds_apart : (b : Option Fault) (w : Spot) (ss : List Stmt) → lowest_in resolved_rules b (in_list w ss) ≡ lowest_in resolved_rules b (in_list (bare w) ss)
 rounds_apart b w ss = (list_apart w ss).at b

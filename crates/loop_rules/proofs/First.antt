@@ -1,257 +1,73 @@
--- The first of many faults.
-use Rattle.std.proofs.Common.{◌≡◌, ◌<◌, ◌⊎◌, inl, inr, ℕ, zero, suc, Bool, true, false, cond, List, [], ◌∷◌, length, get_or, Option, Some, None, refl, sym, ap, ◌∙◌, arith}
-use Rattle.std.proofs.lemmas.Bool.{cases_order}
-use Rattle.std.specs.List.{Contains}
-use Rattle.std.specs.Bool.{Decides}
-use Rattle.std.proofs.lemmas.Bool.Decides.{Decides-or, Decides-and, Decides-ltb, Decides-eqb, not_from_Decides}
+-- What the search for a broken rule on names and limits comes to.
+use Rattle.std.proofs.Common.{◌≡◌, ◌⊎◌, inl, inr, Option, Some, None, refl, sym, subst}
 use Rattle.tp_value.specs.declared.Place.{Place}
 use Rattle.loop_syntax.specs.declared.Program.{Program}
+use Rattle.loop_rules.specs.declared.rule.Rule.{Rule}
+use Rattle.loop_rules.specs.declared.rule.Rule.TheVariants.{Names, OuterVariables, Reductions}
+use Rattle.loop_rules.specs.declared.rule.Rule.TheVariants.{TableWrites, TableReads, CarryLists}
+use Rattle.loop_rules.specs.declared.rule.Rule.TheVariants.{Functions, ReadingCalls, Output}
+use Rattle.loop_rules.specs.declared.rule.Rule.TheVariants.{LoopVariables, Limits}
 use Rattle.loop_rules.specs.declared.fault.Fault.{Fault}
-use Rattle.loop_rules.specs.Broken.{Rule, C1', C2', C3', C4', C5', C6', C7', C8', C9', C10', C11', number_of, BreaksAt, Broken}
-use Rattle.loop_rules.specs.Keeps.{c7, c9}
-use Rattle.loop_rules.specs.Limits.{c11}
-use Rattle.loop_rules.specs.Resolving.{IsNoLater, IsFirstBroken}
-use Rattle.loop_rules.specs.Scopes.{is_before, c1, c10}
-use Rattle.loop_rules.specs.Search.{is_first, lower, lowest, lowest_at, lowest_in}
+use Rattle.loop_rules.specs.Broken.{BreaksAt, Broken}
+use Rattle.loop_rules.specs.Resolving.{IsFirstBroken}
+use Rattle.loop_rules.specs.Rules.{number_of}
+use Rattle.loop_rules.specs.Search.{lowest_in, resolved_rules}
 use Rattle.loop_rules.specs.Sites.{Site, sites}
 use Rattle.loop_rules.specs.Unbroken.{IsOfResolve, IsResolved}
+use Rattle.loop_rules.proofs.Faults.{AtSite, InSites, none_there, first_there, none_before}
+use Rattle.loop_rules.proofs.Faults.{no_later}
 
--- ---- the order of faults
+module _ (p : Program) (s : Site) where
+  at_site : (r : Rule) (q : Place) → IsOfResolve r → BreaksAt p r s q →
+      AtSite resolved_rules s r q
+  at_site Names q u h = inl (refl, h)
+  at_site Functions q u h = inr (inl (refl, h))
+  at_site Output q u h = inr (inr (inl (refl, h)))
+  at_site LoopVariables q u h = inr (inr (inr (inl (refl, h))))
+  at_site Limits q u h = inr (inr (inr (inr (inl (refl, h)))))
+  at_site OuterVariables q u h = absurd u
+  at_site Reductions q u h = absurd u
+  at_site TableWrites q u h = absurd u
+  at_site TableReads q u h = absurd u
+  at_site CarryLists q u h = absurd u
+  at_site ReadingCalls q u h = absurd u
 
-abbrev Before : Fault → Fault → Type 0
-Before f g =
-    ((f.place.line < g.place.line) ⊎ ((f.place.line ≡ g.place.line) × (f.place.col < g.place.col)))
-    ⊎ (((f.place.line ≡ g.place.line) × (f.place.col ≡ g.place.col)) × (f.rule < g.rule))
+  abbrev Breaks : Rule → Place → Type 0
+  Breaks r q = IsOfResolve r × BreaksAt p r s q
 
-is_first_tells : (f g : Fault) → Decides (is_first f g) (Before f g)
-is_first_tells f g =
-    Decides-or _ _ (Decides-or _ _ (Decides-ltb _ _) (Decides-and _ _ (Decides-eqb _ _) (Decides-ltb _ _)))
-    (Decides-and _ _ (Decides-and _ _ (Decides-eqb _ _) (Decides-eqb _ _)) (Decides-ltb _ _))
+  is_rule : (r o : Rule) (q : Place) → r ≡ o → Breaks o q → Breaks r q
+  is_rule r o q e h = subst (λ (k : Rule). Breaks k q) (sym e) h
 
-not_itself : (f : Fault) → Before f f → ⊥
-not_itself f (inl (inl h)) = omega arith
-not_itself f (inl (inr h)) = omega (arith, h.1)
-not_itself f (inr h) = omega (arith, h.1)
+  breaks : (r : Rule) (q : Place) → AtSite resolved_rules s r q → Breaks r q
+  breaks r q (inl h) = is_rule r Names q h.0 (tt, h.1)
+  breaks r q (inr (inl h)) = is_rule r Functions q h.0 (tt, h.1)
+  breaks r q (inr (inr (inl h))) = is_rule r Output q h.0 (tt, h.1)
+  breaks r q (inr (inr (inr (inl h)))) = is_rule r LoopVariables q h.0 (tt, h.1)
+  breaks r q (inr (inr (inr (inr (inl h))))) = is_rule r Limits q h.0 (tt, h.1)
+  breaks r q (inr (inr (inr (inr (inr h))))) = absurd h
 
-through : (f g h : Fault) → Before f g → Before g h → Before f h
-through f g h (inl (inl p)) (inl (inl q)) = inl (inl (omega arith))
-through f g h (inl (inl p)) (inl (inr q)) = inl (inl (omega (arith, q.0)))
-through f g h (inl (inl p)) (inr q) = inl (inl (omega (arith, q.0.0)))
-through f g h (inl (inr p)) (inl (inl q)) = inl (inl (omega (arith, p.0)))
-through f g h (inl (inr p)) (inl (inr q)) = inl (inr (p.0 ∙ q.0, omega (arith, p.1, q.1)))
-through f g h (inl (inr p)) (inr q) = inl (inr (p.0 ∙ q.0.0, omega (arith, p.1, q.0.1)))
-through f g h (inr p) (inl (inl q)) = inl (inl (omega (arith, p.0.0)))
-through f g h (inr p) (inl (inr q)) = inl (inr (p.0.0 ∙ q.0, omega (arith, p.0.1, q.1)))
-through f g h (inr p) (inr q) = inr ((p.0.0 ∙ q.0.0, p.0.1 ∙ q.0.1), omega (arith, p.1, q.1))
+in_sites : (p : Program) (r : Rule) (q : Place) → IsOfResolve r → Broken p r q →
+    InSites resolved_rules (sites p) r q
+in_sites p r q u h =
+    record { site = h.where_at; stands = h.stands; by = at_site p h.where_at r q u h.breaks }
 
--- something was found that the fault doesn't come before
-abbrev Covered : Option Fault → Fault → Type 0
-Covered None f = ⊥
-Covered (Some g) f = Before f g → ⊥
+pub nothing_broken : (p : Program) → None ≡ lowest_in resolved_rules None (sites p) → IsResolved p
+nothing_broken p e = record {
+  unbroken = λ r q u h. none_there resolved_rules (sites p) e r q (in_sites p r q u h);
+}
 
--- ---- one more fault
-
-lower_keeps : (b : Option Fault) (h f : Fault) → Covered b f → Covered (lower b h) f
-lower_keeps None h f c = absurd c
-lower_keeps (Some g) h f c = go (is_first h g) refl
-  where
-    go : (t : Bool) → is_first h g ≡ t → Covered (cond t (Some h) (Some g)) f
-    go true e = λ r. c (through f h g r ((is_first_tells h g).0 e))
-    go false e = c
-
-lower_covers : (b : Option Fault) (f : Fault) → Covered (lower b f) f
-lower_covers None f = not_itself f
-lower_covers (Some g) f = go (is_first f g) refl
-  where
-    go : (t : Bool) → is_first f g ≡ t → Covered (cond t (Some f) (Some g)) f
-    go true e = not_itself f
-    go false e = not_from_Decides (is_first f g) (is_first_tells f g) e
-
-some_same : (f g : Fault) → ◌≡◌ {A = Option Fault} (Some f) (Some g) → f ≡ g
-some_same f g e = cc
-
-lower_from : (b : Option Fault) (h f : Fault) → lower b h ≡ Some f → (b ≡ Some f) ⊎ (h ≡ f)
-lower_from None h f e = inr (some_same h f e)
-lower_from (Some g) h f e = go (is_first h g) e
-  where
-    go : (t : Bool) → cond t (Some h) (Some g) ≡ Some f → (Some g ≡ Some f) ⊎ (h ≡ f)
-    go true e = inr (some_same h f e)
-    go false e = inl e
-
--- ---- a rule's places
-
-abbrev fault : ℕ → Place → Fault
-fault n p = record { rule = n; place = p }
-
-lowest_keeps : (b : Option Fault) (n : ℕ) (ps : List Place) (f : Fault) → Covered b f → Covered (lowest b n ps) f
-lowest_keeps b n [] f c = c
-lowest_keeps b n (p ∷ ps) f c = lowest_keeps (lower b (fault n p)) n ps f (lower_keeps b (fault n p) f c)
-
-covers_at : (b : Option Fault) (n : ℕ) (ps : List Place) (q : Place) (k : ℕ) → k < length ps → get_or ps k q ≡ q → Covered (lowest b n ps) (fault n q)
-covers_at b n [] q k lt e = absurd (omega arith)
-covers_at b n (p ∷ ps) q zero lt e =
-    lowest_keeps (lower b (fault n p)) n ps (fault n q) (rw e (lower_covers b (fault n q)))
-covers_at b n (p ∷ ps) q (suc k) lt e = covers_at (lower b (fault n p)) n ps q k (omega arith) e
-
-lowest_covers : (b : Option Fault) (n : ℕ) (ps : List Place) (q : Place) → Contains ps q → Covered (lowest b n ps) (fault n q)
-lowest_covers b n ps q h = covers_at b n ps q h.0 h.1 h.2
-
--- found before, or a rule's place
-abbrev From : Option Fault → ℕ → List Place → Fault → Type 0
-From b n ps f = (b ≡ Some f) ⊎ ((f.rule ≡ n) × Contains ps f.place)
-
-lowest_from : (b : Option Fault) (n : ℕ) (ps : List Place) (f : Fault) → lowest b n ps ≡ Some f → From b n ps f
-lowest_from b n [] f e = inl e
-lowest_from b n (p ∷ ps) f e = go (lowest_from (lower b (fault n p)) n ps f e)
-  where
-    here : (b ≡ Some f) ⊎ (fault n p ≡ f) → From b n (p ∷ ps) f
-    here (inl h) = inl h
-    here (inr h) = inr (sym (ap (λ (g : Fault). g.rule) h), (0, omega arith, ap (λ (g : Fault). g.place) h))
-
-    go : From (lower b (fault n p)) n ps f → From b n (p ∷ ps) f
-    go (inl h) = here (lower_from b (fault n p) f h)
-    go (inr h) = inr (h.0, (suc h.1.0, omega (arith, h.1.1), h.1.2))
-
--- ---- a site
-
-record BrokenBy (p : Program) (s : Site) (f : Fault) : Type 0 where
-  rule : Rule
-  of_resolve : IsOfResolve rule
-  numbered : f.rule ≡ number_of rule
-  breaks : BreaksAt p rule s f.place
-
-module _ (p : Program) (b : Option Fault) (s : Site) where
-  abbrev after1 : Option Fault
-  after1 = lowest b 1 (c1 s.act s.spot)
-
-  abbrev after7 : Option Fault
-  after7 = lowest after1 7 (c7 s.act s.spot)
-
-  abbrev after9 : Option Fault
-  after9 = lowest after7 9 (c9 s.act s.spot)
-
-  abbrev after10 : Option Fault
-  after10 = lowest after9 10 (c10 s.act s.spot)
-
-  at_keeps : (f : Fault) → Covered b f → Covered (lowest_at b s) f
-  at_keeps f c =
-      lowest_keeps after10 11 (c11 s.act s.spot) f (lowest_keeps after9 10 (c10 s.act s.spot) f (lowest_keeps after7 9 (c9 s.act s.spot) f
-      (lowest_keeps after1 7 (c7 s.act s.spot) f (lowest_keeps b 1 (c1 s.act s.spot) f c))))
-
-  at_covers : (r : Rule) (q : Place) → IsOfResolve r → BreaksAt p r s q → Covered (lowest_at b s) (fault (number_of r) q)
-  at_covers C1' q u h =
-      lowest_keeps after10 11 (c11 s.act s.spot) (fault 1 q) (lowest_keeps after9 10 (c10 s.act s.spot) (fault 1 q) (lowest_keeps after7 9 (c9 s.act s.spot) (fault 1 q)
-      (lowest_keeps after1 7 (c7 s.act s.spot) (fault 1 q) (lowest_covers b 1 (c1 s.act s.spot) q h))))
-  at_covers C7' q u h =
-      lowest_keeps after10 11 (c11 s.act s.spot) (fault 7 q) (lowest_keeps after9 10 (c10 s.act s.spot) (fault 7 q) (lowest_keeps after7 9 (c9 s.act s.spot) (fault 7 q)
-      (lowest_covers after1 7 (c7 s.act s.spot) q h)))
-  at_covers C9' q u h =
-      lowest_keeps after10 11 (c11 s.act s.spot) (fault 9 q) (lowest_keeps after9 10 (c10 s.act s.spot) (fault 9 q) (lowest_covers after7 9 (c9 s.act s.spot) q h))
-  at_covers C10' q u h = lowest_keeps after10 11 (c11 s.act s.spot) (fault 10 q) (lowest_covers after9 10 (c10 s.act s.spot) q h)
-  at_covers C11' q u h = lowest_covers after10 11 (c11 s.act s.spot) q h
-  at_covers C2' q u h = absurd u
-  at_covers C3' q u h = absurd u
-  at_covers C4' q u h = absurd u
-  at_covers C5' q u h = absurd u
-  at_covers C6' q u h = absurd u
-  at_covers C8' q u h = absurd u
-
-  at_from : (f : Fault) → lowest_at b s ≡ Some f → (b ≡ Some f) ⊎ BrokenBy p s f
-  at_from f e = by11 (lowest_from after10 11 (c11 s.act s.spot) f e)
-    where
-      by1 : From b 1 (c1 s.act s.spot) f → (b ≡ Some f) ⊎ BrokenBy p s f
-      by1 (inl h) = inl h
-      by1 (inr h) = inr (record { rule = C1'; of_resolve = tt; numbered = h.0; breaks = h.1 })
-
-      by7 : From after1 7 (c7 s.act s.spot) f → (b ≡ Some f) ⊎ BrokenBy p s f
-      by7 (inl h) = by1 (lowest_from b 1 (c1 s.act s.spot) f h)
-      by7 (inr h) = inr (record { rule = C7'; of_resolve = tt; numbered = h.0; breaks = h.1 })
-
-      by9 : From after7 9 (c9 s.act s.spot) f → (b ≡ Some f) ⊎ BrokenBy p s f
-      by9 (inl h) = by7 (lowest_from after1 7 (c7 s.act s.spot) f h)
-      by9 (inr h) = inr (record { rule = C9'; of_resolve = tt; numbered = h.0; breaks = h.1 })
-
-      by10 : From after9 10 (c10 s.act s.spot) f → (b ≡ Some f) ⊎ BrokenBy p s f
-      by10 (inl h) = by9 (lowest_from after7 9 (c9 s.act s.spot) f h)
-      by10 (inr h) = inr (record { rule = C10'; of_resolve = tt; numbered = h.0; breaks = h.1 })
-
-      by11 : From after10 11 (c11 s.act s.spot) f → (b ≡ Some f) ⊎ BrokenBy p s f
-      by11 (inl h) = by10 (lowest_from after9 10 (c10 s.act s.spot) f h)
-      by11 (inr h) = inr (record { rule = C11'; of_resolve = tt; numbered = h.0; breaks = h.1 })
-
--- ---- all sites
-
-in_keeps : (p : Program) (b : Option Fault) (ss : List Site) (f : Fault) → Covered b f → Covered (lowest_in b ss) f
-in_keeps p b [] f c = c
-in_keeps p b (s ∷ ss) f c = in_keeps p (lowest_at b s) ss f (at_keeps p b s f c)
-
-in_covers_at : (p : Program) (b : Option Fault) (ss : List Site) (s : Site) (r : Rule) (q : Place) → IsOfResolve r → BreaksAt p r s q
-    → (k : ℕ) → k < length ss → get_or ss k s ≡ s → Covered (lowest_in b ss) (fault (number_of r) q)
-in_covers_at p b [] s r q u h k lt e = absurd (omega arith)
-in_covers_at p b (t ∷ ss) s r q u h zero lt e = in_keeps p (lowest_at b t) ss (fault (number_of r) q) (rw e (at_covers p b s r q u h))
-in_covers_at p b (t ∷ ss) s r q u h (suc k) lt e = in_covers_at p (lowest_at b t) ss s r q u h k (omega arith) e
-
-record BrokenIn (p : Program) (ss : List Site) (f : Fault) : Type 0 where
-  site : Site
-  stands : Contains ss site
-  by : BrokenBy p site f
-
-in_from : (p : Program) (b : Option Fault) (ss : List Site) (f : Fault) → lowest_in b ss ≡ Some f → (b ≡ Some f) ⊎ BrokenIn p ss f
-in_from p b [] f e = inl e
-in_from p b (s ∷ ss) f e = go (in_from p (lowest_at b s) ss f e)
-  where
-    here : (b ≡ Some f) ⊎ BrokenBy p s f → (b ≡ Some f) ⊎ BrokenIn p (s ∷ ss) f
-    here (inl h) = inl h
-    here (inr h) = inr (record { site = s; stands = (0, omega arith, refl); by = h })
-
-    go : (lowest_at b s ≡ Some f) ⊎ BrokenIn p ss f → (b ≡ Some f) ⊎ BrokenIn p (s ∷ ss) f
-    go (inl h) = here (at_from p b s f h)
-    go (inr h) = inr (record { site = h.site; stands = (suc h.stands.0, omega (arith, h.stands.1), h.stands.2); by = h.by })
-
--- ---- a program
-
-broken_covered : (p : Program) (r : Rule) (q : Place) → IsOfResolve r → Broken p r q → Covered (lowest_in None (sites p)) (fault (number_of r) q)
-broken_covered p r q u h = in_covers_at p None (sites p) h.where_at r q u h.breaks h.stands.0 h.stands.1 h.stands.2
-
-pub nothing_broken : (p : Program) → None ≡ lowest_in None (sites p) → IsResolved p
-nothing_broken p e = record { unbroken = λ r q u h. rw (← e) at (broken_covered p r q u h) }
-
-is_before_tells : (p q : Place) → Decides (is_before p q) ((p.line < q.line) ⊎ ((p.line ≡ q.line) × (p.col < q.col)))
-is_before_tells p q = Decides-or _ _ (Decides-ltb _ _) (Decides-and _ _ (Decides-eqb _ _) (Decides-ltb _ _))
-
-same_place : (p q : Place) → p.line ≡ q.line → p.col ≡ q.col → p ≡ q
-same_place p q e d =
-    ap {A = ℕ} {B = Place} (λ l. record { line = l; col = p.col }) e ∙ ap {A = ℕ} {B = Place} (λ c. record { line = q.line; col = c }) d
-
-no_later : (r o : Rule) (p q : Place) → (Before (fault (number_of o) q) (fault (number_of r) p) → ⊥) → IsNoLater r p o q
-no_later r o p q n = lines (cases_order p.line q.line)
-  where
-    numbers : p.line ≡ q.line → p.col ≡ q.col → (number_of r ≡ number_of o) ⊎ ((number_of r < number_of o) ⊎ (number_of o < number_of r)) → IsNoLater r p o q
-    numbers e d (inl h) = inr (same_place p q e d, omega (arith, h))
-    numbers e d (inr (inl h)) = inr (same_place p q e d, omega (arith, h))
-    numbers e d (inr (inr h)) = absurd (n (inr ((sym e, sym d), h)))
-
-    columns : p.line ≡ q.line → (p.col ≡ q.col) ⊎ ((p.col < q.col) ⊎ (q.col < p.col)) → IsNoLater r p o q
-    columns e (inl h) = numbers e h (cases_order (number_of r) (number_of o))
-    columns e (inr (inl h)) = inl ((is_before_tells p q).1 (inr (e, h)))
-    columns e (inr (inr h)) = absurd (n (inl (inr (sym e, h))))
-
-    lines : (p.line ≡ q.line) ⊎ ((p.line < q.line) ⊎ (q.line < p.line)) → IsNoLater r p o q
-    lines (inl h) = columns h (cases_order p.col q.col)
-    lines (inr (inl h)) = inl ((is_before_tells p q).1 (inl h))
-    lines (inr (inr h)) = absurd (n (inl (inl h)))
-
-pub first_broken : (p : Program) (f : Fault) → Some f ≡ lowest_in None (sites p) → IsFirstBroken p f.rule f.place
-first_broken p f e = go (in_from p None (sites p) f (sym e))
-  where
-    go : (◌≡◌ {A = Option Fault} None (Some f)) ⊎ BrokenIn p (sites p) f → IsFirstBroken p f.rule f.place
-    go (inl h) = cc
-    go (inr h) = record {
-      rule = h.by.rule;
-      of_resolve = h.by.of_resolve;
-      numbered = h.by.numbered;
-      broken = record { where_at = h.site; stands = h.stands; breaks = h.by.breaks };
-      first = λ o q u k.
-          let c : Before (fault (number_of o) q) f → ⊥ = rw (← e) at (broken_covered p o q u k) in
-          no_later h.by.rule o f.place q (λ m. c (rw h.by.numbered m));
+pub first_broken : (p : Program) (f : Fault) → Some f ≡ lowest_in resolved_rules None (sites p) →
+    IsFirstBroken p (number_of f.rule) f.place
+first_broken p f e =
+    let there = first_there resolved_rules (sites p) f e in
+    let breaks_there = breaks p there.site f.rule f.place there.by in
+    record {
+      rule = f.rule;
+      of_resolve = breaks_there.0;
+      numbered = refl;
+      broken = record { where_at = there.site; stands = there.stands; breaks = breaks_there.1 };
+      first =
+          λ o q u k.
+          no_later f.rule o f.place q (none_before resolved_rules (sites p) f o q e
+          (in_sites p o q u k));
     }

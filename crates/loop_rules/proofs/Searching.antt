@@ -5,6 +5,8 @@ use Rattle.loop_syntax.specs.declared.Name.{Name}
 use Rattle.loop_syntax.specs.declared.RowAt.TheVariants as row
 use Rattle.loop_syntax.specs.declared.Carry.{Carry}
 use Rattle.loop_syntax.specs.declared.Carry.TheVariants as carry
+use Rattle.loop_rules.specs.declared.rule.Rule.TheVariants.{Names, LoopVariables}
+use Rattle.loop_rules.specs.declared.rule.Rule.{Rule}
 use Rattle.loop_rules.specs.declared.fault.Fault.{Fault}
 use Rattle.loop_syntax.specs.declared.Expr.{Expr}
 use Rattle.loop_syntax.specs.declared.Reduce.{Reduce}
@@ -12,13 +14,14 @@ use Rattle.loop_rules.specs.Names.{is_in}
 use Rattle.loop_rules.specs.Scopes.{at, unseen_targets, loop_targets}
 use Rattle.loop_rules.specs.Sites.{Site, Spot, in_whole, in_args, in_carries}
 use Rattle.loop_rules.specs.Limits.{past}
-use Rattle.loop_rules.specs.Search.{lower, lowest, lowest_at, lowest_in}
+use Rattle.loop_rules.specs.Search.{lower, lowest, Asked, lowest_at, lowest_in}
 
-pub lowest_in_append : (b : Option Fault) (xs ys : List Site) → lowest_in b (xs ++ ys) ≡ lowest_in (lowest_in b xs) ys
-lowest_in_append b [] ys = refl
-lowest_in_append b (x ∷ xs) ys = lowest_in_append (lowest_at b x) xs ys
+pub lowest_in_append : (rules : List Asked) (b : Option Fault) (xs ys : List Site) →
+    lowest_in rules b (xs ++ ys) ≡ lowest_in rules (lowest_in rules b xs) ys
+lowest_in_append rules b [] ys = refl
+lowest_in_append rules b (x ∷ xs) ys = lowest_in_append rules (lowest_at rules b x) xs ys
 
-pub lowest_append : (b : Option Fault) (n : ℕ) (ps qs : List Place) → lowest b n (ps ++ qs) ≡ lowest (lowest b n ps) n qs
+pub lowest_append : (b : Option Fault) (n : Rule) (ps qs : List Place) → lowest b n (ps ++ qs) ≡ lowest (lowest b n ps) n qs
 lowest_append b n [] qs = refl
 lowest_append b n (p ∷ ps) qs = lowest_append (lower b (record { rule = n; place = p })) n ps qs
 
@@ -41,19 +44,20 @@ past_out f (y ∷ xs) (suc n) h = past_out f xs n (omega arith)
 
 -- ---- one more element of a list
 
-module _ (w : Spot) (b : Option Fault) (i : ℕ) where
-  pub args_step : (es : List Expr) (e : Expr) → i < length es → e ≡ get_or es i e → lowest_in (lowest_in b (in_whole w e)) (in_args w (drop (i + 1) es)) ≡ lowest_in b (in_args w (drop i es))
-  args_step es e lt is = rw (add-one, drop-cons es i e lt, ← is) (sym (lowest_in_append b (in_whole w e) (in_args w (drop (suc i) es))))
+module _ (rules : List Asked) (w : Spot) (b : Option Fault) (i : ℕ) where
+  pub args_step : (es : List Expr) (e : Expr) → i < length es → e ≡ get_or es i e → lowest_in rules (lowest_in rules b (in_whole w e)) (in_args w (drop (i + 1) es)) ≡ lowest_in rules b (in_args w (drop i es))
+  args_step es e lt is = rw (add-one, drop-cons es i e lt, ← is) (sym (lowest_in_append rules b (in_whole w e) (in_args w (drop (suc i) es))))
 
-  pub carries_step : (cs : List Carry) (c : Carry) → i < length cs → c ≡ get_or cs i c → lowest_in (lowest_in b (in_carries w (c ∷ []))) (in_carries w (drop (i + 1) cs)) ≡ lowest_in b (in_carries w (drop i cs))
+  pub carries_step : (cs : List Carry) (c : Carry) → i < length cs → c ≡ get_or cs i c → lowest_in rules (lowest_in rules b (in_carries w (c ∷ []))) (in_carries w (drop (i + 1) cs)) ≡ lowest_in rules b (in_carries w (drop i cs))
   carries_step cs c lt is =
       rw (add-one, drop-cons cs i c lt, ← is, in_carries_cons w c (drop (suc i) cs))
-      (sym (lowest_in_append b (in_carries w (c ∷ [])) (in_carries w (drop (suc i) cs))))
+      (sym (lowest_in_append rules b (in_carries w (c ∷ [])) (in_carries w (drop (suc i) cs))))
 
-  pub unseen_step : (rs : List Reduce) (r : Reduce) → i < length rs → r ≡ get_or rs i r → lowest (lowest b 1 (at r.target (not (is_in w.scope r.target.text.items)))) 1 (unseen_targets w.scope (drop (i + 1) rs)) ≡ lowest b 1 (unseen_targets w.scope (drop i rs))
+module _ (w : Spot) (b : Option Fault) (i : ℕ) where
+  pub unseen_step : (rs : List Reduce) (r : Reduce) → i < length rs → r ≡ get_or rs i r → lowest (lowest b Names (at r.target (not (is_in w.scope r.target.text.items)))) Names (unseen_targets w.scope (drop (i + 1) rs)) ≡ lowest b Names (unseen_targets w.scope (drop i rs))
   unseen_step rs r lt is =
-      rw (add-one, drop-cons rs i r lt, ← is) (sym (lowest_append b 1 (at r.target (not (is_in w.scope r.target.text.items))) (unseen_targets w.scope (drop (suc i) rs))))
+      rw (add-one, drop-cons rs i r lt, ← is) (sym (lowest_append b Names (at r.target (not (is_in w.scope r.target.text.items))) (unseen_targets w.scope (drop (suc i) rs))))
 
-  pub looped_step : (rs : List Reduce) (r : Reduce) → i < length rs → r ≡ get_or rs i r → lowest (lowest b 10 (at r.target (is_in w.loops r.target.text.items))) 10 (loop_targets w.loops (drop (i + 1) rs)) ≡ lowest b 10 (loop_targets w.loops (drop i rs))
+  pub looped_step : (rs : List Reduce) (r : Reduce) → i < length rs → r ≡ get_or rs i r → lowest (lowest b LoopVariables (at r.target (is_in w.loops r.target.text.items))) LoopVariables (loop_targets w.loops (drop (i + 1) rs)) ≡ lowest b LoopVariables (loop_targets w.loops (drop i rs))
   looped_step rs r lt is =
-      rw (add-one, drop-cons rs i r lt, ← is) (sym (lowest_append b 10 (at r.target (is_in w.loops r.target.text.items)) (loop_targets w.loops (drop (suc i) rs))))
+      rw (add-one, drop-cons rs i r lt, ← is) (sym (lowest_append b LoopVariables (at r.target (is_in w.loops r.target.text.items)) (loop_targets w.loops (drop (suc i) rs))))

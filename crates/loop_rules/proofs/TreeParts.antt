@@ -14,13 +14,14 @@ use Rattle.loop_syntax.specs.declared.statement.Reduce.{Reduce}
 use Rattle.loop_syntax.specs.declared.statement.App.{App}
 use Rattle.loop_syntax.specs.declared.program.Func.{Func}
 use Rattle.loop_syntax.specs.Tree.{Spelled, spelled, Tree, tree_of, carry_of, reduce_of, app_of}
+use Rattle.loop_rules.specs.declared.rule.Rule.TheVariants.{Names, Functions, LoopVariables, Limits}
 use Rattle.loop_rules.specs.declared.fault.Fault.{Fault}
 use Rattle.loop_rules.specs.declared.part.Part.{Part}
 use Rattle.loop_rules.specs.Keeps.{in_function, carry_word}
 use Rattle.loop_rules.specs.Limits.{height, first_place, earlier, past, first_name}
 use Rattle.loop_rules.specs.Names.{is_in, texts, func_names, first_named, func_of, table_name}
 use Rattle.loop_rules.specs.Scopes.{misfits, is_func_before, is_table_by, unseen_targets, loop_targets}
-use Rattle.loop_rules.specs.Search.{lowest, lowest_at, lowest_in}
+use Rattle.loop_rules.specs.Search.{lowest, lowest_at, lowest_in, resolved_rules}
 use Rattle.loop_rules.specs.Sites.{Site, Spot, site, the_loop, Uses, NamesTable, ReadsCell, Calls, Evaluates, Declares, Parallel, in_expr, in_whole, in_args, in_app, in_carries}
 use Rattle.loop_rules.proofs.Searching.{lowest_in_append}
 use Rattle.loop_rules.proofs.TreeRules.{Sig, TreeSpot, at_name, texts_of, sig_names, sig_of, first_of, sig_misfits, is_sig_before, is_name_by, first_places, past_of, height_of, place_of, low_uses, low_table, low_expr, low_height, low_whole, low_args, low_call, low_app, low_carries, unseen, looped, word_of, carried, low_par, low_declares}
@@ -94,18 +95,18 @@ place_same (Bin' o place p a q b) =
     ap (λ r. earlier (earlier place r) (first_place b)) (place_same a) ∙ ap (λ r. earlier (earlier place (place_of (tree_of a))) r) (place_same b)
 
 -- two parts, one after the other
-pub chain : (b c d : Option Fault) (xs ys : List Site) → lowest_in b xs ≡ c → lowest_in c ys ≡ d → lowest_in b (xs ++ ys) ≡ d
-chain b c d xs ys p q = lowest_in_append b xs ys ∙ ap (λ r. lowest_in r ys) p ∙ q
+pub chain : (b c d : Option Fault) (xs ys : List Site) → lowest_in resolved_rules b xs ≡ c → lowest_in resolved_rules c ys ≡ d → lowest_in resolved_rules b (xs ++ ys) ≡ d
+chain b c d xs ys p q = lowest_in_append resolved_rules b xs ys ∙ ap (λ r. lowest_in resolved_rules r ys) p ∙ q
 
 -- a site, and what comes after it
-pub first : (b c d : Option Fault) (s : Site) (xs : List Site) → lowest_at b s ≡ c → lowest_in c xs ≡ d → lowest_in b (s ∷ xs) ≡ d
-first b c d s xs p q = ap (λ r. lowest_in r xs) p ∙ q
+pub first : (b c d : Option Fault) (s : Site) (xs : List Site) → lowest_at resolved_rules b s ≡ c → lowest_in resolved_rules c xs ≡ d → lowest_in resolved_rules b (s ∷ xs) ≡ d
+first b c d s xs p q = ap (λ r. lowest_in resolved_rules r xs) p ∙ q
 
 module _ (w : Spot) where
-  pub table_low : (b : Option Fault) (t : Name) → lowest_at b (site w (NamesTable t)) ≡ low_table (spot_tree w) b (spelled t)
-  table_low b t = ap (λ ts. lowest b 1 (at_name (spelled t) (not (is_in ts t.text.items)))) (texts_same w.tables)
+  pub table_low : (b : Option Fault) (t : Name) → lowest_at resolved_rules b (site w (NamesTable t)) ≡ low_table (spot_tree w) b (spelled t)
+  table_low b t = ap (λ ts. lowest b Names (at_name (spelled t) (not (is_in ts t.text.items)))) (texts_same w.tables)
 
-  expr_low : (b : Option Fault) (e : Expr) → lowest_in b (in_expr w e) ≡ low_expr (spot_tree w) b (tree_of e)
+  expr_low : (b : Option Fault) (e : Expr) → lowest_in resolved_rules b (in_expr w e) ≡ low_expr (spot_tree w) b (tree_of e)
   expr_low b (Int n p) = refl
   expr_low b (Var x) = refl
   expr_low b (Cell' t p a q c) =
@@ -116,27 +117,27 @@ module _ (w : Spot) where
   expr_low b (Neg' p a place) = expr_low b a
   expr_low b (Bin' o place p a q c) = chain b _ _ (in_expr w a) (in_expr w c) (expr_low b a) (expr_low _ c)
 
-  height_low : (b : Option Fault) (e : Expr) → lowest_at b (site w (Evaluates e)) ≡ low_height b (tree_of e)
+  height_low : (b : Option Fault) (e : Expr) → lowest_at resolved_rules b (site w (Evaluates e)) ≡ low_height b (tree_of e)
   height_low b e =
-      ap (λ h. lowest b 11 (cond (nat_lt MAX_EXPRESSION_HEIGHT h) (first_place e ∷ []) [])) (height_same e)
-      ∙ ap (λ p. lowest b 11 (cond (nat_lt MAX_EXPRESSION_HEIGHT (height_of (tree_of e))) (p ∷ []) [])) (place_same e)
+      ap (λ h. lowest b Limits (cond (nat_lt MAX_EXPRESSION_HEIGHT h) (first_place e ∷ []) [])) (height_same e)
+      ∙ ap (λ p. lowest b Limits (cond (nat_lt MAX_EXPRESSION_HEIGHT (height_of (tree_of e))) (p ∷ []) [])) (place_same e)
 
-  pub whole_low : (b : Option Fault) (e : Expr) → lowest_in b (in_whole w e) ≡ low_whole (spot_tree w) b (tree_of e)
+  pub whole_low : (b : Option Fault) (e : Expr) → lowest_in resolved_rules b (in_whole w e) ≡ low_whole (spot_tree w) b (tree_of e)
   whole_low b e = first b _ _ (site w (Evaluates e)) (in_expr w e) (height_low b e) (expr_low (low_height b (tree_of e)) e)
 
-  args_low : (b : Option Fault) (es : List Expr) → lowest_in b (in_args w es) ≡ low_args (spot_tree w) b (map tree_of es)
+  args_low : (b : Option Fault) (es : List Expr) → lowest_in resolved_rules b (in_args w es) ≡ low_args (spot_tree w) b (map tree_of es)
   args_low b [] = refl
   args_low b (e ∷ es) = chain b _ _ (in_whole w e) (in_args w es) (whole_low b e) (args_low (low_whole (spot_tree w) b (tree_of e)) es)
 
-  call_low : (b : Option Fault) (f : Name) (es : List Expr) → lowest_at b (site w (Calls f (length es))) ≡ low_call (spot_tree w) b (spelled f) (length (map tree_of es))
+  call_low : (b : Option Fault) (f : Name) (es : List Expr) → lowest_at resolved_rules b (site w (Calls f (length es))) ≡ low_call (spot_tree w) b (spelled f) (length (map tree_of es))
   call_low b f es =
-      ap (λ t. lowest b 1 (at_name (spelled f) t)) (misfits_same w.funcs f.text.items (length es))
-      ∙ ap (λ n. lowest b 1 (at_name (spelled f) (sig_misfits (sig_of (map sig_in w.funcs) f.text.items) n))) (sym (length-map es tree_of))
+      ap (λ t. lowest b Names (at_name (spelled f) t)) (misfits_same w.funcs f.text.items (length es))
+      ∙ ap (λ n. lowest b Names (at_name (spelled f) (sig_misfits (sig_of (map sig_in w.funcs) f.text.items) n))) (sym (length-map es tree_of))
 
-  pub app_low : (b : Option Fault) (f : App) → lowest_in b (in_app w f) ≡ low_app (spot_tree w) b (app_of f)
+  pub app_low : (b : Option Fault) (f : App) → lowest_in resolved_rules b (in_app w f) ≡ low_app (spot_tree w) b (app_of f)
   app_low b f = first b _ _ (site w (Calls f.callee (length f.args.items))) (in_args w f.args.items) (call_low b f.callee f.args.items) (args_low _ f.args.items)
 
-  pub carries_low : (cs : List Carry) (b : Option Fault) → lowest_in b (in_carries w cs) ≡ low_carries (spot_tree w) b (map carry_of cs)
+  pub carries_low : (cs : List Carry) (b : Option Fault) → lowest_in resolved_rules b (in_carries w cs) ≡ low_carries (spot_tree w) b (map carry_of cs)
   carries_low [] b = refl
   carries_low (carry.Rows t i ∷ cs) b =
       first b (low_table (spot_tree w) b (spelled t)) _ (site w (NamesTable t)) (in_carries w cs) (table_low b t) (carries_low cs (low_table (spot_tree w) b (spelled t)))
@@ -147,10 +148,10 @@ module _ (w : Spot) where
   carries_low (carry.Cells t (row.Int n) j ∷ cs) b =
       first b (low_table (spot_tree w) b (spelled t)) _ (site w (NamesTable t)) (in_carries w cs) (table_low b t) (carries_low cs (low_table (spot_tree w) b (spelled t)))
 
-  pub declares_low : (b : Option Fault) (x : Name) → lowest_at b (site w (Declares x)) ≡ low_declares (spot_tree w) b (spelled x)
+  pub declares_low : (b : Option Fault) (x : Name) → lowest_at resolved_rules b (site w (Declares x)) ≡ low_declares (spot_tree w) b (spelled x)
   declares_low b x =
-      ap (λ ts. lowest b 1 (at_name (spelled x) (is_in w.scope x.text.items || (is_in ts x.text.items || is_in (func_names w.funcs) x.text.items)))) (texts_same w.tables)
-      ∙ ap (λ fs. lowest b 1 (at_name (spelled x) (is_in w.scope x.text.items || (is_in (texts_of (map spelled w.tables)) x.text.items || is_in fs x.text.items)))) (names_same w.funcs)
+      ap (λ ts. lowest b Names (at_name (spelled x) (is_in w.scope x.text.items || (is_in ts x.text.items || is_in (func_names w.funcs) x.text.items)))) (texts_same w.tables)
+      ∙ ap (λ fs. lowest b Names (at_name (spelled x) (is_in w.scope x.text.items || (is_in (texts_of (map spelled w.tables)) x.text.items || is_in fs x.text.items)))) (names_same w.funcs)
 
 -- ---- clauses of a `par`
 
@@ -181,10 +182,10 @@ carried_same (c ∷ cs) = ap (λ x. x ∷ map spelled (map table_name cs)) (carr
 module _ (w : Spot) (b : Option Fault) (place word : Place) where
   abbrev all_found : List Place → List Place → List Place → List Place → List Place → Option Fault
   all_found seen carries loops eight four =
-      lowest (lowest (lowest (lowest b 1 seen) 7 carries) 10 loops) 11 (cond (nat_le MAX_PAR_NESTING w.depth) (place ∷ []) [] ++ (eight ++ four))
+      lowest (lowest (lowest (lowest b Names seen) Functions carries) LoopVariables loops) Limits (cond (nat_le MAX_PAR_NESTING w.depth) (place ∷ []) [] ++ (eight ++ four))
 
   pub par_low : (x : Name) (e f : Tree) (cs : List Carry) (rs : List Reduce)
-      → lowest_at b (site w (Parallel place word (the_loop w x cs rs)))
+      → lowest_at resolved_rules b (site w (Parallel place word (the_loop w x cs rs)))
       ≡ low_par (spot_tree w) b (record { place = place; var = spelled x; from = e; to = f; carry_place = word; carries = map carry_of cs; reduces = map reduce_of rs })
   par_low x e f cs rs =
       let eight = past MAX_REDUCTIONS (map (λ d. d.target) rs) in

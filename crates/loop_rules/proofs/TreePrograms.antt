@@ -15,6 +15,7 @@ use Rattle.loop_syntax.specs.declared.program.TableDecl.{TableDecl}
 use Rattle.loop_syntax.specs.declared.program.TableDecl.TheVariants.{Input, Made}
 use Rattle.loop_syntax.specs.declared.program.Program.{Program}
 use Rattle.loop_syntax.specs.Tree.{Spelled, spelled, tree_of, Nodes, node_of, nodes_of, table_of, func_of, ProgramTree, program_of}
+use Rattle.loop_rules.specs.declared.rule.Rule.TheVariants.{Names, Limits}
 use Rattle.loop_rules.specs.declared.fault.Fault.{Fault}
 use Rattle.loop_rules.specs.declared.part.Part.TheVariants.{OfSize, OfFunc, OfMain}
 use Rattle.loop_rules.specs.Declarations.{declared_in, declared_all, declared_list, table_of_decl, tables_of_decls}
@@ -22,7 +23,7 @@ use Rattle.loop_rules.specs.Limits.{past}
 use Rattle.loop_rules.specs.Names.{is_in, texts, func_names, first_named}
 use Rattle.loop_rules.specs.Names as names
 use Rattle.loop_rules.specs.Scopes.{is_func_before, is_table_by}
-use Rattle.loop_rules.specs.Search.{lowest, lowest_at, lowest_in}
+use Rattle.loop_rules.specs.Search.{lowest, lowest_at, lowest_in, resolved_rules}
 use Rattle.loop_rules.specs.Sites.{Spot, site, top, tables_of, Declares, DeclaresTable, DeclaresFunc, DeclaresAll, declared_var, in_stmt, in_whole, in_list, in_params, in_decl, in_decls, in_func, in_funcs, in_main, func_spot, main_spot, sites, spot_after, spot_of_list}
 use Rattle.loop_rules.proofs.TreeParts.{sig_in, spot_tree, texts_same, names_same, before_same, by_same, past_same, chain, first, whole_low, declares_low}
 use Rattle.loop_rules.proofs.TreeNodes.{node_rows, rows_of, row_nodes}
@@ -62,7 +63,7 @@ vars_list (s ∷ ss) =
 
 -- ---- lists of statements
 
-list_low : (w : Spot) (b : Option Fault) (ss : List Stmt) → lowest_in b (in_list w ss) ≡ low_nodes (spot_tree w) b (nodes_of ss)
+list_low : (w : Spot) (b : Option Fault) (ss : List Stmt) → lowest_in resolved_rules b (in_list w ss) ≡ low_nodes (spot_tree w) b (nodes_of ss)
 list_low w b [] = refl
 list_low w b (s ∷ ss) =
     chain b (low_node (spot_tree w) b (node_of s)) _ (in_stmt w s) (in_list (spot_after w s) ss) (stmt_low w b s)
@@ -73,27 +74,27 @@ list_after : (w : Spot) (ss : List Stmt) → spot_tree (spot_of_list w ss) ≡ b
 list_after w [] = refl
 list_after w (s ∷ ss) = list_after (spot_after w s) ss ∙ ap {A = TreeSpot} {B = TreeSpot} (λ v. behind_all v (nodes_of ss)) (after_low w s)
 
-params_low : (w : Spot) (b : Option Fault) (xs : List Name) → lowest_in b (in_params w xs) ≡ low_params (spot_tree w) b (map spelled xs)
+params_low : (w : Spot) (b : Option Fault) (xs : List Name) → lowest_in resolved_rules b (in_params w xs) ≡ low_params (spot_tree w) b (map spelled xs)
 params_low w b [] = refl
 params_low w b (x ∷ xs) =
     first b (low_declares (spot_tree w) b (spelled x)) _ (site w (Declares x)) (in_params (declared_var w x) xs) (declares_low w b x)
     (params_low (declared_var w x) (low_declares (spot_tree w) b (spelled x)) xs)
 
-vars_low : (b : Option Fault) (xs : List Name) → lowest b 11 (past MAX_DECLARED_VARIABLES xs) ≡ lowest b 11 (past_of MAX_DECLARED_VARIABLES (map spelled xs))
-vars_low b xs = ap (lowest b 11) (past_same MAX_DECLARED_VARIABLES xs)
+vars_low : (b : Option Fault) (xs : List Name) → lowest b Limits (past MAX_DECLARED_VARIABLES xs) ≡ lowest b Limits (past_of MAX_DECLARED_VARIABLES (map spelled xs))
+vars_low b xs = ap (lowest b Limits) (past_same MAX_DECLARED_VARIABLES xs)
 
 -- ---- tables
 
 new_table_low : (fs : List Func) (before : List Name) (b : Option Fault) (t : Name)
-    → lowest_at b (site (top OfSize before fs) (DeclaresTable t)) ≡ low_new_table (outside OfSize (map spelled before) (map sig_in fs)) b (spelled t)
+    → lowest_at resolved_rules b (site (top OfSize before fs) (DeclaresTable t)) ≡ low_new_table (outside OfSize (map spelled before) (map sig_in fs)) b (spelled t)
 new_table_low fs before b t =
-    let found = λ (ts : List (List ℕ)) (earlier : Bool) (n : ℕ). lowest (lowest b 1 (at_name (spelled t) (is_in ts t.text.items || earlier))) 11 (at_name (spelled t) (nat_eq n MAX_TABLES)) in
+    let found = λ (ts : List (List ℕ)) (earlier : Bool) (n : ℕ). lowest (lowest b Names (at_name (spelled t) (is_in ts t.text.items || earlier))) Limits (at_name (spelled t) (nat_eq n MAX_TABLES)) in
     ap (λ ts. found ts (is_func_before (names.func_of fs t.text.items) t) (length before)) (texts_same before)
     ∙ ap (λ e. found (texts_of (map spelled before)) e (length before)) (before_same fs t.text.items t)
     ∙ ap (λ n. found (texts_of (map spelled before)) (is_sig_before (sig_of (map sig_in fs) t.text.items) (spelled t)) n) (sym (length-map before spelled))
 
 decl_low : (fs : List Func) (before : List Name) (b : Option Fault) (d : TableDecl)
-    → lowest_in b (in_decl fs before d) ≡ low_decl (map sig_in fs) (map spelled before) b (table_of d)
+    → lowest_in resolved_rules b (in_decl fs before d) ≡ low_decl (map sig_in fs) (map spelled before) b (table_of d)
 decl_low fs before b (Input t) = new_table_low fs before b t
 decl_low fs before b (Made t i j) =
     let w = top OfSize before fs in
@@ -107,7 +108,7 @@ decl_name (Input t) = refl
 decl_name (Made t i j) = refl
 
 decls_low : (fs : List Func) (before : List Name) (b : Option Fault) (ds : List TableDecl)
-    → lowest_in b (in_decls fs before ds) ≡ low_decls (map sig_in fs) (map spelled before) b (map table_of ds)
+    → lowest_in resolved_rules b (in_decls fs before ds) ≡ low_decls (map sig_in fs) (map spelled before) b (map table_of ds)
 decls_low fs before b [] = refl
 decls_low fs before b (d ∷ ds) =
     let one = low_decl (map sig_in fs) (map spelled before) b (table_of d) in
@@ -121,11 +122,11 @@ sig_same : (f : Func) → sig_in f ≡ sig (func_of f)
 sig_same f = ap {A = ℕ} {B = Sig} (λ n. record { name = spelled f.name; params = n }) (sym (length-map f.params.items spelled))
 
 new_func_low : (tables : List Name) (before : List Func) (b : Option Fault) (f : Func)
-    → lowest_at b (site (top OfFunc tables before) (DeclaresFunc f)) ≡ low_new_func (outside OfFunc (map spelled tables) (map sig_in before)) b (func_of f)
+    → lowest_at resolved_rules b (site (top OfFunc tables before) (DeclaresFunc f)) ≡ low_new_func (outside OfFunc (map spelled tables) (map sig_in before)) b (func_of f)
 new_func_low tables before b f =
     let x = f.name.text.items in
     let found = λ (fs : List (List ℕ)) (by : Bool) (n : ℕ) (ps : List Place).
-    lowest (lowest b 1 (at_name (spelled f.name) (is_in fs x || by))) 11 (at_name (spelled f.name) (nat_eq n MAX_FUNCTIONS) ++ ps) in
+    lowest (lowest b Names (at_name (spelled f.name) (is_in fs x || by))) Limits (at_name (spelled f.name) (nat_eq n MAX_FUNCTIONS) ++ ps) in
     let by' = is_name_by (first_of (map spelled tables) x) (spelled f.name) in
     ap (λ fs. found fs (is_table_by (first_named tables x) f.name) (length before) (past MAX_PARAMETERS f.params.items)) (names_same before)
     ∙ ap (λ by. found (sig_names (map sig_in before)) by (length before) (past MAX_PARAMETERS f.params.items)) (by_same tables x f.name)
@@ -142,7 +143,7 @@ module _ (p : Program) where
   inside_same : (f : Func) → spot_tree (func_spot p f) ≡ inside tables_in sigs_in (func_of f)
   inside_same f = ap {A = List (List ℕ)} {B = TreeSpot} (λ sc. record (outside OfFunc tables_in sigs_in) { scope = sc }) (texts_same f.params.items)
 
-  func_low : (b : Option Fault) (f : Func) → lowest_in b (in_func p f) ≡ low_func tables_in sigs_in b (func_of f)
+  func_low : (b : Option Fault) (f : Func) → lowest_in resolved_rules b (in_func p f) ≡ low_func tables_in sigs_in b (func_of f)
   func_low b f =
       let outer = top OfFunc (tables_of p) p.funcs.items in
       let w = func_spot p f in
@@ -163,7 +164,7 @@ module _ (p : Program) where
       (list_after w f.body.items ∙ ap {A = TreeSpot} {B = TreeSpot} (λ u. behind_all u body) (inside_same f)))))
 
   funcs_low : (before : List Func) (b : Option Fault) (fs : List Func)
-      → lowest_in b (in_funcs p before fs) ≡ low_funcs tables_in sigs_in (map sig_in before) b (map func_of fs)
+      → lowest_in resolved_rules b (in_funcs p before fs) ≡ low_funcs tables_in sigs_in (map sig_in before) b (map func_of fs)
   funcs_low before b [] = refl
   funcs_low before b (f ∷ fs) =
       let w = top OfFunc (tables_of p) before in
@@ -174,7 +175,7 @@ module _ (p : Program) where
       (funcs_low (before ++ f ∷ []) two fs
       ∙ ap (λ r. low_funcs tables_in sigs_in r two (map func_of fs)) (map-append sig_in before (f ∷ []) ∙ ap {A = Sig} {B = List Sig} (λ x. map sig_in before ++ x ∷ []) (sig_same f))))
 
-  main_low : (b : Option Fault) → lowest_in b (in_main p) ≡ low_main tables_in sigs_in b (nodes_of p.main.items)
+  main_low : (b : Option Fault) → lowest_in resolved_rules b (in_main p) ≡ low_main tables_in sigs_in b (nodes_of p.main.items)
   main_low b =
       let w = main_spot p in
       let one = low_vars b (vars_in (nodes_of p.main.items)) in
@@ -191,7 +192,7 @@ sigs_same : (fs : List Func) → map sig_in fs ≡ map sig (map func_of fs)
 sigs_same [] = refl
 sigs_same (f ∷ fs) = ap {A = Sig} {B = List Sig} (λ x. x ∷ map sig_in fs) (sig_same f) ∙ ap (λ r. sig (func_of f) ∷ r) (sigs_same fs)
 
-pub program_low : (b : Option Fault) (p : Program) → lowest_in b (sites p) ≡ low_program b (program_of p)
+pub program_low : (b : Option Fault) (p : Program) → lowest_in resolved_rules b (sites p) ≡ low_program b (program_of p)
 program_low b p =
     let found = λ (ts : List Spelled) (fs : List Sig).
     low_main ts fs (low_funcs ts fs [] (low_decls fs [] b (map table_of p.tables.items)) (map func_of p.funcs.items)) (nodes_of p.main.items) in
@@ -203,5 +204,5 @@ program_low b p =
     ∙ ap (λ fs. found (map name_of (map table_of p.tables.items)) fs) (sigs_same p.funcs.items)
 
 -- programs with one tree have one first broken rule
-pub found-tree : (p q : Program) → program_of p ≡ program_of q → lowest_in None (sites p) ≡ lowest_in None (sites q)
+pub found-tree : (p q : Program) → program_of p ≡ program_of q → lowest_in resolved_rules None (sites p) ≡ lowest_in resolved_rules None (sites q)
 found-tree p q same = program_low None p ∙ ap (low_program None) same ∙ sym (program_low None q)

@@ -3,6 +3,7 @@ use Rattle.std.specs.Prelude.{ℕ, suc, Bool, true, false, cond, not, ◌||◌, 
 use Rattle.tp_value.specs.declared.values.Place.{Place}
 use Rattle.tp_value.specs.declared.limits.TheConstants.{MAX_TABLES, MAX_FUNCTIONS, MAX_PARAMETERS, MAX_DECLARED_VARIABLES, MAX_EXPRESSION_HEIGHT, MAX_PAR_NESTING, MAX_REDUCTIONS, MAX_CARRIES}
 use Rattle.loop_syntax.specs.Tree.{Spelled, Tree, TInt, TVar, TCell, TRows, TCols, TNeg, TBin, RVar, RInt, CarryTree, CRows, CCells, ReduceTree, AppTree, ParHead, Node, NLet, NSet, NPut, NIf, NWhile, NLoop, NPar, NFold, NCall, NBoth, NPrint, NEmit, Nodes, Last, Then, TableTree, TInput, TMade, FuncTree, ProgramTree}
+use Rattle.loop_rules.specs.declared.rule.Rule.TheVariants.{Names, Functions, Output, LoopVariables, Limits}
 use Rattle.loop_rules.specs.declared.fault.Fault.{Fault}
 use Rattle.loop_rules.specs.declared.part.Part.{Part}
 use Rattle.loop_rules.specs.declared.part.Part.TheVariants.{OfSize, OfFunc, OfMain}
@@ -83,10 +84,10 @@ place_of (TNeg a place) = earlier place (place_of a)
 place_of (TBin o place a b) = earlier (earlier place (place_of a)) (place_of b)
 
 abbrev pub low_uses : TreeSpot → Option Fault → Spelled → Option Fault
-low_uses v b x = lowest b 1 (at_name x (not (is_in v.scope x.text)))
+low_uses v b x = lowest b Names (at_name x (not (is_in v.scope x.text)))
 
 abbrev pub low_table : TreeSpot → Option Fault → Spelled → Option Fault
-low_table v b t = lowest b 1 (at_name t (not (is_in (texts_of v.tables) t.text)))
+low_table v b t = lowest b Names (at_name t (not (is_in (texts_of v.tables) t.text)))
 
 abbrev pub low_expr : TreeSpot → Option Fault → Tree → Option Fault
 low_expr v b (TInt n place) = b
@@ -98,7 +99,7 @@ low_expr v b (TNeg a place) = low_expr v b a
 low_expr v b (TBin o place a c) = low_expr v (low_expr v b a) c
 
 abbrev pub low_height : Option Fault → Tree → Option Fault
-low_height b e = lowest b 11 (cond (nat_lt MAX_EXPRESSION_HEIGHT (height_of e)) (place_of e ∷ []) [])
+low_height b e = lowest b Limits (cond (nat_lt MAX_EXPRESSION_HEIGHT (height_of e)) (place_of e ∷ []) [])
 
 abbrev pub low_whole : TreeSpot → Option Fault → Tree → Option Fault
 low_whole v b e = low_expr v (low_height b e) e
@@ -108,7 +109,7 @@ low_args v b [] = b
 low_args v b (e ∷ es) = low_args v (low_whole v b e) es
 
 abbrev pub low_call : TreeSpot → Option Fault → Spelled → ℕ → Option Fault
-low_call v b f n = lowest b 1 (at_name f (sig_misfits (sig_of v.funcs f.text) n))
+low_call v b f n = lowest b Names (at_name f (sig_misfits (sig_of v.funcs f.text) n))
 
 abbrev pub low_app : TreeSpot → Option Fault → AppTree → Option Fault
 low_app v b f = low_args v (low_call v b f.callee (length f.args)) f.args
@@ -139,25 +140,25 @@ carried (CCells t k j) = t
 
 abbrev pub low_par : TreeSpot → Option Fault → ParHead → Option Fault
 low_par v b h =
-    lowest (lowest (lowest (lowest b 1 (unseen v.scope h.reduces)) 7 (word_of v.part h.carry_place h.carries)) 10 (looped v.loops h.reduces)) 11
+    lowest (lowest (lowest (lowest b Names (unseen v.scope h.reduces)) Functions (word_of v.part h.carry_place h.carries)) LoopVariables (looped v.loops h.reduces)) Limits
     (cond (nat_le MAX_PAR_NESTING v.depth) (h.place ∷ []) [] ++ (past_of MAX_REDUCTIONS (map (λ r. r.target) h.reduces) ++ past_of MAX_CARRIES (map carried h.carries)))
 
 -- ---- statements
 
 abbrev pub low_declares : TreeSpot → Option Fault → Spelled → Option Fault
-low_declares v b x = lowest b 1 (at_name x (is_in v.scope x.text || (is_in (texts_of v.tables) x.text || is_in (sig_names v.funcs) x.text)))
+low_declares v b x = lowest b Names (at_name x (is_in v.scope x.text || (is_in (texts_of v.tables) x.text || is_in (sig_names v.funcs) x.text)))
 
 abbrev pub low_assigns : TreeSpot → Option Fault → Spelled → Option Fault
-low_assigns v b x = lowest (lowest b 1 (at_name x (not (is_in v.scope x.text)))) 10 (at_name x (is_in v.loops x.text))
+low_assigns v b x = lowest (lowest b Names (at_name x (not (is_in v.scope x.text)))) LoopVariables (at_name x (is_in v.loops x.text))
 
 abbrev pub low_both : Option Fault → Spelled → Spelled → Option Fault
-low_both b x y = lowest b 1 (at_name y (bytes_eq x.text y.text))
+low_both b x y = lowest b Names (at_name y (bytes_eq x.text y.text))
 
 abbrev pub low_put : TreeSpot → Option Fault → Spelled → Option Fault
-low_put v b t = lowest b 7 (in_function v.part t.place)
+low_put v b t = lowest b Functions (in_function v.part t.place)
 
 abbrev pub low_shows : TreeSpot → Option Fault → Place → Option Fault
-low_shows v b p = lowest (lowest b 7 (in_function v.part p)) 9 (in_par_of_main v.part v.depth p)
+low_shows v b p = lowest (lowest b Functions (in_function v.part p)) Output (in_par_of_main v.part v.depth p)
 
 abbrev pub with_var : TreeSpot → Spelled → TreeSpot
 with_var v x = record v { scope = v.scope ++ x.text ∷ [] }
@@ -229,7 +230,7 @@ sig f = record { name = f.name; params = length f.params }
 
 abbrev pub low_new_table : TreeSpot → Option Fault → Spelled → Option Fault
 low_new_table v b t =
-    lowest (lowest b 1 (at_name t (is_in (texts_of v.tables) t.text || is_sig_before (sig_of v.funcs t.text) t))) 11 (at_name t (nat_eq (length v.tables) MAX_TABLES))
+    lowest (lowest b Names (at_name t (is_in (texts_of v.tables) t.text || is_sig_before (sig_of v.funcs t.text) t))) Limits (at_name t (nat_eq (length v.tables) MAX_TABLES))
 
 abbrev pub low_decl : List Sig → List Spelled → Option Fault → TableTree → Option Fault
 low_decl fs before b (TInput t) = low_new_table (outside OfSize before fs) b t
@@ -242,7 +243,7 @@ low_decls fs before b (d ∷ ds) = low_decls fs (before ++ name_of d ∷ []) (lo
 
 abbrev pub low_new_func : TreeSpot → Option Fault → FuncTree → Option Fault
 low_new_func v b f =
-    lowest (lowest b 1 (at_name f.name (is_in (sig_names v.funcs) f.name.text || is_name_by (first_of v.tables f.name.text) f.name))) 11
+    lowest (lowest b Names (at_name f.name (is_in (sig_names v.funcs) f.name.text || is_name_by (first_of v.tables f.name.text) f.name))) Limits
     (at_name f.name (nat_eq (length v.funcs) MAX_FUNCTIONS) ++ past_of MAX_PARAMETERS f.params)
 
 abbrev pub low_params : TreeSpot → Option Fault → List Spelled → Option Fault
@@ -253,7 +254,7 @@ abbrev pub inside : List Spelled → List Sig → FuncTree → TreeSpot
 inside tables funcs f = record (outside OfFunc tables funcs) { scope = texts_of f.params }
 
 abbrev pub low_vars : Option Fault → List Spelled → Option Fault
-low_vars b xs = lowest b 11 (past_of MAX_DECLARED_VARIABLES xs)
+low_vars b xs = lowest b Limits (past_of MAX_DECLARED_VARIABLES xs)
 
 abbrev pub low_func : List Spelled → List Sig → Option Fault → FuncTree → Option Fault
 low_func tables funcs b f =

@@ -8,7 +8,7 @@ use Rattle.loop_syntax.specs.declared.statement.Stmt.TheVariants.{Let, Set, Put,
 use Rattle.loop_syntax.specs.Tree.{spelled, tree_of, app_of, carry_of, reduce_of, ParHead, Node, Nodes, node_of, nodes_of}
 use Rattle.loop_rules.specs.declared.fault.Fault.{Fault}
 use Rattle.loop_rules.specs.Declarations.{declared_in, declared_all, declared_list}
-use Rattle.loop_rules.specs.Search.{lowest_at, lowest_in}
+use Rattle.loop_rules.specs.Search.{lowest_at, lowest_in, resolved_rules}
 use Rattle.loop_rules.specs.Sites.{Site, Spot, site, the_loop, Assigns, Folds, AssignsBoth, Declares, NamesTable, WritesCell, Shows, Parallel, in_whole, in_app, in_carries, in_stmt, in_all, in_list, in_loop, in_par, spot_after, spot_of_list}
 use Rattle.loop_rules.proofs.TreeParts.{spot_tree, chain, first, table_low, whole_low, app_low, carries_low, declares_low, par_low}
 use Rattle.loop_rules.proofs.TreeNodes.{node_rows, rows_of, row_nodes}
@@ -36,7 +36,7 @@ after_low w s = after_step w s ∙ ap (behind (spot_tree w)) (sym (rows_of s))
 -- ---- statements
 
 mutual
-  step_low : (w : Spot) (b : Option Fault) (s : Stmt) → lowest_in b (in_stmt w s) ≡ low_node (spot_tree w) b (node_rows s)
+  step_low : (w : Spot) (b : Option Fault) (s : Stmt) → lowest_in resolved_rules b (in_stmt w s) ≡ low_node (spot_tree w) b (node_rows s)
   step_low w b (Let x e) = first b _ _ (site w (Declares x)) (in_whole w e) (declares_low w b x) (whole_low w _ e)
   step_low w b (Set x e) = first b _ _ (site w (Assigns x)) (in_whole w e) refl (whole_low w (low_assigns (spot_tree w) b (spelled x)) e)
   step_low w b (Put t a c e) =
@@ -98,12 +98,12 @@ mutual
   step_low w b (Emit place t) =
       first b (low_shows (spot_tree w) b place) _ (site w (Shows place)) (site w (NamesTable t) ∷ []) refl (table_low w (low_shows (spot_tree w) b place) t)
 
-  row_low : {m : _} (w : Spot) (b : Option Fault) (row : Row_of-Stmt m) → lowest_in b (in_all w row) ≡ low_nodes (spot_tree w) b (row_nodes row)
+  row_low : {m : _} (w : Spot) (b : Option Fault) (row : Row_of-Stmt m) → lowest_in resolved_rules b (in_all w row) ≡ low_nodes (spot_tree w) b (row_nodes row)
   row_low w b end_of-Stmt = refl
   row_low w b (more_of-Stmt s rest) =
       chain b (low_node (spot_tree w) b (node_of s)) _ (in_stmt w s) (in_all (spot_after w s) rest) (step_low w b s ∙ ap (low_node (spot_tree w) b) (sym (rows_of s)))
       (row_low (spot_after w s) (low_node (spot_tree w) b (node_of s)) rest
       ∙ ap {A = TreeSpot} {B = Option Fault} (λ v. low_nodes v (low_node (spot_tree w) b (node_of s)) (row_nodes rest)) (after_low w s))
 
-pub stmt_low : (w : Spot) (b : Option Fault) (s : Stmt) → lowest_in b (in_stmt w s) ≡ low_node (spot_tree w) b (node_of s)
+pub stmt_low : (w : Spot) (b : Option Fault) (s : Stmt) → lowest_in resolved_rules b (in_stmt w s) ≡ low_node (spot_tree w) b (node_of s)
 stmt_low w b s = step_low w b s ∙ ap (low_node (spot_tree w) b) (sym (rows_of s))

@@ -12,43 +12,43 @@ use Rattle.loop_syntax.specs.declared.Stmt.TheBlock.{hidden-the_row-Stmt-0}
 use Rattle.loop_syntax.specs.declared.Stmt.TheVariants.{Let, Put, If, While, Loop, Par, Both}
 use Rattle.loop_rules.specs.declared.fault.Fault.{Fault}
 use Rattle.loop_rules.specs.Sites.{Site, Spot, site, Declares, Assigns, AssignsBoth, NamesTable, WritesCell, Parallel, in_whole, in_app, in_carries, in_stmt, in_all, in_list, in_loop, in_par, the_loop, spot_after, spot_of_list}
-use Rattle.loop_rules.specs.Search.{lowest_at, lowest_in}
+use Rattle.loop_rules.specs.Search.{Asked, lowest_at, lowest_in, resolved_rules}
 use Rattle.loop_rules.proofs.Apart.{bare, rounds_apart}
 use Rattle.loop_rules.proofs.Searching.{lowest_in_append}
 
 -- ---- parts in order
 
-pub two_parts : (f g h : Option Fault) (xs ys : List Site) → g ≡ lowest_in f xs → h ≡ lowest_in g ys → h ≡ lowest_in f (xs ++ ys)
-two_parts f g h xs ys p q = q ∙ ap (λ b. lowest_in b ys) p ∙ sym (lowest_in_append f xs ys)
+pub two_parts : (rules : List Asked) (f g h : Option Fault) (xs ys : List Site) → g ≡ lowest_in rules f xs → h ≡ lowest_in rules g ys → h ≡ lowest_in rules f (xs ++ ys)
+two_parts rules f g h xs ys p q = q ∙ ap (λ b. lowest_in rules b ys) p ∙ sym (lowest_in_append rules f xs ys)
 
-pub site_first : (f g h : Option Fault) (s : Site) (xs : List Site) → g ≡ lowest_at f s → h ≡ lowest_in g xs → h ≡ lowest_in f (s ∷ xs)
-site_first f g h s xs p q = q ∙ ap (λ b. lowest_in b xs) p
+pub site_first : (rules : List Asked) (f g h : Option Fault) (s : Site) (xs : List Site) → g ≡ lowest_at rules f s → h ≡ lowest_in rules g xs → h ≡ lowest_in rules f (s ∷ xs)
+site_first rules f g h s xs p q = q ∙ ap (λ b. lowest_in rules b xs) p
 
-module _ (w : Spot) (f0 f1 f2 f3 f4 f5 : Option Fault) where
-  pub put_found : (t : Name) (a b e : Expr) → f1 ≡ lowest_at f0 (site w (NamesTable t)) → f2 ≡ lowest_at f1 (site w (WritesCell t a b))
-      → f3 ≡ lowest_in f2 (in_whole w a) → f4 ≡ lowest_in f3 (in_whole w b) → f5 ≡ lowest_in f4 (in_whole w e) → f5 ≡ lowest_in f0 (in_stmt w (Put t a b e))
+module _ (rules : List Asked) (w : Spot) (f0 f1 f2 f3 f4 f5 : Option Fault) where
+  pub put_found : (t : Name) (a b e : Expr) → f1 ≡ lowest_at rules f0 (site w (NamesTable t)) → f2 ≡ lowest_at rules f1 (site w (WritesCell t a b))
+      → f3 ≡ lowest_in rules f2 (in_whole w a) → f4 ≡ lowest_in rules f3 (in_whole w b) → f5 ≡ lowest_in rules f4 (in_whole w e) → f5 ≡ lowest_in rules f0 (in_stmt w (Put t a b e))
   put_found t a b e p q r u v =
       let rest : List Site = in_whole w a ++ (in_whole w b ++ in_whole w e) in
-      site_first f0 f1 f5 (site w (NamesTable t)) (site w (WritesCell t a b) ∷ rest) p
-      (site_first f1 f2 f5 (site w (WritesCell t a b)) rest q
-      (two_parts f2 f3 f5 (in_whole w a) (in_whole w b ++ in_whole w e) r (two_parts f3 f4 f5 (in_whole w b) (in_whole w e) u v)))
+      site_first rules f0 f1 f5 (site w (NamesTable t)) (site w (WritesCell t a b) ∷ rest) p
+      (site_first rules f1 f2 f5 (site w (WritesCell t a b)) rest q
+      (two_parts rules f2 f3 f5 (in_whole w a) (in_whole w b ++ in_whole w e) r (two_parts rules f3 f4 f5 (in_whole w b) (in_whole w e) u v)))
 
-  pub both_found : (x : Name) (f : App) (y : Name) (g : App) → f1 ≡ lowest_at f0 (site w (Assigns x)) → f2 ≡ lowest_in f1 (in_app w f)
-      → f3 ≡ lowest_at f2 (site w (Assigns y)) → f4 ≡ lowest_at f3 (site w (AssignsBoth x y)) → f5 ≡ lowest_in f4 (in_app w g) → f5 ≡ lowest_in f0 (in_stmt w (Both x f y g))
+  pub both_found : (x : Name) (f : App) (y : Name) (g : App) → f1 ≡ lowest_at rules f0 (site w (Assigns x)) → f2 ≡ lowest_in rules f1 (in_app w f)
+      → f3 ≡ lowest_at rules f2 (site w (Assigns y)) → f4 ≡ lowest_at rules f3 (site w (AssignsBoth x y)) → f5 ≡ lowest_in rules f4 (in_app w g) → f5 ≡ lowest_in rules f0 (in_stmt w (Both x f y g))
   both_found x f y g p q r u v =
       let rest : List Site = site w (Assigns y) ∷ site w (AssignsBoth x y) ∷ in_app w g in
-      site_first f0 f1 f5 (site w (Assigns x)) (in_app w f ++ rest) p
-      (two_parts f1 f2 f5 (in_app w f) rest q
-      (site_first f2 f3 f5 (site w (Assigns y)) (site w (AssignsBoth x y) ∷ in_app w g) r (site_first f3 f4 f5 (site w (AssignsBoth x y)) (in_app w g) u v)))
+      site_first rules f0 f1 f5 (site w (Assigns x)) (in_app w f ++ rest) p
+      (two_parts rules f1 f2 f5 (in_app w f) rest q
+      (site_first rules f2 f3 f5 (site w (Assigns y)) (site w (AssignsBoth x y) ∷ in_app w g) r (site_first rules f3 f4 f5 (site w (AssignsBoth x y)) (in_app w g) u v)))
 
-  pub bounds_found : (x : Name) (a b : Expr) → f1 ≡ lowest_at f0 (site w (Declares x)) → f2 ≡ lowest_in f1 (in_whole w a) → f3 ≡ lowest_in f2 (in_whole w b)
-      → f3 ≡ lowest_in f0 (site w (Declares x) ∷ in_whole w a ++ in_whole w b)
+  pub bounds_found : (x : Name) (a b : Expr) → f1 ≡ lowest_at rules f0 (site w (Declares x)) → f2 ≡ lowest_in rules f1 (in_whole w a) → f3 ≡ lowest_in rules f2 (in_whole w b)
+      → f3 ≡ lowest_in rules f0 (site w (Declares x) ∷ in_whole w a ++ in_whole w b)
   bounds_found x a b p q r =
-      site_first f0 f1 f3 (site w (Declares x)) (in_whole w a ++ in_whole w b) p (two_parts f1 f2 f3 (in_whole w a) (in_whole w b) q r)
+      site_first rules f0 f1 f3 (site w (Declares x)) (in_whole w a ++ in_whole w b) p (two_parts rules f1 f2 f3 (in_whole w a) (in_whole w b) q r)
 
 -- ---- blocks as lists
 
-rows_list : {m : _} (w : Spot) (row : Row_of-Stmt m) → in_all w row ≡ in_list w (items-the_row-Stmt _ row)
+pub rows_list : {m : _} (w : Spot) (row : Row_of-Stmt m) → in_all w row ≡ in_list w (items-the_row-Stmt _ row)
 rows_list w end_of-Stmt = refl
 rows_list w (more_of-Stmt b rest) = ap (λ r. in_stmt w b ++ r) (rows_list (spot_after w b) rest)
 
@@ -79,11 +79,12 @@ in_parallel w l =
 
 -- ---- a list of statements
 
-module _ (w : Spot) (f g : Option Fault) (body : List Stmt) (i : ℕ) (s : Stmt) (v : Spot) (lt : i < length body) (is : s ≡ get_or body i s) where
-  pub list_found : g ≡ lowest_in f (in_stmt w s) → v ≡ spot_after w s → lowest_in g (in_list v (drop (i + 1) body)) ≡ lowest_in f (in_list w (drop i body))
+module _ (rules : List Asked) (w : Spot) (f g : Option Fault) (body : List Stmt) (i : ℕ) (s : Stmt) (v : Spot) (lt : i < length body) (is : s ≡ get_or body i s) where
+  pub list_found : g ≡ lowest_in rules f (in_stmt w s) → v ≡ spot_after w s → lowest_in rules g (in_list v (drop (i + 1) body)) ≡ lowest_in rules f (in_list w (drop i body))
   list_found p q =
-      rw (add-one, drop-cons body i s lt, ← is, p, q) (sym (lowest_in_append f (in_stmt w s) (in_list (spot_after w s) (drop (suc i) body))))
+      rw (add-one, drop-cons body i s lt, ← is, p, q) (sym (lowest_in_append rules f (in_stmt w s) (in_list (spot_after w s) (drop (suc i) body))))
 
+module _ (w : Spot) (body : List Stmt) (i : ℕ) (s : Stmt) (v : Spot) (lt : i < length body) (is : s ≡ get_or body i s) where
   pub list_stands : v ≡ spot_after w s → spot_of_list v (drop (i + 1) body) ≡ spot_of_list w (drop i body)
   list_stands q = rw (add-one, drop-cons body i s lt, ← is, q) refl
 
@@ -93,7 +94,7 @@ abbrev let_of : Stmt → List (List ℕ)
 let_of (Let x e) = x.text.items ∷ []
 let_of _ = []
 
-abbrev lets : List Stmt → List (List ℕ)
+abbrev pub lets : List Stmt → List (List ℕ)
 lets [] = []
 lets (s ∷ ss) = let_of s ++ lets ss
 
@@ -104,7 +105,7 @@ spot_after_more : (w : Spot) (s : Stmt) → spot_after w s ≡ record w { scope 
 spot_after_more w (Let x e) = refl
 spot_after_more w _ = sym (more_scope w)
 
-spot_of_list_more : (w : Spot) (ss : List Stmt) → spot_of_list w ss ≡ record w { scope = w.scope ++ lets ss }
+pub spot_of_list_more : (w : Spot) (ss : List Stmt) → spot_of_list w ss ≡ record w { scope = w.scope ++ lets ss }
 spot_of_list_more w [] = sym (more_scope w)
 spot_of_list_more w (s ∷ ss) =
     ap (λ v. spot_of_list v ss) (spot_after_more w s)
@@ -147,17 +148,17 @@ par_left w v d e h =
     ap {A = Spot} {B = Spot} (λ u. record u { depth = d }) e ∙ ap {A = ℕ} {B = Spot} (λ n. record w { depth = n }) q
 
 pub par_found : (w : Spot) (l : ParLoop) (f0 f1 f2 f3 f4 : Option Fault)
-    → f1 ≡ lowest_at f0 (site w (Parallel l.place l.carry_place (the_loop w l.var l.carries.items l.reduces.items)))
-    → f2 ≡ lowest_in f1 (site w (Declares l.var) ∷ in_whole w l.from ++ in_whole w l.to)
-    → f3 ≡ lowest_in f2 (in_carries w l.carries.items)
-    → f4 ≡ lowest_in f3 (in_list (bare (in_par w l.var l.carries.items l.reduces.items)) l.body.items)
-    → f4 ≡ lowest_in f0 (in_stmt w (Par l))
+    → f1 ≡ lowest_at resolved_rules f0 (site w (Parallel l.place l.carry_place (the_loop w l.var l.carries.items l.reduces.items)))
+    → f2 ≡ lowest_in resolved_rules f1 (site w (Declares l.var) ∷ in_whole w l.from ++ in_whole w l.to)
+    → f3 ≡ lowest_in resolved_rules f2 (in_carries w l.carries.items)
+    → f4 ≡ lowest_in resolved_rules f3 (in_list (bare (in_par w l.var l.carries.items l.reduces.items)) l.body.items)
+    → f4 ≡ lowest_in resolved_rules f0 (in_stmt w (Par l))
 par_found w l f0 f1 f2 f3 f4 p q r u =
     let v : Spot = in_par w l.var l.carries.items l.reduces.items in
     let s : Site = site w (Parallel l.place l.carry_place (the_loop w l.var l.carries.items l.reduces.items)) in
     let bounds : List Site = site w (Declares l.var) ∷ in_whole w l.from ++ in_whole w l.to in
     let carried : List Site = in_carries w l.carries.items in
     let body : List Site = in_list v l.body.items in
-    site_first f0 f1 f4 s (bounds ++ (carried ++ body)) p
-    (two_parts f1 f2 f4 bounds (carried ++ body) q (two_parts f2 f3 f4 carried body r (u ∙ sym (rounds_apart f3 v l.body.items))))
-    ∙ ap (lowest_in f0) (sym (in_parallel w l))
+    site_first resolved_rules f0 f1 f4 s (bounds ++ (carried ++ body)) p
+    (two_parts resolved_rules f1 f2 f4 bounds (carried ++ body) q (two_parts resolved_rules f2 f3 f4 carried body r (u ∙ sym (rounds_apart f3 v l.body.items))))
+    ∙ ap (lowest_in resolved_rules f0) (sym (in_parallel w l))

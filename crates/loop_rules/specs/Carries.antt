@@ -16,99 +16,110 @@ use Rattle.loop_rules.specs.Reductions.{any_loop, reduced}
 
 abbrev pub is_some_item : Option Carry → Bool
 is_some_item None = false
-is_some_item (Some c) = true
+is_some_item (Some item) = true
 
--- whether a `par` carries t
+-- whether a `par` carries that table
 abbrev pub carries : List ℕ → Loop → Bool
-carries t r = is_some_item (item_of r.carries t)
+carries table loop = is_some_item (item_of loop.carries table)
 
 -- ---- shapes
 
 -- whether an index is that bare name
 abbrev pub is_var : Expr → List ℕ → Bool
-is_var (Var x) y = bytes_eq x.text.items y
-is_var _ y = false
+is_var (Var variable) name = bytes_eq variable.text.items name
+is_var _ name = false
 
 -- whether an index is that bare literal, by its value
 abbrev pub is_int : Expr → ℤ → Bool
-is_int (Int n p) m = int_eq n m
-is_int _ m = false
+is_int (Int number place) other = int_eq number other
+is_int _ other = false
 
 abbrev pub is_row : RowAt → Expr → Bool
-is_row (row.Var k) a = is_var a k.text.items
-is_row (row.Int n) a = is_int a n
+is_row (row.Var variable) index = is_var index variable.text.items
+is_row (row.Int number) index = is_int index number
 
 -- whether a cell has the shape of a carry item: `t[i][..]` of `t[i]`, and `t[k][j]` of `t[k][j]`
 abbrev pub fits : Carry → Expr → Expr → Bool
-fits (carry.Rows t i) a b = is_var a i.text.items
-fits (carry.Cells t k j) a b = is_row k a && is_var b j.text.items
+fits (carry.Rows table variable) row_index column_index = is_var row_index variable.text.items
+fits (carry.Cells table fixed column) row_index column_index =
+    is_row fixed row_index && is_var column_index column.text.items
 
 abbrev pub fits_some : Option Carry → Expr → Expr → Bool
-fits_some None a b = false
-fits_some (Some c) a b = fits c a b
+fits_some None row_index column_index = false
+fits_some (Some item) row_index column_index = fits item row_index column_index
 
--- whether a `par` carries t, and the cell has the shape of that item
+-- whether a `par` carries that table, and the cell has the shape of that item
 abbrev pub has_shape : Loop → List ℕ → Expr → Expr → Bool
-has_shape r t a b = fits_some (item_of r.carries t) a b
+has_shape loop table row_index column_index =
+    fits_some (item_of loop.carries table) row_index column_index
 
 -- ---- writes and reads
 
 abbrev pub bad_write : List Loop → List ℕ → Expr → Expr → Bool
-bad_write [] t a b = false
-bad_write (r ∷ rs) t a b = any_loop (λ q. not (carries t q)) (r ∷ rs) || not (has_shape r t a b)
+bad_write [] table row_index column_index = false
+bad_write (loop ∷ loops) table row_index column_index =
+    any_loop (λ other. not (carries table other)) (loop ∷ loops)
+    || not (has_shape loop table row_index column_index)
 
 -- a write inside `par` loops that don't all carry the table, or without the nearest one's shape
-abbrev pub c4 : Act → Spot → List Place
-c4 (WritesCell t a b) w = at t (bad_write w.rounds t.text.items a b)
-c4 _ w = []
+abbrev pub miswritten : Act → Spot → List Place
+miswritten (WritesCell table row_index column_index) spot =
+    at table (bad_write spot.rounds table.text.items row_index column_index)
+miswritten _ spot = []
 
 abbrev pub bad_read : List Loop → List ℕ → Expr → Expr → Bool
-bad_read [] t a b = false
-bad_read (r ∷ rs) t a b = any_loop (carries t) (r ∷ rs) && not (has_shape r t a b)
+bad_read [] table row_index column_index = false
+bad_read (loop ∷ loops) table row_index column_index =
+    any_loop (carries table) (loop ∷ loops) && not (has_shape loop table row_index column_index)
 
 -- a read of a table that a `par` round carries, where the nearest doesn't, or without its shape
-abbrev pub c5 : Act → Spot → List Place
-c5 (ReadsCell t a b) w = at t (bad_read w.rounds t.text.items a b)
-c5 _ w = []
+abbrev pub misread : Act → Spot → List Place
+misread (ReadsCell table row_index column_index) spot =
+    at table (bad_read spot.rounds table.text.items row_index column_index)
+misread _ spot = []
 
 -- ---- carry lists
 
 abbrev pub last_index : Carry → List ℕ
-last_index (carry.Rows t i) = i.text.items
-last_index (carry.Cells t k j) = j.text.items
+last_index (carry.Rows table row_variable) = row_variable.text.items
+last_index (carry.Cells table fixed column) = column.text.items
 
 -- whether the item's row is a variable that the loop reduces
 abbrev pub row_reduced : Loop → Carry → Bool
-row_reduced r (carry.Rows t i) = false
-row_reduced r (carry.Cells t (row.Var k) j) = reduced k.text.items r
-row_reduced r (carry.Cells t (row.Int n) j) = false
+row_reduced loop (carry.Rows table row_variable) = false
+row_reduced loop (carry.Cells table (row.Var row_variable) column) =
+    reduced row_variable.text.items loop
+row_reduced loop (carry.Cells table (row.Int number) column) = false
 
 -- whether that item is `t[i]` with the row i
 abbrev pub is_rows_item : Option Carry → RowAt → Bool
-is_rows_item (Some (carry.Rows t i)) (row.Var k) = bytes_eq i.text.items k.text.items
+is_rows_item (Some (carry.Rows table row_variable)) (row.Var variable) =
+    bytes_eq row_variable.text.items variable.text.items
 is_rows_item _ _ = false
 
 -- whether an item is `t[i][j]` where that `par` carries `t[i]`
 abbrev pub is_within : Loop → Carry → Bool
-is_within r (carry.Rows t i) = false
-is_within r (carry.Cells t k j) = is_rows_item (item_of r.carries t.text.items) k
+is_within loop (carry.Rows table row_variable) = false
+is_within loop (carry.Cells table fixed column) =
+    is_rows_item (item_of loop.carries table.text.items) fixed
 
 abbrev pub outside_nearest : List Loop → Carry → Bool
-outside_nearest [] c = false
-outside_nearest (r ∷ rs) c = not (is_within r c)
+outside_nearest [] item = false
+outside_nearest (loop ∷ loops) item = not (is_within loop item)
 
 abbrev pub bad_item : List Loop → Loop → Carry → Bool
-bad_item rounds r c =
-    not (bytes_eq (last_index c) r.var) || row_reduced r c || outside_nearest rounds c
+bad_item rounds loop item =
+    not (bytes_eq (last_index item) loop.var) || row_reduced loop item
+    || outside_nearest rounds item
 
 abbrev pub bad_items : List (List ℕ) → List Carry → Loop → List Loop → List Place
-bad_items before [] r rounds = []
-bad_items before (c ∷ cs) r rounds =
-    at (table_name c) (bad_item rounds r c || is_in before (table_name c).text.items)
-    ++ bad_items ((table_name c).text.items ∷ before) cs r rounds
+bad_items before [] loop rounds = []
+bad_items before (item ∷ items) loop rounds =
+    at (table_name item) (bad_item rounds loop item || is_in before (table_name item).text.items)
+    ++ bad_items ((table_name item).text.items ∷ before) items loop rounds
 
 -- an item whose last index isn't the loop's variable, whose row the loop reduces, or that isn't
 -- `t[i][j]` inside a `par` that carries `t[i]`; a table twice in one list
-abbrev pub c6 : Act → Spot → List Place
-c6 (Parallel p q r) w = bad_items [] r.carries r w.rounds
-c6 _ w = []
+abbrev pub miscarried : Act → Spot → List Place
+miscarried (Parallel place carry_place loop) spot = bad_items [] loop.carries loop spot.rounds
+miscarried _ spot = []

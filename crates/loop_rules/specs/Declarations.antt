@@ -5,31 +5,29 @@ use Rattle.loop_syntax.specs.declared.Stmt.{Stmt, Row_of-Stmt, end_of-Stmt, more
 use Rattle.loop_syntax.specs.declared.Stmt.TheVariants.{Let, Set, Put, If', While', Loop', Par'}
 use Rattle.loop_syntax.specs.declared.Stmt.TheVariants.{Fold, Call, Both, Print, Emit}
 use Rattle.loop_syntax.specs.declared.TableDecl.{TableDecl}
-use Rattle.loop_syntax.specs.declared.TableDecl.TheVariants.{Input, Made}
-
-abbrev pub table_of_decl : TableDecl → Name
-table_of_decl (Input t) = t
-table_of_decl (Made t a b) = t
+pub use Rattle.loop_syntax.specs.Naming.{table_of_decl}
 
 abbrev pub tables_of_decls : List TableDecl → List Name
 tables_of_decls [] = []
-tables_of_decls (d ∷ ds) = table_of_decl d ∷ tables_of_decls ds
+tables_of_decls (declaration ∷ declarations) =
+    table_of_decl declaration ∷ tables_of_decls declarations
 
 -- the variables that a statement and the statements of a block declare, in order
 abbrev mutual
   pub declared_in : Stmt → List Name
-  declared_in (Let x e) = x ∷ []
-  declared_in (If' e p body q other) = declared_all body ++ declared_all other
-  declared_in (While' e p body) = declared_all body
-  declared_in (Loop' x a b p body) = x ∷ declared_all body
-  declared_in (Par' place x a b carry_place carries reduces p body) = x ∷ declared_all body
-  declared_in (Set x e) = []
-  declared_in (Put t a b e) = []
-  declared_in (Fold x e) = []
-  declared_in (Call x f) = []
-  declared_in (Both x f y g) = []
-  declared_in (Print place e) = []
-  declared_in (Emit place t) = []
+  declared_in (Let variable value) = variable ∷ []
+  declared_in (If' condition p body q other) = declared_all body ++ declared_all other
+  declared_in (While' condition p body) = declared_all body
+  declared_in (Loop' variable from to p body) = variable ∷ declared_all body
+  declared_in (Par' place variable from to carry_place carries reduces p body) =
+      variable ∷ declared_all body
+  declared_in (Set variable value) = []
+  declared_in (Put table row_index column_index value) = []
+  declared_in (Fold variable value) = []
+  declared_in (Call variable call) = []
+  declared_in (Both first first_call second second_call) = []
+  declared_in (Print place value) = []
+  declared_in (Emit place table) = []
 
   pub declared_all : {m : _} → Row_of-Stmt m → List Name
   declared_all end_of-Stmt = []
@@ -37,4 +35,4 @@ abbrev mutual
 
 abbrev pub declared_list : List Stmt → List Name
 declared_list [] = []
-declared_list (s ∷ ss) = declared_in s ++ declared_list ss
+declared_list (statement ∷ statements) = declared_in statement ++ declared_list statements

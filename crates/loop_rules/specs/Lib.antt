@@ -1,3 +1,5 @@
+-- ---- what is promised
+
 -- Names: which declaration a name stands for, and what a loop does with it
 pub mod Names
 -- Declarations: the tables and the variables that are declared, in order
@@ -16,15 +18,19 @@ pub mod Reductions
 pub mod Carries
 -- Reading: calls to functions that read a carried table (C8)
 pub mod Reading
+-- Rules: their numbers
+pub mod Rules
 -- Broken: where a program breaks a rule
 pub mod Broken
--- Search: the first broken rule, as the walk finds it
+-- Unbroken: programs that break no rule that `resolve` looks at
+pub mod Unbroken
+-- Resolving: what `resolve` answers
+pub mod Resolving
+-- ---- inside: how the walk finds the first broken rule
+
+-- Search: the first broken rule of those that are asked for; loop_check asks for others
 pub mod Search
 -- Walk: how the walk's state stands for a spot
 pub mod Walk
 -- Index: a table of names and their places
 pub mod Index
--- Unbroken: programs that break no rule that `resolve` looks at
-pub mod Unbroken
--- Resolving: what `resolve` answers
-pub mod Resolving

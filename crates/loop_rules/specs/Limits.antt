@@ -16,46 +16,49 @@ use Rattle.loop_rules.specs.Scopes.{at, is_before}
 
 -- how many nodes stand above one another in an expression
 abbrev pub height : Expr → ℕ
-height (Int n p) = 1
-height (Var x) = 1
-height (Cell' t p a q b) = suc (max (height a) (height b))
-height (Rows t) = 1
-height (Cols t) = 1
-height (Neg' p a place) = suc (height a)
-height (Bin' o place p a q b) = suc (max (height a) (height b))
+height (Int number p) = 1
+height (Var variable) = 1
+height (Cell' table p left q right) = suc (max (height left) (height right))
+height (Rows table) = 1
+height (Cols table) = 1
+height (Neg' p negated place) = suc (height negated)
+height (Bin' op place p left q right) = suc (max (height left) (height right))
 
 -- the first of two places
 abbrev pub earlier : Place → Place → Place
-earlier p q = cond (is_before q p) q p
+earlier place other = cond (is_before other place) other place
 
 -- the first place of an expression's nodes
 abbrev pub first_place : Expr → Place
-first_place (Int n place) = place
-first_place (Var x) = x.place
-first_place (Cell' t p a q b) = earlier (earlier t.place (first_place a)) (first_place b)
-first_place (Rows t) = t.place
-first_place (Cols t) = t.place
-first_place (Neg' p a place) = earlier place (first_place a)
-first_place (Bin' o place p a q b) = earlier (earlier place (first_place a)) (first_place b)
+first_place (Int number place) = place
+first_place (Var variable) = variable.place
+first_place (Cell' table p left q right) =
+    earlier (earlier table.place (first_place left)) (first_place right)
+first_place (Rows table) = table.place
+first_place (Cols table) = table.place
+first_place (Neg' p negated place) = earlier place (first_place negated)
+first_place (Bin' op place p left q right) =
+    earlier (earlier place (first_place left)) (first_place right)
 
 abbrev pub first_name : List Name → List Place
 first_name [] = []
-first_name (x ∷ xs) = x.place ∷ []
+first_name (name ∷ names) = name.place ∷ []
 
 -- the first name past a limit
 abbrev pub past : ℕ → List Name → List Place
-past n xs = first_name (drop n xs)
+past limit names = first_name (drop limit names)
 
 -- the first table, function, parameter, variable, reduction or carry past its limit; an expression
 -- that is too high; a `par` too deep
-abbrev pub c11 : Act → Spot → List Place
-c11 (DeclaresTable t) w = at t (nat_eq (length w.tables) MAX_TABLES)
-c11 (DeclaresFunc f) w =
-    at f.name (nat_eq (length w.funcs) MAX_FUNCTIONS) ++ past MAX_PARAMETERS f.params.items
-c11 (DeclaresAll xs) w = past MAX_DECLARED_VARIABLES xs
-c11 (Evaluates e) w = cond (nat_lt MAX_EXPRESSION_HEIGHT (height e)) (first_place e ∷ []) []
-c11 (Parallel p q r) w =
-    cond (nat_le MAX_PAR_NESTING w.depth) (p ∷ []) []
-    ++ (past MAX_REDUCTIONS (map (λ d. d.target) r.reduces)
-    ++ past MAX_CARRIES (map table_name r.carries))
-c11 _ w = []
+abbrev pub over_limits : Act → Spot → List Place
+over_limits (DeclaresTable table) spot = at table (nat_eq (length spot.tables) MAX_TABLES)
+over_limits (DeclaresFunc func) spot =
+    at func.name (nat_eq (length spot.funcs) MAX_FUNCTIONS) ++ past MAX_PARAMETERS func.params.items
+over_limits (DeclaresAll variables) spot = past MAX_DECLARED_VARIABLES variables
+over_limits (Evaluates expression) spot =
+    cond (nat_lt MAX_EXPRESSION_HEIGHT (height expression)) (first_place expression ∷ []) []
+over_limits (Parallel place carry_place loop) spot =
+    cond (nat_le MAX_PAR_NESTING spot.depth) (place ∷ []) []
+    ++ (past MAX_REDUCTIONS (map (λ reduce. reduce.target) loop.reduces)
+    ++ past MAX_CARRIES (map table_name loop.carries))
+over_limits _ spot = []

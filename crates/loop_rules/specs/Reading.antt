@@ -11,22 +11,25 @@ use Rattle.loop_rules.specs.Reductions.{any_loop}
 use Rattle.loop_rules.specs.Carries.{carries}
 
 -- a function reads a cell of a table, itself or through calls
-pub data ReadsTable (p : Program) : List ℕ → List ℕ → Type 0 where
-  itself : (f : List ℕ) (g : Func) (w : Spot) (t : Name) (a b : Expr) →
-      func_of p.funcs.items f ≡ Some g →
-      Contains (in_func p g) (record { act = ReadsCell t a b; spot = w }) →
-      ReadsTable p f t.text.items
-  through : (f : List ℕ) (g : Func) (w : Spot) (h : Name) (n : ℕ) (t : List ℕ) →
-      func_of p.funcs.items f ≡ Some g →
-      Contains (in_func p g) (record { act = Calls h n; spot = w }) → ReadsTable p h.text.items t →
-      ReadsTable p f t
+pub data ReadsTable (program : Program) : List ℕ → List ℕ → Type 0 where
+  itself : (caller : List ℕ) (func : Func) (spot : Spot) (table : Name)
+      (row_index column_index : Expr) →
+      func_of program.funcs.items caller ≡ Some func →
+      Contains (in_func program func)
+      (record { act = ReadsCell table row_index column_index; spot = spot }) →
+      ReadsTable program caller table.text.items
+  through : (caller : List ℕ) (func : Func) (spot : Spot) (callee : Name) (arguments : ℕ)
+      (table : List ℕ) →
+      func_of program.funcs.items caller ≡ Some func →
+      Contains (in_func program func) (record { act = Calls callee arguments; spot = spot }) →
+      ReadsTable program callee.text.items table → ReadsTable program caller table
 
 -- a call inside a `par` to a function that reads a table which a `par` round the call carries
-pub record C8 (p : Program) (s : Site) (place : Place) : Type 0 where
+pub record CallsReader (program : Program) (site : Site) (place : Place) : Type 0 where
   pub callee : Name
   pub arguments : ℕ
-  pub is_call : s.act ≡ Calls callee arguments
+  pub is_call : site.act ≡ Calls callee arguments
   pub table : List ℕ
-  pub reads : ReadsTable p callee.text.items table
-  pub carried : any_loop (carries table) s.spot.rounds ≡ true
+  pub reads : ReadsTable program callee.text.items table
+  pub carried : any_loop (carries table) site.spot.rounds ≡ true
   pub here : place ≡ callee.place

@@ -7,12 +7,16 @@ use Rattle.loop_rules.specs.declared.resolved.RuleFault.{RuleFault}
 use Rattle.loop_rules.specs.declared.resolved.RuleFault.TheVariants as faults
 use Rattle.loop_rules.specs.Scopes.{is_before}
 use Rattle.loop_rules.specs.Unbroken.{IsOfResolve}
-use Rattle.loop_rules.specs.Broken.{Rule, number_of, Broken}
+use Rattle.loop_rules.specs.declared.rule.Rule.{Rule}
+use Rattle.loop_rules.specs.Broken.{Broken}
+use Rattle.loop_rules.specs.Rules.{number_of}
 
 -- a rule that is broken at a place comes before another one, or is the same: by place, and at one
 -- place by its number
 abbrev pub IsNoLater : Rule → Place → Rule → Place → Type 0
-IsNoLater r p q place = IsTrue (is_before p place) ⊎ ((p ≡ place) × (number_of r ≤ number_of q))
+IsNoLater rule place other elsewhere =
+    IsTrue (is_before place elsewhere)
+    ⊎ ((place ≡ elsewhere) × (number_of rule ≤ number_of other))
 
 -- a rule of that number is broken at the place, and none of them comes before it
 pub record IsFirstBroken (program : Program) (number : ℕ) (place : Place) : Type 0 where

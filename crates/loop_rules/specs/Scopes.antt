@@ -12,62 +12,68 @@ use Rattle.loop_rules.specs.Sites.{AssignsBoth, NamesTable, Calls, Parallel, Spo
 
 -- the place of a name, where the test holds
 abbrev pub at : Name → Bool → List Place
-at x test = cond test (x.place ∷ []) []
+at name test = cond test (name.place ∷ []) []
 
 -- whether one place comes before another
 abbrev pub is_before : Place → Place → Bool
-is_before p q = nat_lt p.line q.line || (nat_eq p.line q.line && nat_lt p.col q.col)
+is_before place other =
+    nat_lt place.line other.line || (nat_eq place.line other.line && nat_lt place.col other.col)
 
--- whether that table is declared, and not after x
+-- whether that table is declared, and not after that name
 abbrev pub is_table_by : Option Name → Name → Bool
-is_table_by None x = false
-is_table_by (Some t) x = not (is_before x.place t.place)
+is_table_by None name = false
+is_table_by (Some table) name = not (is_before name.place table.place)
 
--- whether that function is declared before x
+-- whether that function is declared before that name
 abbrev pub is_func_before : Option Func → Name → Bool
-is_func_before None x = false
-is_func_before (Some f) x = is_before f.name.place x.place
+is_func_before None name = false
+is_func_before (Some func) name = is_before func.name.place name.place
 
 -- whether a name is visible, as a variable, a table or a function
 abbrev pub is_visible : Spot → List ℕ → Bool
-is_visible w x = is_in w.scope x || (is_in (texts w.tables) x || is_in (func_names w.funcs) x)
+is_visible spot name =
+    is_in spot.scope name || (is_in (texts spot.tables) name || is_in (func_names spot.funcs) name)
 
 -- whether there is no such function, or it has another number of parameters
 abbrev pub misfits : Option Func → ℕ → Bool
-misfits None n = true
-misfits (Some f) n = not (nat_eq (length f.params.items) n)
+misfits None arguments = true
+misfits (Some func) arguments = not (nat_eq (length func.params.items) arguments)
 
 abbrev pub unseen_targets : List (List ℕ) → List Reduce → List Place
-unseen_targets vs [] = []
-unseen_targets vs (r ∷ rs) =
-    at r.target (not (is_in vs r.target.text.items)) ++ unseen_targets vs rs
+unseen_targets variables [] = []
+unseen_targets variables (reduce ∷ reduces) =
+    at reduce.target (not (is_in variables reduce.target.text.items))
+    ++ unseen_targets variables reduces
 
 -- a name that is used and isn't visible as what it is used for; one that is declared while it is
 -- visible, or as a table or a function after another one of that name; a call that misfits; one
 -- target twice in a `both`
-abbrev pub c1 : Act → Spot → List Place
-c1 (DeclaresTable t) w =
-    at t (is_in (texts w.tables) t.text.items || is_func_before (func_of w.funcs t.text.items) t)
-c1 (DeclaresFunc f) w =
-    at f.name (is_in (func_names w.funcs) f.name.text.items
-    || is_table_by (first_named w.tables f.name.text.items) f.name)
-c1 (Declares x) w = at x (is_visible w x.text.items)
-c1 (Uses x) w = at x (not (is_in w.scope x.text.items))
-c1 (Assigns x) w = at x (not (is_in w.scope x.text.items))
-c1 (Folds x) w = at x (not (is_in w.scope x.text.items))
-c1 (AssignsBoth x y) w = at y (bytes_eq x.text.items y.text.items)
-c1 (NamesTable t) w = at t (not (is_in (texts w.tables) t.text.items))
-c1 (Calls f n) w = at f (misfits (func_of w.funcs f.text.items) n)
-c1 (Parallel p q r) w = unseen_targets w.scope r.reduces
-c1 _ w = []
+abbrev pub misnamed : Act → Spot → List Place
+misnamed (DeclaresTable table) spot =
+    at table (is_in (texts spot.tables) table.text.items
+    || is_func_before (func_of spot.funcs table.text.items) table)
+misnamed (DeclaresFunc func) spot =
+    at func.name (is_in (func_names spot.funcs) func.name.text.items
+    || is_table_by (first_named spot.tables func.name.text.items) func.name)
+misnamed (Declares name) spot = at name (is_visible spot name.text.items)
+misnamed (Uses name) spot = at name (not (is_in spot.scope name.text.items))
+misnamed (Assigns name) spot = at name (not (is_in spot.scope name.text.items))
+misnamed (Folds name) spot = at name (not (is_in spot.scope name.text.items))
+misnamed (AssignsBoth name other) spot = at other (bytes_eq name.text.items other.text.items)
+misnamed (NamesTable table) spot = at table (not (is_in (texts spot.tables) table.text.items))
+misnamed (Calls func arguments) spot =
+    at func (misfits (func_of spot.funcs func.text.items) arguments)
+misnamed (Parallel place carry_place loop) spot = unseen_targets spot.scope loop.reduces
+misnamed _ spot = []
 
 abbrev pub loop_targets : List (List ℕ) → List Reduce → List Place
-loop_targets vs [] = []
-loop_targets vs (r ∷ rs) = at r.target (is_in vs r.target.text.items) ++ loop_targets vs rs
+loop_targets variables [] = []
+loop_targets variables (reduce ∷ reduces) =
+    at reduce.target (is_in variables reduce.target.text.items) ++ loop_targets variables reduces
 
 -- a loop's variable as a target
-abbrev pub c10 : Act → Spot → List Place
-c10 (Assigns x) w = at x (is_in w.loops x.text.items)
-c10 (Folds x) w = at x (is_in w.loops x.text.items)
-c10 (Parallel p q r) w = loop_targets w.loops r.reduces
-c10 _ w = []
+abbrev pub loop_variable_set : Act → Spot → List Place
+loop_variable_set (Assigns name) spot = at name (is_in spot.loops name.text.items)
+loop_variable_set (Folds name) spot = at name (is_in spot.loops name.text.items)
+loop_variable_set (Parallel place carry_place loop) spot = loop_targets spot.loops loop.reduces
+loop_variable_set _ spot = []

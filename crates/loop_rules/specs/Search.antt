@@ -1,49 +1,75 @@
--- The search for the first broken rule of names, limits and loop variables: the words of its
--- contracts.
+-- The search for the first broken rule: the words of its contracts. Which rules are asked for is a
+-- parameter.
 use Rattle.std.specs.Prelude.{ℕ, suc, Bool, cond, ◌||◌, ◌&&◌, List, [], ◌∷◌, nat_lt, nat_eq}
 use Rattle.std.specs.Prelude.{bytes_eq, Option, Some, None}
 use Rattle.tp_value.specs.declared.Place.{Place}
+use Rattle.loop_rules.specs.declared.rule.Rule.{Rule}
+use Rattle.loop_rules.specs.declared.rule.Rule.TheVariants.{Names, Functions, Output}
+use Rattle.loop_rules.specs.declared.rule.Rule.TheVariants.{LoopVariables, Limits}
 use Rattle.loop_rules.specs.declared.fault.Fault.{Fault}
-use Rattle.loop_rules.specs.Sites.{Site}
-use Rattle.loop_rules.specs.Scopes.{is_before, c1, c10}
-use Rattle.loop_rules.specs.Keeps.{c7, c9}
-use Rattle.loop_rules.specs.Limits.{c11}
+use Rattle.loop_rules.specs.Rules.{number_of}
+use Rattle.loop_rules.specs.Sites.{Act, Spot, Site}
+use Rattle.loop_rules.specs.Scopes.{is_before, misnamed, loop_variable_set}
+use Rattle.loop_rules.specs.Keeps.{unfit_for_functions, shown_in_par}
+use Rattle.loop_rules.specs.Limits.{over_limits}
 
 -- the same place, one further
 abbrev pub next_at : Option ℕ → Option ℕ
 next_at None = None
-next_at (Some k) = Some (suc k)
+next_at (Some position) = Some (suc position)
 
 -- where a name stands first
 abbrev pub first_at : List (List ℕ) → List ℕ → Option ℕ
-first_at [] x = None
-first_at (y ∷ ys) x = cond (bytes_eq y x) (Some 0) (next_at (first_at ys x))
+first_at [] name = None
+first_at (first ∷ rest) name = cond (bytes_eq first name) (Some 0) (next_at (first_at rest name))
+
+-- ---- faults
 
 abbrev pub is_same_place : Place → Place → Bool
-is_same_place p q = nat_eq p.line q.line && nat_eq p.col q.col
+is_same_place place other = nat_eq place.line other.line && nat_eq place.col other.col
 
--- whether a fault comes first: by place, and at one place by rule
+-- whether a fault comes first: by place, and at one place by the rule's number
 abbrev pub is_first : Fault → Fault → Bool
-is_first f g = is_before f.place g.place || (is_same_place f.place g.place && nat_lt f.rule g.rule)
+is_first fault other =
+    is_before fault.place other.place
+    || (is_same_place fault.place other.place
+    && nat_lt (number_of fault.rule) (number_of other.rule))
 
 -- the first of what was found and one more fault
 abbrev pub lower : Option Fault → Fault → Option Fault
-lower None f = Some f
-lower (Some g) f = cond (is_first f g) (Some f) (Some g)
+lower None fault = Some fault
+lower (Some before) fault = cond (is_first fault before) (Some fault) (Some before)
 
 -- the first of what was found and a rule's places
-abbrev pub lowest : Option Fault → ℕ → List Place → Option Fault
-lowest b n [] = b
-lowest b n (p ∷ ps) = lowest (lower b (record { rule = n; place = p })) n ps
+abbrev pub lowest : Option Fault → Rule → List Place → Option Fault
+lowest found rule [] = found
+lowest found rule (place ∷ places) =
+    lowest (lower found (record { rule = rule; place = place })) rule places
+
+-- ---- rules that are asked for
+
+-- a rule, and the places where what is done at a spot breaks it
+pub record Asked : Type 0 where
+  pub rule : Rule
+  pub broken : Act → Spot → List Place
 
 -- the first of what was found and what a site breaks
-abbrev pub lowest_at : Option Fault → Site → Option Fault
-lowest_at b s =
-    lowest
-    (lowest (lowest (lowest (lowest b 1 (c1 s.act s.spot)) 7 (c7 s.act s.spot)) 9 (c9 s.act s.spot))
-    10 (c10 s.act s.spot))
-    11 (c11 s.act s.spot)
+abbrev pub lowest_at : List Asked → Option Fault → Site → Option Fault
+lowest_at [] found site = found
+lowest_at (asked ∷ more) found site =
+    lowest_at more (lowest found asked.rule (asked.broken site.act site.spot)) site
 
-abbrev pub lowest_in : Option Fault → List Site → Option Fault
-lowest_in b [] = b
-lowest_in b (s ∷ ss) = lowest_in (lowest_at b s) ss
+-- and what sites break, one after the other
+abbrev pub lowest_in : List Asked → Option Fault → List Site → Option Fault
+lowest_in rules found [] = found
+lowest_in rules found (site ∷ sites) = lowest_in rules (lowest_at rules found site) sites
+
+-- the rules on names, limits, output and variables of loops
+abbrev pub resolved_rules : List Asked
+resolved_rules =
+    record { rule = Names; broken = misnamed }
+    ∷ record { rule = Functions; broken = unfit_for_functions }
+    ∷ record { rule = Output; broken = shown_in_par }
+    ∷ record { rule = LoopVariables; broken = loop_variable_set }
+    ∷ record { rule = Limits; broken = over_limits }
+    ∷ []

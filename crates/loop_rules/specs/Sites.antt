@@ -73,110 +73,122 @@ pub record Site : Type 0 where
   pub spot : Spot
 
 abbrev pub site : Spot → Act → Site
-site w a = record { act = a; spot = w }
+site spot act = record { act = act; spot = spot }
 
 -- ---- expressions
 
 abbrev pub in_expr : Spot → Expr → List Site
-in_expr w (Int n p) = []
-in_expr w (Var x) = site w (Uses x) ∷ []
-in_expr w (Cell' t p a q b) =
-    site w (NamesTable t) ∷ site w (ReadsCell t a b) ∷ in_expr w a ++ in_expr w b
-in_expr w (Rows t) = site w (NamesTable t) ∷ []
-in_expr w (Cols t) = site w (NamesTable t) ∷ []
-in_expr w (Neg' p a place) = in_expr w a
-in_expr w (Bin' o place p a q b) = in_expr w a ++ in_expr w b
+in_expr spot (Int n p) = []
+in_expr spot (Var variable) = site spot (Uses variable) ∷ []
+in_expr spot (Cell' table p row_index q column_index) =
+    site spot (NamesTable table) ∷ site spot (ReadsCell table row_index column_index)
+    ∷ in_expr spot row_index ++ in_expr spot column_index
+in_expr spot (Rows table) = site spot (NamesTable table) ∷ []
+in_expr spot (Cols table) = site spot (NamesTable table) ∷ []
+in_expr spot (Neg' p negated place) = in_expr spot negated
+in_expr spot (Bin' op place p left q right) = in_expr spot left ++ in_expr spot right
 
 -- an expression that isn't inside another one
 abbrev pub in_whole : Spot → Expr → List Site
-in_whole w e = site w (Evaluates e) ∷ in_expr w e
+in_whole spot expression = site spot (Evaluates expression) ∷ in_expr spot expression
 
 abbrev pub in_args : Spot → List Expr → List Site
-in_args w [] = []
-in_args w (e ∷ es) = in_whole w e ++ in_args w es
+in_args spot [] = []
+in_args spot (argument ∷ arguments) = in_whole spot argument ++ in_args spot arguments
 
 abbrev pub in_app : Spot → App → List Site
-in_app w f = site w (Calls f.callee (length f.args.items)) ∷ in_args w f.args.items
+in_app spot call =
+    site spot (Calls call.callee (length call.args.items)) ∷ in_args spot call.args.items
 
 -- ---- clauses of a `par`
 
 -- the tables of a carry list, and the variables that stand there as rows
 abbrev pub in_carries : Spot → List Carry → List Site
-in_carries w [] = []
-in_carries w (carry.Rows t i ∷ cs) = site w (NamesTable t) ∷ in_carries w cs
-in_carries w (carry.Cells t (row.Var k) j ∷ cs) =
-    site w (NamesTable t) ∷ site w (Uses k) ∷ in_carries w cs
-in_carries w (carry.Cells t (row.Int n) j ∷ cs) = site w (NamesTable t) ∷ in_carries w cs
+in_carries spot [] = []
+in_carries spot (carry.Rows table variable ∷ items) =
+    site spot (NamesTable table) ∷ in_carries spot items
+in_carries spot (carry.Cells table (row.Var row_variable) column ∷ items) =
+    site spot (NamesTable table) ∷ site spot (Uses row_variable) ∷ in_carries spot items
+in_carries spot (carry.Cells table (row.Int number) column ∷ items) =
+    site spot (NamesTable table) ∷ in_carries spot items
 
 -- ---- statements
 
 abbrev pub declared_var : Spot → Name → Spot
-declared_var w x = record w { scope = w.scope ++ x.text.items ∷ [] }
+declared_var spot variable = record spot { scope = spot.scope ++ variable.text.items ∷ [] }
 
--- the body of a loop over x
+-- the body of a loop over that variable
 abbrev pub in_loop : Spot → Name → Spot
-in_loop w x =
-    record w { scope = w.scope ++ x.text.items ∷ []; loops = w.loops ++ x.text.items ∷ [] }
+in_loop spot variable = record spot {
+  scope = spot.scope ++ variable.text.items ∷ [];
+  loops = spot.loops ++ variable.text.items ∷ [];
+}
 
 abbrev pub the_loop : Spot → Name → List Carry → List Reduce → Loop
-the_loop w x carries reduces =
-    record { outside = w.scope; var = x.text.items; carries = carries; reduces = reduces }
+the_loop spot variable carries reduces =
+    record { outside = spot.scope; var = variable.text.items; carries = carries; reduces = reduces }
 
--- the body of a `par` over x
+-- the body of a `par` over that variable
 abbrev pub in_par : Spot → Name → List Carry → List Reduce → Spot
-in_par w x carries reduces = record w {
-  scope = w.scope ++ x.text.items ∷ [];
-  loops = w.loops ++ x.text.items ∷ [];
-  depth = suc w.depth;
-  rounds = the_loop w x carries reduces ∷ w.rounds;
+in_par spot variable carries reduces = record spot {
+  scope = spot.scope ++ variable.text.items ∷ [];
+  loops = spot.loops ++ variable.text.items ∷ [];
+  depth = suc spot.depth;
+  rounds = the_loop spot variable carries reduces ∷ spot.rounds;
 }
 
 abbrev pub spot_after : Spot → Stmt → Spot
-spot_after w (Let x e) = declared_var w x
-spot_after w _ = w
+spot_after spot (Let variable value) = declared_var spot variable
+spot_after spot _ = spot
 
 abbrev mutual
   pub in_stmt : Spot → Stmt → List Site
-  in_stmt w (Let x e) = site w (Declares x) ∷ in_whole w e
-  in_stmt w (Set x e) = site w (Assigns x) ∷ in_whole w e
-  in_stmt w (Put t a b e) =
-      site w (NamesTable t) ∷ site w (WritesCell t a b) ∷ in_whole w a
-      ++ (in_whole w b ++ in_whole w e)
-  in_stmt w (If' e p body q other) = in_whole w e ++ (in_all w body ++ in_all w other)
-  in_stmt w (While' e p body) = in_whole w e ++ in_all w body
-  in_stmt w (Loop' x a b p body) =
-      site w (Declares x) ∷ in_whole w a ++ (in_whole w b ++ in_all (in_loop w x) body)
-  in_stmt w (Par' place x a b carry_place carries reduces p body) =
-      site w (Parallel place carry_place (the_loop w x carries.items reduces.items))
-      ∷ site w (Declares x)
-      ∷ in_whole w a
-      ++ (in_whole w b
-      ++ (in_carries w carries.items ++ in_all (in_par w x carries.items reduces.items) body))
-  in_stmt w (Fold x e) = site w (Folds x) ∷ in_whole w e
-  in_stmt w (Call x f) = site w (Assigns x) ∷ in_app w f
-  in_stmt w (Both x f y g) =
-      site w (Assigns x) ∷ in_app w f
-      ++ (site w (Assigns y) ∷ site w (AssignsBoth x y) ∷ in_app w g)
-  in_stmt w (Print place e) = site w (Shows place) ∷ in_whole w e
-  in_stmt w (Emit place t) = site w (Shows place) ∷ site w (NamesTable t) ∷ []
+  in_stmt spot (Let variable value) = site spot (Declares variable) ∷ in_whole spot value
+  in_stmt spot (Set variable value) = site spot (Assigns variable) ∷ in_whole spot value
+  in_stmt spot (Put table row_index column_index value) =
+      site spot (NamesTable table) ∷ site spot (WritesCell table row_index column_index)
+      ∷ in_whole spot row_index
+      ++ (in_whole spot column_index ++ in_whole spot value)
+  in_stmt spot (If' condition p body q other) =
+      in_whole spot condition ++ (in_all spot body ++ in_all spot other)
+  in_stmt spot (While' condition p body) = in_whole spot condition ++ in_all spot body
+  in_stmt spot (Loop' variable from to p body) =
+      site spot (Declares variable) ∷ in_whole spot from
+      ++ (in_whole spot to ++ in_all (in_loop spot variable) body)
+  in_stmt spot (Par' place variable from to carry_place carries reduces p body) =
+      site spot (Parallel place carry_place (the_loop spot variable carries.items reduces.items))
+      ∷ site spot (Declares variable)
+      ∷ in_whole spot from
+      ++ (in_whole spot to
+      ++ (in_carries spot carries.items
+      ++ in_all (in_par spot variable carries.items reduces.items) body))
+  in_stmt spot (Fold variable value) = site spot (Folds variable) ∷ in_whole spot value
+  in_stmt spot (Call variable call) = site spot (Assigns variable) ∷ in_app spot call
+  in_stmt spot (Both first first_call second second_call) =
+      site spot (Assigns first) ∷ in_app spot first_call
+      ++ (site spot (Assigns second) ∷ site spot (AssignsBoth first second)
+      ∷ in_app spot second_call)
+  in_stmt spot (Print place value) = site spot (Shows place) ∷ in_whole spot value
+  in_stmt spot (Emit place table) = site spot (Shows place) ∷ site spot (NamesTable table) ∷ []
 
   pub in_all : {m : _} → Spot → Row_of-Stmt m → List Site
-  in_all w end_of-Stmt = []
-  in_all w (more_of-Stmt first rest) = in_stmt w first ++ in_all (spot_after w first) rest
+  in_all spot end_of-Stmt = []
+  in_all spot (more_of-Stmt first rest) = in_stmt spot first ++ in_all (spot_after spot first) rest
 
 abbrev pub in_list : Spot → List Stmt → List Site
-in_list w [] = []
-in_list w (s ∷ ss) = in_stmt w s ++ in_list (spot_after w s) ss
+in_list spot [] = []
+in_list spot (statement ∷ statements) =
+    in_stmt spot statement ++ in_list (spot_after spot statement) statements
 
 abbrev pub spot_of_list : Spot → List Stmt → Spot
-spot_of_list w [] = w
-spot_of_list w (s ∷ ss) = spot_of_list (spot_after w s) ss
+spot_of_list spot [] = spot
+spot_of_list spot (statement ∷ statements) = spot_of_list (spot_after spot statement) statements
 
 -- ---- declarations
 
 -- the declared tables
 abbrev pub tables_of : Program → List Name
-tables_of p = tables_of_decls p.tables.items
+tables_of program = tables_of_decls program.tables.items
 
 -- where no variable is visible
 abbrev pub top : Part → List Name → List Func → Spot
@@ -194,45 +206,51 @@ top part tables funcs =
 -- a declared table behind those, and its size: there the tables before are visible, and no variable
 -- is
 abbrev pub in_decl : List Func → List Name → TableDecl → List Site
-in_decl fs before (Input t) = site (top OfSize before fs) (DeclaresTable t) ∷ []
-in_decl fs before (Made t a b) =
-    site (top OfSize before fs) (DeclaresTable t) ∷ in_whole (top OfSize before fs) a
-    ++ in_whole (top OfSize before fs) b
+in_decl funcs before (Input table) = site (top OfSize before funcs) (DeclaresTable table) ∷ []
+in_decl funcs before (Made table rows columns) =
+    site (top OfSize before funcs) (DeclaresTable table) ∷ in_whole (top OfSize before funcs) rows
+    ++ in_whole (top OfSize before funcs) columns
 
 abbrev pub in_decls : List Func → List Name → List TableDecl → List Site
-in_decls fs before [] = []
-in_decls fs before (d ∷ ds) = in_decl fs before d ++ in_decls fs (before ++ table_of_decl d ∷ []) ds
+in_decls funcs before [] = []
+in_decls funcs before (declaration ∷ declarations) =
+    in_decl funcs before declaration
+    ++ in_decls funcs (before ++ table_of_decl declaration ∷ []) declarations
 
 -- the parameters of a function, each visible from the next one on
 abbrev pub in_params : Spot → List Name → List Site
-in_params w [] = []
-in_params w (x ∷ xs) = site w (Declares x) ∷ in_params (declared_var w x) xs
+in_params spot [] = []
+in_params spot (param ∷ params) =
+    site spot (Declares param) ∷ in_params (declared_var spot param) params
 
 -- where the body of a function begins
 abbrev pub func_spot : Program → Func → Spot
-func_spot p f = record (top OfFunc (tables_of p) p.funcs.items) { scope = texts f.params.items }
+func_spot program func =
+    record (top OfFunc (tables_of program) program.funcs.items) { scope = texts func.params.items }
 
 abbrev pub in_func : Program → Func → List Site
-in_func p f =
-    site (func_spot p f) (DeclaresAll (f.params.items ++ declared_list f.body.items))
-    ∷ in_params (top OfFunc (tables_of p) p.funcs.items) f.params.items
-    ++ (in_list (func_spot p f) f.body.items
-    ++ in_whole (spot_of_list (func_spot p f) f.body.items) f.result)
+in_func program func =
+    site (func_spot program func) (DeclaresAll (func.params.items ++ declared_list func.body.items))
+    ∷ in_params (top OfFunc (tables_of program) program.funcs.items) func.params.items
+    ++ (in_list (func_spot program func) func.body.items
+    ++ in_whole (spot_of_list (func_spot program func) func.body.items) func.result)
 
 -- the functions, those before being declared already
 abbrev pub in_funcs : Program → List Func → List Func → List Site
-in_funcs p before [] = []
-in_funcs p before (f ∷ fs) =
-    site (top OfFunc (tables_of p) before) (DeclaresFunc f) ∷ in_func p f
-    ++ in_funcs p (before ++ f ∷ []) fs
+in_funcs program before [] = []
+in_funcs program before (func ∷ funcs) =
+    site (top OfFunc (tables_of program) before) (DeclaresFunc func) ∷ in_func program func
+    ++ in_funcs program (before ++ func ∷ []) funcs
 
 abbrev pub main_spot : Program → Spot
-main_spot p = top OfMain (tables_of p) p.funcs.items
+main_spot program = top OfMain (tables_of program) program.funcs.items
 
 abbrev pub in_main : Program → List Site
-in_main p =
-    site (main_spot p) (DeclaresAll (declared_list p.main.items))
-    ∷ in_list (main_spot p) p.main.items
+in_main program =
+    site (main_spot program) (DeclaresAll (declared_list program.main.items))
+    ∷ in_list (main_spot program) program.main.items
 
 abbrev pub sites : Program → List Site
-sites p = in_decls p.funcs.items [] p.tables.items ++ (in_funcs p [] p.funcs.items ++ in_main p)
+sites program =
+    in_decls program.funcs.items [] program.tables.items
+    ++ (in_funcs program [] program.funcs.items ++ in_main program)

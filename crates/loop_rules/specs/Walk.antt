@@ -6,24 +6,24 @@ use Rattle.loop_rules.specs.declared.fault.Fault.{Fault}
 use Rattle.loop_rules.specs.declared.spot as state
 use Rattle.loop_rules.specs.Declarations.{tables_of_decls}
 use Rattle.loop_rules.specs.Sites.{Spot, Site, declared_var}
-use Rattle.loop_rules.specs.Search.{lowest_in}
+use Rattle.loop_rules.specs.Search.{lowest_in, resolved_rules}
 
 -- the state knows how many `par` loops are round, and not which
 abbrev pub spot_of : state.Spot.Spot → Spot
-spot_of w = record {
-  part = w.part;
-  tables = tables_of_decls w.decls.now;
-  funcs = w.all.now;
-  scope = w.scope;
-  loops = w.loops;
-  depth = length w.rounds.items;
+spot_of walk = record {
+  part = walk.part;
+  tables = tables_of_decls walk.decls.now;
+  funcs = walk.all.now;
+  scope = walk.scope;
+  loops = walk.loops;
+  depth = length walk.rounds.items;
   rounds = [];
 }
 
 -- the walk went over these sites, and stands at that spot
-pub record Walked (before after : Option Fault) (ss : List Site) (new : state.Spot.Spot)
+pub record Walked (before after : Option Fault) (sites : List Site) (new : state.Spot.Spot)
     (spot : Spot) : Type 0 where
-  pub found : after ≡ lowest_in before ss
+  pub found : after ≡ lowest_in resolved_rules before sites
   pub stands : spot_of new ≡ spot
 
 -- the names behind references
@@ -32,5 +32,5 @@ named xs = map {A = Bor Name} {B = Name} (λ x. x.now) xs
 
 -- where a walk stands after parameters
 abbrev pub spot_of_params : Spot → List Name → Spot
-spot_of_params w [] = w
-spot_of_params w (x ∷ xs) = spot_of_params (declared_var w x) xs
+spot_of_params spot [] = spot
+spot_of_params spot (param ∷ params) = spot_of_params (declared_var spot param) params

@@ -9,11 +9,11 @@ use tp_value::NoMemory;
 
 /// Adds the variables that a statement declares, in order.
 #[cycle(declared)]
-fn push_declared<'a>(names: &mut Vec<&'a Name>, s: &'a Stmt) -> Result<(), NoMemory>
+fn push_declared<'a>(names: &mut Vec<&'a Name>, statement: &'a Stmt) -> Result<(), NoMemory>
     ensures { IfOk result (λ u.
-        named names.new.items ≡ named names.old.items ++ declared_in s.now) }
+        named names.new.items ≡ named names.old.items ++ declared_in statement.now) }
 {
-    match s {
+    match statement {
         Stmt::Let(x, _) => {
             names.push(x)?;
             Ok(())

@@ -4,34 +4,38 @@ ghost use Rattle.std.specs.Prelude.{◌≡◌, ◌∷◌, [], cond};
 ghost use Rattle.loop_rules.specs.Scopes.{is_before};
 ghost use Rattle.loop_rules.specs.Search.{is_first, lower, lowest};
 
+use crate::rule::Rule;
 use tp_value::Place;
 
 /// A broken rule, and where.
 #[derive(Clone, Copy, PartialEq, Eq, Debug)]
 pub struct Fault {
-    /// The rule's number.
-    pub rule: u8,
+    /// The rule.
+    pub rule: Rule,
     /// The place.
     pub place: Place,
 }
 
 /// Whether one place comes before another.
-pub fn is_before(p: Place, q: Place) -> bool
-    ensures { result ≡ is_before p q }
+pub fn is_before(place: Place, other: Place) -> bool
+    ensures { result ≡ is_before place other }
 {
-    p.line < q.line || (p.line == q.line && p.col < q.col)
+    place.line < other.line || (place.line == other.line && place.col < other.col)
 }
 
-/// Whether a fault comes first: by place, and at one place by rule.
-fn is_first(f: Fault, g: Fault) -> bool
-    ensures { result ≡ is_first f g }
+/// Whether a fault comes first: by place, and at one place by the rule's number.
+fn is_first(fault: Fault, other: Fault) -> bool
+    ensures { result ≡ is_first fault other }
 {
-    is_before(f.place, g.place)
-        || (f.place.line == g.place.line && f.place.col == g.place.col && f.rule < g.rule)
+    let is_smaller = fault.rule.number() < other.rule.number();
+    is_before(fault.place, other.place)
+        || (fault.place.line == other.place.line
+            && fault.place.col == other.place.col
+            && is_smaller)
 }
 
 /// Keeps the first of what was found and one more fault.
-pub fn note(found: &mut Option<Fault>, rule: u8, place: Place)
+pub fn note(found: &mut Option<Fault>, rule: Rule, place: Place)
     ensures { found.new ≡ lower found.old (record { rule = rule; place = place }) }
 {
     let fault = Fault { rule, place };
@@ -46,7 +50,7 @@ pub fn note(found: &mut Option<Fault>, rule: u8, place: Place)
 }
 
 /// The same, where the rule is broken.
-pub fn note_if(found: &mut Option<Fault>, rule: u8, broken: bool, place: Place)
+pub fn note_if(found: &mut Option<Fault>, rule: Rule, broken: bool, place: Place)
     ensures { found.new ≡ lowest found.old rule (cond broken (place ∷ []) []) }
 {
     if broken {

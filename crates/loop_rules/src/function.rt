@@ -5,12 +5,13 @@ ghost use Rattle.loop_rules.specs.Declarations.{declared_list};
 ghost use Rattle.loop_rules.specs.Limits.{past};
 ghost use Rattle.loop_rules.specs.Sites.{site, in_params, in_list, in_whole, spot_of_list};
 ghost use Rattle.loop_rules.specs.Sites.{DeclaresAll};
-ghost use Rattle.loop_rules.specs.Search.{lowest, lowest_in};
+ghost use Rattle.loop_rules.specs.Search.{lowest, lowest_in, resolved_rules};
 ghost use Rattle.loop_rules.specs.Walk.{named, spot_of, spot_of_params, Walked};
 
 use crate::declaration::push_all;
-use crate::expression::{LIMITS, in_whole};
+use crate::expression::in_whole;
 use crate::fault::{Fault, note};
+use crate::rule::Rule;
 use crate::spot::Spot;
 use crate::statement::{declares, in_list};
 use loop_syntax::{Func, Name, Stmt};
@@ -19,36 +20,37 @@ use tp_value::{MAX_DECLARED_VARIABLES, MAX_PARAMETERS, NoMemory};
 
 /// The parameters of a function, each visible from the next one on.
 fn in_params<'a>(
-    w: &mut Spot<'a, '_>,
+    spot: &mut Spot<'a, '_>,
     found: &mut Option<Fault>,
-    xs: &'a [Name],
+    params: &'a [Name],
 ) -> Result<(), NoMemory>
     ensures { IfOk result (λ u.
-        Walked found.old found.new (in_params (spot_of w.old) xs.now) w.new
-        (spot_of_params (spot_of w.old) xs.now)) }
+        Walked found.old found.new (in_params (spot_of spot.old) params.now) spot.new
+        (spot_of_params (spot_of spot.old) params.now)) }
 {
-    for x in xs {
-        declares(w, found, x);
-        w.scope.declare(&x.text)?;
+    for x in params {
+        declares(spot, found, x);
+        spot.scope.declare(&x.text)?;
     }
     Ok(())
 }
 
 /// The first parameter past the limit.
-pub fn ninth_parameter(found: &mut Option<Fault>, xs: &[Name])
-    ensures { found.new ≡ lowest found.old 11 (past MAX_PARAMETERS xs.now) }
+pub fn ninth_parameter(found: &mut Option<Fault>, params: &[Name])
+    ensures { found.new ≡ lowest found.old Rule.Limits (past MAX_PARAMETERS params.now) }
 {
-    if xs.len() > MAX_PARAMETERS {
-        note(found, LIMITS, xs[MAX_PARAMETERS].place);
+    if params.len() > MAX_PARAMETERS {
+        note(found, Rule::Limits, params[MAX_PARAMETERS].place);
     }
 }
 
 /// The first variable past the limit.
 fn past_variables(found: &mut Option<Fault>, names: &[&Name])
-    ensures { found.new ≡ lowest found.old 11 (past MAX_DECLARED_VARIABLES (named names.now)) }
+    ensures { found.new
+        ≡ lowest found.old Rule.Limits (past MAX_DECLARED_VARIABLES (named names.now)) }
 {
     if names.len() > MAX_DECLARED_VARIABLES {
-        note(found, LIMITS, names[MAX_DECLARED_VARIABLES].place);
+        note(found, Rule::Limits, names[MAX_DECLARED_VARIABLES].place);
     }
 }
 
@@ -61,7 +63,7 @@ pub fn declares_all(
 ) -> Result<(), NoMemory>
     ensures { IfOk result (λ u.
         found.new
-        ≡ lowest found.old 11 (past MAX_DECLARED_VARIABLES (params.now
+        ≡ lowest found.old Rule.Limits (past MAX_DECLARED_VARIABLES (params.now
         ++ declared_list body.now))) }
 {
     let mut names = Vec::new(alloc);
@@ -75,18 +77,18 @@ pub fn declares_all(
 
 /// The parameters, the body and the result of a function.
 pub fn in_func<'a>(
-    w: &mut Spot<'a, '_>,
+    spot: &mut Spot<'a, '_>,
     found: &mut Option<Fault>,
-    f: &'a Func,
+    func: &'a Func,
 ) -> Result<(), NoMemory>
     ensures { IfOk result (λ u.
-        let s = spot_of_params (spot_of w.old) f.now.params.items in found.new
-        ≡ lowest_in found.old (in_params (spot_of w.old) f.now.params.items
-        ++ (in_list s f.now.body.items
-        ++ in_whole (spot_of_list s f.now.body.items) f.now.result))) }
+        let s = spot_of_params (spot_of spot.old) func.now.params.items in found.new
+        ≡ lowest_in resolved_rules found.old (in_params (spot_of spot.old) func.now.params.items
+        ++ (in_list s func.now.body.items
+        ++ in_whole (spot_of_list s func.now.body.items) func.now.result))) }
 {
-    in_params(w, found, &f.params)?;
-    in_list(w, found, &f.body)?;
-    in_whole(w, found, &f.result);
+    in_params(spot, found, &func.params)?;
+    in_list(spot, found, &func.body)?;
+    in_whole(spot, found, &func.result);
     Ok(())
 }

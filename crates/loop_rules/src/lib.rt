@@ -12,10 +12,13 @@ mod function;
 pub mod laws;
 mod part;
 mod resolved;
+mod rule;
 mod scope;
 mod spot;
 mod statement;
 mod whole;
 
+pub use fault::{Fault, note_if};
 pub use part::Part;
 pub use resolved::{Resolved, RuleFault, resolve};
+pub use rule::Rule;

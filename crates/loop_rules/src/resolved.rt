@@ -79,7 +79,7 @@ pub fn resolve(alloc: Global, program: Program) -> Result<Resolved, RuleFault>
     match first_fault(alloc, &program)? {
         None => Ok(Resolved { program }),
         Some(fault) => Err(RuleFault::Broken {
-            rule: fault.rule,
+            rule: fault.rule.number(),
             place: fault.place,
         }),
     }

@@ -104,9 +104,9 @@ impl<'a> Scope<'a> {
     }
 
     /// Leaves the first names visible.
-    pub fn leave(&mut self, n: usize)
-        ensures { self.new ≡ take n self.old }
+    pub fn leave(&mut self, count: usize)
+        ensures { self.new ≡ take count self.old }
     {
-        self.names.truncate(n);
+        self.names.truncate(count);
     }
 }

@@ -9,278 +9,306 @@ ghost use Rattle.loop_rules.specs.Limits.{past};
 ghost use Rattle.loop_rules.specs.Sites.{site, spot_after, spot_of_list, in_stmt, in_list, in_loop};
 ghost use Rattle.loop_rules.specs.Sites.{in_whole, the_loop, Declares, Assigns, Folds, AssignsBoth};
 ghost use Rattle.loop_rules.specs.Sites.{WritesCell, Shows, Parallel};
-ghost use Rattle.loop_rules.specs.Search.{lowest, lowest_at, lowest_in};
+ghost use Rattle.loop_rules.specs.Search.{lowest, lowest_at, lowest_in, resolved_rules};
 ghost use Rattle.loop_rules.specs.Walk.{spot_of, Walked};
 
-use crate::expression::{LIMITS, NAMES, in_app, in_carries, in_whole, names_table};
+use crate::expression::{in_app, in_carries, in_whole, names_table};
 use crate::fault::{Fault, note, note_if};
 use crate::part::Part;
+use crate::rule::Rule;
 use crate::spot::Spot;
 use loop_syntax::{App, Carry, Expr, Name, ParLoop, Reduce, Stmt};
 use tp_value::{MAX_CARRIES, MAX_PAR_NESTING, MAX_REDUCTIONS, NoMemory, Place};
 
-/// The number of the rule on what functions may do.
-const FUNCTIONS: u8 = 7;
-
-/// The number of the rule on output inside `par` loops.
-const OUTPUT: u8 = 9;
-
-/// The number of the rule on variables of loops.
-const LOOPS: u8 = 10;
-
 /// A variable is declared.
-pub fn declares(w: &Spot, found: &mut Option<Fault>, x: &Name)
-    ensures { found.new ≡ lowest_at found.old (site (spot_of w.now) (Declares x.now)) }
+pub fn declares(spot: &Spot, found: &mut Option<Fault>, variable: &Name)
+    ensures { found.new
+        ≡ lowest_at resolved_rules found.old (site (spot_of spot.now) (Declares variable.now)) }
 {
-    let visible = w.scope.contains(&x.text)
-        || w.tables.contains(&x.text)
-        || w.funcs.contains(&x.text);
-    note_if(found, NAMES, visible, x.place);
+    let visible = spot.scope.contains(&variable.text)
+        || spot.tables.contains(&variable.text)
+        || spot.funcs.contains(&variable.text);
+    note_if(found, Rule::Names, visible, variable.place);
 }
 
-fn assigns(w: &Spot, found: &mut Option<Fault>, x: &Name)
-    ensures { found.new ≡ lowest_at found.old (site (spot_of w.now) (Assigns x.now)) }
-{
-    note_if(found, NAMES, !w.scope.contains(&x.text), x.place);
-    note_if(found, LOOPS, w.loops.contains(&x.text), x.place);
-}
-
-fn folds(w: &Spot, found: &mut Option<Fault>, x: &Name)
-    ensures { found.new ≡ lowest_at found.old (site (spot_of w.now) (Folds x.now)) }
-{
-    note_if(found, NAMES, !w.scope.contains(&x.text), x.place);
-    note_if(found, LOOPS, w.loops.contains(&x.text), x.place);
-}
-
-fn assigns_both(w: &Spot, found: &mut Option<Fault>, x: &Name, y: &Name)
-    ensures { found.new ≡ lowest_at found.old (site (spot_of w.now) (AssignsBoth x.now y.now)) }
+fn assigns(spot: &Spot, found: &mut Option<Fault>, variable: &Name)
+    ensures { found.new
+        ≡ lowest_at resolved_rules found.old (site (spot_of spot.now) (Assigns variable.now)) }
 {
     note_if(
         found,
-        NAMES,
-        x.text.as_slice() == y.text.as_slice(),
-        y.place,
+        Rule::Names,
+        !spot.scope.contains(&variable.text),
+        variable.place,
+    );
+    note_if(
+        found,
+        Rule::LoopVariables,
+        spot.loops.contains(&variable.text),
+        variable.place,
+    );
+}
+
+// A fold is an assignment to these rules.
+fn folds(spot: &Spot, found: &mut Option<Fault>, variable: &Name)
+    ensures { found.new
+        ≡ lowest_at resolved_rules found.old (site (spot_of spot.now) (Folds variable.now)) }
+{
+    assigns(spot, found, variable);
+}
+
+fn assigns_both(spot: &Spot, found: &mut Option<Fault>, first: &Name, second: &Name)
+    ensures { found.new
+        ≡ lowest_at resolved_rules found.old (site (spot_of spot.now) (AssignsBoth first.now
+        second.now)) }
+{
+    note_if(
+        found,
+        Rule::Names,
+        first.text.as_slice() == second.text.as_slice(),
+        second.place,
     );
 }
 
 // A place that may not stand in a function.
 fn not_in_function(part: Part, found: &mut Option<Fault>, place: Place)
-    ensures { found.new ≡ lowest found.old 7 (in_function part place) }
+    ensures { found.new ≡ lowest found.old Rule.Functions (in_function part place) }
 {
     match part {
         Part::OfSize => {}
-        Part::OfFunc => note(found, FUNCTIONS, place),
+        Part::OfFunc => note(found, Rule::Functions, place),
         Part::OfMain => {}
     }
 }
 
 // A place that may not stand inside a `par` of main.
 fn not_in_par(part: Part, rounds: &[Place], found: &mut Option<Fault>, place: Place)
-    ensures { found.new ≡ lowest found.old 9 (in_par_of_main part (length rounds.now) place) }
+    ensures { found.new
+        ≡ lowest found.old Rule.Output (in_par_of_main part (length rounds.now) place) }
 {
     match part {
         Part::OfSize => {}
         Part::OfFunc => {}
         Part::OfMain => {
             if !rounds.is_empty() {
-                note(found, OUTPUT, place);
+                note(found, Rule::Output, place);
             }
         }
     }
 }
 
-fn shows(w: &Spot, found: &mut Option<Fault>, place: Place)
-    ensures { found.new ≡ lowest_at found.old (site (spot_of w.now) (Shows place)) }
+fn shows(spot: &Spot, found: &mut Option<Fault>, place: Place)
+    ensures { found.new
+        ≡ lowest_at resolved_rules found.old (site (spot_of spot.now) (Shows place)) }
 {
-    not_in_function(w.part, found, place);
-    not_in_par(w.part, &w.rounds, found, place);
+    not_in_function(spot.part, found, place);
+    not_in_par(spot.part, &spot.rounds, found, place);
 }
 
 // The clauses of a `par`.
 
-fn unseen_targets(w: &Spot, found: &mut Option<Fault>, rs: &[Reduce])
-    ensures { found.new ≡ lowest found.old 1 (unseen_targets w.now.scope rs.now) }
+fn unseen_targets(spot: &Spot, found: &mut Option<Fault>, reduces: &[Reduce])
+    ensures { found.new ≡ lowest found.old Rule.Names (unseen_targets spot.now.scope reduces.now) }
 {
-    for r in rs {
+    for r in reduces {
         note_if(
             found,
-            NAMES,
-            !w.scope.contains(&r.target.text),
+            Rule::Names,
+            !spot.scope.contains(&r.target.text),
             r.target.place,
         );
     }
 }
 
-fn loop_targets(w: &Spot, found: &mut Option<Fault>, rs: &[Reduce])
-    ensures { found.new ≡ lowest found.old 10 (loop_targets (spot_of w.now).loops rs.now) }
+fn loop_targets(spot: &Spot, found: &mut Option<Fault>, reduces: &[Reduce])
+    ensures { found.new
+        ≡ lowest found.old Rule.LoopVariables (loop_targets (spot_of spot.now).loops reduces.now) }
 {
-    for r in rs {
+    for r in reduces {
         note_if(
             found,
-            LOOPS,
-            w.loops.contains(&r.target.text),
+            Rule::LoopVariables,
+            spot.loops.contains(&r.target.text),
             r.target.place,
         );
     }
 }
 
-fn not_carried(part: Part, found: &mut Option<Fault>, place: Place, cs: &[Carry])
-    ensures { found.new ≡ lowest found.old 7 (carry_word part place cs.now) }
+fn not_carried(part: Part, found: &mut Option<Fault>, place: Place, carries: &[Carry])
+    ensures { found.new ≡ lowest found.old Rule.Functions (carry_word part place carries.now) }
 {
-    if !cs.is_empty() {
+    if !carries.is_empty() {
         not_in_function(part, found, place);
     }
 }
 
-fn ninth_reduction(found: &mut Option<Fault>, rs: &[Reduce])
-    ensures { found.new ≡ lowest found.old 11 (past MAX_REDUCTIONS (map (λ d. d.target) rs.now)) }
+fn ninth_reduction(found: &mut Option<Fault>, reduces: &[Reduce])
+    ensures { found.new
+        ≡ lowest found.old Rule.Limits (past MAX_REDUCTIONS (map (λ d. d.target) reduces.now)) }
 {
-    if rs.len() > MAX_REDUCTIONS {
-        note(found, LIMITS, rs[MAX_REDUCTIONS].target.place);
+    if reduces.len() > MAX_REDUCTIONS {
+        note(found, Rule::Limits, reduces[MAX_REDUCTIONS].target.place);
     }
 }
 
-/// The table of a carry item.
-fn table_name(c: &Carry) -> &Name
-    ensures { result.now ≡ table_name c.now }
+fn fifth_carry(found: &mut Option<Fault>, carries: &[Carry])
+    ensures { found.new
+        ≡ lowest found.old Rule.Limits (past MAX_CARRIES (map table_name carries.now)) }
 {
-    match c {
-        Carry::Rows(t, _) => t,
-        Carry::Cells(t, _, _) => t,
-    }
-}
-
-fn fifth_carry(found: &mut Option<Fault>, cs: &[Carry])
-    ensures { found.new ≡ lowest found.old 11 (past MAX_CARRIES (map table_name cs.now)) }
-{
-    if cs.len() > MAX_CARRIES {
-        note(found, LIMITS, table_name(&cs[MAX_CARRIES]).place);
+    if carries.len() > MAX_CARRIES {
+        note(found, Rule::Limits, carries[MAX_CARRIES].table().place);
     }
 }
 
 fn too_deep(rounds: &[Place], found: &mut Option<Fault>, place: Place)
     ensures { found.new
-        ≡ lowest found.old 11 (cond (nat_le MAX_PAR_NESTING (length rounds.now)) (place ∷ []) []) }
+        ≡ lowest found.old Rule.Limits (cond (nat_le MAX_PAR_NESTING (length rounds.now))
+        (place ∷ []) []) }
 {
     note_if(
         found,
-        LIMITS,
+        Rule::Limits,
         rounds.len() >= MAX_PAR_NESTING as usize,
         place,
     );
 }
 
-fn parallel(w: &Spot, found: &mut Option<Fault>, l: &ParLoop)
-    ensures { let s = spot_of w.now in found.new
-        ≡ lowest_at found.old (site s (Parallel l.now.place l.now.carry_place (the_loop s l.now.var
-        l.now.carries.items l.now.reduces.items))) }
+fn parallel(spot: &Spot, found: &mut Option<Fault>, par: &ParLoop)
+    ensures { let s = spot_of spot.now in found.new
+        ≡ lowest_at resolved_rules found.old (site s (Parallel par.now.place par.now.carry_place
+        (the_loop s par.now.var
+        par.now.carries.items par.now.reduces.items))) }
 {
-    unseen_targets(w, found, &l.reduces);
-    not_carried(w.part, found, l.carry_place, &l.carries);
-    loop_targets(w, found, &l.reduces);
-    too_deep(&w.rounds, found, l.place);
-    ninth_reduction(found, &l.reduces);
-    fifth_carry(found, &l.carries);
+    unseen_targets(spot, found, &par.reduces);
+    not_carried(spot.part, found, par.carry_place, &par.carries);
+    loop_targets(spot, found, &par.reduces);
+    too_deep(&spot.rounds, found, par.place);
+    ninth_reduction(found, &par.reduces);
+    fifth_carry(found, &par.carries);
 }
 
-fn writes(w: &Spot, found: &mut Option<Fault>, t: &Name, a: &Expr, b: &Expr)
+fn writes(spot: &Spot, found: &mut Option<Fault>, table: &Name, row: &Expr, column: &Expr)
     ensures { found.new
-        ≡ lowest_at found.old (site (spot_of w.now) (WritesCell t.now a.now b.now)) }
+        ≡ lowest_at resolved_rules found.old (site (spot_of spot.now) (WritesCell table.now row.now
+        column.now)) }
 {
-    not_in_function(w.part, found, t.place);
+    not_in_function(spot.part, found, table.place);
 }
 
 // Statements without blocks.
 
-fn in_put(w: &Spot, found: &mut Option<Fault>, t: &Name, a: &Expr, b: &Expr, e: &Expr)
+fn in_put(
+    spot: &Spot,
+    found: &mut Option<Fault>,
+    table: &Name,
+    row: &Expr,
+    column: &Expr,
+    value: &Expr,
+)
     ensures { found.new
-        ≡ lowest_in found.old (in_stmt (spot_of w.now) (Stmt.Put t.now a.now b.now e.now)) }
+        ≡ lowest_in resolved_rules found.old (in_stmt (spot_of spot.now) (Stmt.Put table.now row.now
+        column.now
+        value.now)) }
 {
-    names_table(w, found, t);
-    writes(w, found, t, a, b);
-    in_whole(w, found, a);
-    in_whole(w, found, b);
-    in_whole(w, found, e);
+    names_table(spot, found, table);
+    writes(spot, found, table, row, column);
+    in_whole(spot, found, row);
+    in_whole(spot, found, column);
+    in_whole(spot, found, value);
 }
 
-fn in_both(w: &Spot, found: &mut Option<Fault>, x: &Name, f: &App, y: &Name, g: &App)
+fn in_both(
+    spot: &Spot,
+    found: &mut Option<Fault>,
+    first: &Name,
+    first_call: &App,
+    second: &Name,
+    second_call: &App,
+)
     ensures { found.new
-        ≡ lowest_in found.old (in_stmt (spot_of w.now) (Stmt.Both x.now f.now y.now g.now)) }
+        ≡ lowest_in resolved_rules found.old (in_stmt (spot_of spot.now) (Stmt.Both first.now
+        first_call.now second.now
+        second_call.now)) }
 {
-    assigns(w, found, x);
-    in_app(w, found, f);
-    assigns(w, found, y);
-    assigns_both(w, found, x, y);
-    in_app(w, found, g);
+    assigns(spot, found, first);
+    in_app(spot, found, first_call);
+    assigns(spot, found, second);
+    assigns_both(spot, found, first, second);
+    in_app(spot, found, second_call);
 }
 
 /// The two bounds of a loop over x.
-fn in_bounds(w: &Spot, found: &mut Option<Fault>, x: &Name, a: &Expr, b: &Expr)
-    ensures { let s = spot_of w.now in found.new
-        ≡ lowest_in found.old (site s (Declares x.now) ∷ in_whole s a.now ++ in_whole s b.now) }
+fn in_bounds(spot: &Spot, found: &mut Option<Fault>, variable: &Name, from: &Expr, to: &Expr)
+    ensures { let s = spot_of spot.now in found.new
+        ≡ lowest_in resolved_rules found.old (site s (Declares variable.now) ∷ in_whole s from.now
+        ++ in_whole s to.now) }
 {
-    declares(w, found, x);
-    in_whole(w, found, a);
-    in_whole(w, found, b);
+    declares(spot, found, variable);
+    in_whole(spot, found, from);
+    in_whole(spot, found, to);
 }
 
 #[cycle(walk)]
-fn in_stmt<'a>(w: &mut Spot<'a, '_>, found: &mut Option<Fault>, s: &'a Stmt) -> Result<(), NoMemory>
+fn in_stmt<'a>(
+    spot: &mut Spot<'a, '_>,
+    found: &mut Option<Fault>,
+    statement: &'a Stmt,
+) -> Result<(), NoMemory>
     ensures { IfOk result (λ u.
-        Walked found.old found.new (in_stmt (spot_of w.old) s.now) w.new
-        (spot_after (spot_of w.old) s.now)) }
+        Walked found.old found.new (in_stmt (spot_of spot.old) statement.now) spot.new
+        (spot_after (spot_of spot.old) statement.now)) }
 {
-    match s {
+    match statement {
         Stmt::Let(x, e) => {
-            declares(w, found, x);
-            in_whole(w, found, e);
-            w.scope.declare(&x.text)
+            declares(spot, found, x);
+            in_whole(spot, found, e);
+            spot.scope.declare(&x.text)
         }
         Stmt::Set(x, e) => {
-            assigns(w, found, x);
-            in_whole(w, found, e);
+            assigns(spot, found, x);
+            in_whole(spot, found, e);
             Ok(())
         }
         Stmt::Put(t, a, b, e) => {
-            in_put(w, found, t, a, b, e);
+            in_put(spot, found, t, a, b, e);
             Ok(())
         }
         Stmt::If(e, body, other) => {
-            in_whole(w, found, e);
-            in_block(w, found, body)?;
-            in_block(w, found, other)
+            in_whole(spot, found, e);
+            in_block(spot, found, body)?;
+            in_block(spot, found, other)
         }
         Stmt::While(e, body) => {
-            in_whole(w, found, e);
-            in_block(w, found, body)
+            in_whole(spot, found, e);
+            in_block(spot, found, body)
         }
         Stmt::Loop(x, a, b, body) => {
-            in_bounds(w, found, x, a, b);
-            in_loop(w, found, body, x)
+            in_bounds(spot, found, x, a, b);
+            in_loop(spot, found, body, x)
         }
-        Stmt::Par(l) => in_par(w, found, l),
+        Stmt::Par(l) => in_par(spot, found, l),
         Stmt::Fold(x, e) => {
-            folds(w, found, x);
-            in_whole(w, found, e);
+            folds(spot, found, x);
+            in_whole(spot, found, e);
             Ok(())
         }
         Stmt::Call(x, f) => {
-            assigns(w, found, x);
-            in_app(w, found, f);
+            assigns(spot, found, x);
+            in_app(spot, found, f);
             Ok(())
         }
         Stmt::Both(x, f, y, g) => {
-            in_both(w, found, x, f, y, g);
+            in_both(spot, found, x, f, y, g);
             Ok(())
         }
         Stmt::Print(place, e) => {
-            shows(w, found, *place);
-            in_whole(w, found, e);
+            shows(spot, found, *place);
+            in_whole(spot, found, e);
             Ok(())
         }
         Stmt::Emit(place, t) => {
-            shows(w, found, *place);
-            names_table(w, found, t);
+            shows(spot, found, *place);
+            names_table(spot, found, t);
             Ok(())
         }
     }
@@ -289,16 +317,16 @@ fn in_stmt<'a>(w: &mut Spot<'a, '_>, found: &mut Option<Fault>, s: &'a Stmt) -> 
 /// The statements of a list in order.
 #[cycle(walk)]
 pub fn in_list<'a>(
-    w: &mut Spot<'a, '_>,
+    spot: &mut Spot<'a, '_>,
     found: &mut Option<Fault>,
     body: &'a [Stmt],
 ) -> Result<(), NoMemory>
     ensures { IfOk result (λ u.
-        Walked found.old found.new (in_list (spot_of w.old) body.now) w.new
-        (spot_of_list (spot_of w.old) body.now)) }
+        Walked found.old found.new (in_list (spot_of spot.old) body.now) spot.new
+        (spot_of_list (spot_of spot.old) body.now)) }
 {
     for s in body {
-        in_stmt(w, found, s)?;
+        in_stmt(spot, found, s)?;
     }
     Ok(())
 }
@@ -306,57 +334,58 @@ pub fn in_list<'a>(
 /// A block, whose variables are visible in it alone.
 #[cycle(walk)]
 fn in_block<'a>(
-    w: &mut Spot<'a, '_>,
+    spot: &mut Spot<'a, '_>,
     found: &mut Option<Fault>,
     body: &'a [Stmt],
 ) -> Result<(), NoMemory>
     ensures { IfOk result (λ u.
-        Walked found.old found.new (in_list (spot_of w.old) body.now) w.new
-        (spot_of w.old)) }
+        Walked found.old found.new (in_list (spot_of spot.old) body.now) spot.new
+        (spot_of spot.old)) }
 {
-    let n = w.scope.len();
-    in_list(w, found, body)?;
-    w.scope.leave(n);
+    let n = spot.scope.len();
+    in_list(spot, found, body)?;
+    spot.scope.leave(n);
     Ok(())
 }
 
 /// The body of a loop over x.
 #[cycle(walk)]
 fn in_loop<'a>(
-    w: &mut Spot<'a, '_>,
+    spot: &mut Spot<'a, '_>,
     found: &mut Option<Fault>,
     body: &'a [Stmt],
-    x: &'a Name,
+    variable: &'a Name,
 ) -> Result<(), NoMemory>
     ensures { IfOk result (λ u.
-        Walked found.old found.new (in_list (in_loop (spot_of w.old) x.now) body.now) w.new
-        (spot_of w.old)) }
+        Walked found.old found.new (in_list (in_loop (spot_of spot.old) variable.now) body.now)
+        spot.new
+        (spot_of spot.old)) }
 {
-    let (n, m) = (w.scope.len(), w.loops.len());
-    w.scope.declare(&x.text)?;
-    w.loops.declare(&x.text)?;
-    in_list(w, found, body)?;
-    w.scope.leave(n);
-    w.loops.leave(m);
+    let (n, m) = (spot.scope.len(), spot.loops.len());
+    spot.scope.declare(&variable.text)?;
+    spot.loops.declare(&variable.text)?;
+    in_list(spot, found, body)?;
+    spot.scope.leave(n);
+    spot.loops.leave(m);
     Ok(())
 }
 
 /// A `par`.
 #[cycle(walk)]
 fn in_par<'a>(
-    w: &mut Spot<'a, '_>,
+    spot: &mut Spot<'a, '_>,
     found: &mut Option<Fault>,
-    l: &'a ParLoop,
+    par: &'a ParLoop,
 ) -> Result<(), NoMemory>
     ensures { IfOk result (λ u.
-        Walked found.old found.new (in_stmt (spot_of w.old) (Stmt.Par l.now)) w.new
-        (spot_of w.old)) }
+        Walked found.old found.new (in_stmt (spot_of spot.old) (Stmt.Par par.now)) spot.new
+        (spot_of spot.old)) }
 {
-    parallel(w, found, l);
-    in_bounds(w, found, &l.var, &l.from, &l.to);
-    in_carries(w, found, &l.carries);
-    w.rounds.push(l.place)?;
-    in_loop(w, found, &l.body, &l.var)?;
-    w.rounds.pop();
+    parallel(spot, found, par);
+    in_bounds(spot, found, &par.var, &par.from, &par.to);
+    in_carries(spot, found, &par.carries);
+    spot.rounds.push(par.place)?;
+    in_loop(spot, found, &par.body, &par.var)?;
+    spot.rounds.pop();
     Ok(())
 }

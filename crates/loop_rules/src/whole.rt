@@ -2,18 +2,19 @@
 
 ghost use Rattle.std.specs.Prelude.{◌≡◌, ◌∷◌, [], IfOk, MatchOption, Some, None};
 ghost use Rattle.loop_rules.specs.Names.{texts, func_names, func_of, first_named};
-ghost use Rattle.loop_rules.specs.Declarations.{table_of_decl, tables_of_decls};
+ghost use Rattle.loop_rules.specs.Declarations.{tables_of_decls};
 ghost use Rattle.loop_rules.specs.Scopes.{is_func_before, is_table_by};
 ghost use Rattle.loop_rules.specs.Sites.{site, sites, top, tables_of, in_decl, in_decls, in_func};
 ghost use Rattle.loop_rules.specs.Sites.{in_funcs, in_main, DeclaresTable, DeclaresFunc};
-ghost use Rattle.loop_rules.specs.Search.{lowest_at, lowest_in};
+ghost use Rattle.loop_rules.specs.Search.{lowest_at, lowest_in, resolved_rules};
 ghost use Rattle.loop_rules.specs.Walk.{spot_of};
 
 use crate::declared::Declared;
-use crate::expression::{LIMITS, NAMES, func_of, in_whole};
+use crate::expression::{func_of, in_whole};
 use crate::fault::{Fault, is_before, note_if};
 use crate::function::{declares_all, in_func, ninth_parameter};
 use crate::part::Part;
+use crate::rule::Rule;
 use crate::scope::Scope;
 use crate::spot::Spot;
 use crate::statement::in_list;
@@ -51,35 +52,43 @@ fn top<'a, 'b>(
 // Tables.
 
 /// Whether the function of that name is declared before it.
-fn is_func_before(w: &Spot, x: &Name) -> bool
-    ensures { result ≡ is_func_before (func_of w.now.all.now x.now.text.items) x.now }
+fn is_func_before(spot: &Spot, name: &Name) -> bool
+    ensures { result ≡ is_func_before (func_of spot.now.all.now name.now.text.items) name.now }
 {
-    match func_of(w, &x.text) {
-        Some(f) => is_before(f.name.place, x.place),
+    match func_of(spot, &name.text) {
+        Some(f) => is_before(f.name.place, name.place),
         None => false,
     }
 }
 
-fn declares_table(w: &Spot, found: &mut Option<Fault>, t: &Name)
-    ensures { found.new ≡ lowest_at found.old (site (spot_of w.now) (DeclaresTable t.now)) }
+fn declares_table(spot: &Spot, found: &mut Option<Fault>, table: &Name)
+    ensures { found.new
+        ≡ lowest_at resolved_rules found.old (site (spot_of spot.now) (DeclaresTable table.now)) }
 {
-    let taken = w.tables.contains(&t.text) || is_func_before(w, t);
-    note_if(found, NAMES, taken, t.place);
-    note_if(found, LIMITS, w.tables.len() == MAX_TABLES, t.place);
+    let taken = spot.tables.contains(&table.text) || is_func_before(spot, table);
+    note_if(found, Rule::Names, taken, table.place);
+    note_if(
+        found,
+        Rule::Limits,
+        spot.tables.len() == MAX_TABLES,
+        table.place,
+    );
 }
 
 /// A declared table, and its size where it has one.
-fn in_decl(w: &Spot, found: &mut Option<Fault>, d: &TableDecl)
-    requires { spot_of w.now ≡ top Part.OfSize (tables_of_decls w.now.decls.now) w.now.all.now }
+fn in_decl(spot: &Spot, found: &mut Option<Fault>, declaration: &TableDecl)
+    requires { spot_of spot.now
+        ≡ top Part.OfSize (tables_of_decls spot.now.decls.now) spot.now.all.now }
     ensures { found.new
-        ≡ lowest_in found.old (in_decl w.now.all.now (tables_of_decls w.now.decls.now) d.now) }
+        ≡ lowest_in resolved_rules found.old (in_decl spot.now.all.now
+        (tables_of_decls spot.now.decls.now) declaration.now) }
 {
-    match d {
-        TableDecl::Input(t) => declares_table(w, found, t),
+    match declaration {
+        TableDecl::Input(t) => declares_table(spot, found, t),
         TableDecl::Made(t, a, b) => {
-            declares_table(w, found, t);
-            in_whole(w, found, a);
-            in_whole(w, found, b);
+            declares_table(spot, found, t);
+            in_whole(spot, found, a);
+            in_whole(spot, found, b);
         }
     }
 }
@@ -88,49 +97,42 @@ fn in_decl(w: &Spot, found: &mut Option<Fault>, d: &TableDecl)
 fn in_declared_table<'a>(
     alloc: Global,
     found: &mut Option<Fault>,
-    p: &'a Program,
+    program: &'a Program,
     funcs: &Scope<'a>,
     earlier: &'a [TableDecl],
     before: &Scope<'a>,
-    d: &TableDecl,
+    declaration: &TableDecl,
 )
-    requires known { funcs.now ≡ func_names p.now.funcs.items }
+    requires known { funcs.now ≡ func_names program.now.funcs.items }
     requires named { before.now ≡ texts (tables_of_decls earlier.now) }
     ensures { found.new
-        ≡ lowest_in found.old (in_decl p.now.funcs.items (tables_of_decls earlier.now) d.now) }
+        ≡ lowest_in resolved_rules found.old (in_decl program.now.funcs.items
+        (tables_of_decls earlier.now) declaration.now) }
 {
-    let spot = top(alloc, Part::OfSize, earlier, before, &p.funcs, funcs);
-    in_decl(&spot, found, d);
-}
-
-fn table_of_decl(d: &TableDecl) -> &Name
-    ensures { result.now ≡ table_of_decl d.now }
-{
-    match d {
-        TableDecl::Input(t) => t,
-        TableDecl::Made(t, _, _) => t,
-    }
+    let spot = top(alloc, Part::OfSize, earlier, before, &program.funcs, funcs);
+    in_decl(&spot, found, declaration);
 }
 
 /// The tables in order, each where those before it are visible. Answers their names.
 fn in_decls<'a>(
     alloc: Global,
     found: &mut Option<Fault>,
-    p: &'a Program,
+    program: &'a Program,
     funcs: &Scope<'a>,
 ) -> Result<Scope<'a>, NoMemory>
-    requires { funcs.now ≡ func_names p.now.funcs.items }
+    requires { funcs.now ≡ func_names program.now.funcs.items }
     ensures found { IfOk result (λ tables.
         found.new
-        ≡ lowest_in found.old (in_decls p.now.funcs.items [] p.now.tables.items)) }
-    ensures names { IfOk result (λ tables. tables ≡ texts (tables_of p.now)) }
+        ≡ lowest_in resolved_rules found.old (in_decls program.now.funcs.items []
+        program.now.tables.items)) }
+    ensures names { IfOk result (λ tables. tables ≡ texts (tables_of program.now)) }
 {
-    let decls = p.tables.as_slice();
+    let decls = program.tables.as_slice();
     let mut tables = Scope::new(alloc);
     for i in 0..decls.len() {
         let d = &decls[i];
-        in_declared_table(alloc, found, p, funcs, &decls[..i], &tables, d);
-        tables.declare(&table_of_decl(d).text)?;
+        in_declared_table(alloc, found, program, funcs, &decls[..i], &tables, d);
+        tables.declare(&d.name().text)?;
     }
     Ok(tables)
 }
@@ -138,14 +140,14 @@ fn in_decls<'a>(
 // Functions.
 
 /// The declared table of that name, the first where two have it.
-fn first_table<'a>(w: &Spot<'a, '_>, x: &[u8]) -> Option<&'a Name>
-    ensures { MatchOption result (first_named (tables_of_decls w.now.decls.now) x.now ≡ None)
-        (λ t. first_named (tables_of_decls w.now.decls.now) x.now ≡ Some t.now) }
+fn first_table<'a>(spot: &Spot<'a, '_>, name: &[u8]) -> Option<&'a Name>
+    ensures { MatchOption result (first_named (tables_of_decls spot.now.decls.now) name.now ≡ None)
+        (λ t. first_named (tables_of_decls spot.now.decls.now) name.now ≡ Some t.now) }
 {
-    match w.tables.position(x) {
+    match spot.tables.position(name) {
         Some(k) => {
-            if k < w.decls.len() {
-                Some(table_of_decl(&w.decls[k]))
+            if k < spot.decls.len() {
+                Some(spot.decls[k].name())
             } else {
                 None
             }
@@ -155,85 +157,93 @@ fn first_table<'a>(w: &Spot<'a, '_>, x: &[u8]) -> Option<&'a Name>
 }
 
 /// Whether the table of that name is declared, and not after it.
-fn is_table_by(w: &Spot, x: &Name) -> bool
+fn is_table_by(spot: &Spot, name: &Name) -> bool
     ensures { result
-        ≡ is_table_by (first_named (tables_of_decls w.now.decls.now) x.now.text.items) x.now }
+        ≡ is_table_by (first_named (tables_of_decls spot.now.decls.now) name.now.text.items)
+        name.now }
 {
-    match first_table(w, &x.text) {
-        Some(t) => !is_before(x.place, t.place),
+    match first_table(spot, &name.text) {
+        Some(t) => !is_before(name.place, t.place),
         None => false,
     }
 }
 
 #[tactic(auto, using(crate::proofs::Searching::lowest_append))]
-fn declares_func(w: &Spot, found: &mut Option<Fault>, f: &Func)
-    ensures { found.new ≡ lowest_at found.old (site (spot_of w.now) (DeclaresFunc f.now)) }
+fn declares_func(spot: &Spot, found: &mut Option<Fault>, func: &Func)
+    ensures { found.new
+        ≡ lowest_at resolved_rules found.old (site (spot_of spot.now) (DeclaresFunc func.now)) }
 {
-    let taken = w.funcs.contains(&f.name.text) || is_table_by(w, &f.name);
-    note_if(found, NAMES, taken, f.name.place);
-    note_if(found, LIMITS, w.funcs.len() == MAX_FUNCTIONS, f.name.place);
-    ninth_parameter(found, &f.params);
+    let taken = spot.funcs.contains(&func.name.text) || is_table_by(spot, &func.name);
+    note_if(found, Rule::Names, taken, func.name.place);
+    note_if(
+        found,
+        Rule::Limits,
+        spot.funcs.len() == MAX_FUNCTIONS,
+        func.name.place,
+    );
+    ninth_parameter(found, &func.params);
 }
 
 /// A function behind those that are declared before it.
 fn in_declared_func<'a>(
     alloc: Global,
     found: &mut Option<Fault>,
-    d: &Declared<'a, '_>,
+    whole: &Declared<'a, '_>,
     earlier: &'a [Func],
     before: &Scope<'a>,
-    f: &'a Func,
+    func: &'a Func,
 ) -> Result<(), NoMemory>
     requires { before.now ≡ func_names earlier.now }
-    ensures { let p = d.now.program.now in
+    ensures { let p = whole.now.program.now in
         IfOk result (λ u.
         found.new
-        ≡ lowest_in found.old (site (top Part.OfFunc (tables_of p) earlier.now)
-        (DeclaresFunc f.now)
-        ∷ in_func p f.now)) }
+        ≡ lowest_in resolved_rules found.old (site (top Part.OfFunc (tables_of p) earlier.now)
+        (DeclaresFunc func.now)
+        ∷ in_func p func.now)) }
 {
     let declared = top(
         alloc,
         Part::OfFunc,
-        &d.program.tables,
-        d.tables,
+        &whole.program.tables,
+        whole.tables,
         earlier,
         before,
     );
-    declares_func(&declared, found, f);
-    declares_all(alloc, found, &f.params, &f.body)?;
+    declares_func(&declared, found, func);
+    declares_all(alloc, found, &func.params, &func.body)?;
     let mut inside = top(
         alloc,
         Part::OfFunc,
-        &d.program.tables,
-        d.tables,
-        &d.program.funcs,
-        d.funcs,
+        &whole.program.tables,
+        whole.tables,
+        &whole.program.funcs,
+        whole.funcs,
     );
-    in_func(&mut inside, found, f)
+    in_func(&mut inside, found, func)
 }
 
 /// The functions in order.
-fn in_funcs(alloc: Global, found: &mut Option<Fault>, d: &Declared) -> Result<(), NoMemory>
-    ensures { let p = d.now.program.now in
-        IfOk result (λ u. found.new ≡ lowest_in found.old (in_funcs p [] p.funcs.items)) }
+fn in_funcs(alloc: Global, found: &mut Option<Fault>, whole: &Declared) -> Result<(), NoMemory>
+    ensures { let p = whole.now.program.now in
+        IfOk result (λ u.
+        found.new ≡ lowest_in resolved_rules found.old (in_funcs p [] p.funcs.items)) }
 {
-    let funcs = d.program.funcs.as_slice();
+    let funcs = whole.program.funcs.as_slice();
     let mut before = Scope::new(alloc);
     for i in 0..funcs.len() {
         let f = &funcs[i];
-        in_declared_func(alloc, found, d, &funcs[..i], &before, f)?;
+        in_declared_func(alloc, found, whole, &funcs[..i], &before, f)?;
         before.declare(&f.name.text)?;
     }
     Ok(())
 }
 
 /// The names of functions in order.
-fn names_of<'a>(alloc: Global, fs: &'a [Func]) -> Result<Scope<'a>, NoMemory>
-    ensures { IfOk result (λ names. names ≡ func_names fs.now) }
+fn names_of<'a>(alloc: Global, funcs: &'a [Func]) -> Result<Scope<'a>, NoMemory>
+    ensures { IfOk result (λ names. names ≡ func_names funcs.now) }
 {
     let mut names = Scope::new(alloc);
-    for f in fs {
+    for f in funcs {
         names.declare(&f.name.text)?;
     }
     Ok(names)
@@ -241,25 +251,26 @@ fn names_of<'a>(alloc: Global, fs: &'a [Func]) -> Result<Scope<'a>, NoMemory>
 
 // The whole.
 
-fn in_main(alloc: Global, found: &mut Option<Fault>, d: &Declared) -> Result<(), NoMemory>
-    ensures { IfOk result (λ u. found.new ≡ lowest_in found.old (in_main d.now.program.now)) }
+fn in_main(alloc: Global, found: &mut Option<Fault>, whole: &Declared) -> Result<(), NoMemory>
+    ensures { IfOk result (λ u.
+        found.new ≡ lowest_in resolved_rules found.old (in_main whole.now.program.now)) }
 {
-    let main = d.program.main.as_slice();
+    let main = whole.program.main.as_slice();
     declares_all(alloc, found, &[], main)?;
     let mut spot = top(
         alloc,
         Part::OfMain,
-        &d.program.tables,
-        d.tables,
-        &d.program.funcs,
-        d.funcs,
+        &whole.program.tables,
+        whole.tables,
+        &whole.program.funcs,
+        whole.funcs,
     );
     in_list(&mut spot, found, main)
 }
 
 /// The first broken rule of a program, where one is broken.
 pub fn first_fault(alloc: Global, program: &Program) -> Result<Option<Fault>, NoMemory>
-    ensures { IfOk result (λ fault. fault ≡ lowest_in None (sites program.now)) }
+    ensures { IfOk result (λ fault. fault ≡ lowest_in resolved_rules None (sites program.now)) }
 {
     let mut found = None;
     let funcs = names_of(alloc, &program.funcs)?;

@@ -5,7 +5,8 @@ use Rattle.tp_value.specs.declared.values.Op.{Op}
 use Rattle.loop_syntax.specs.declared.expression.Name.{Name}
 use Rattle.loop_syntax.specs.declared.expression.BinOp.{BinOp}
 use Rattle.loop_syntax.specs.declared.expression.Expr.{Expr}
-use Rattle.loop_syntax.specs.declared.expression.Expr.TheVariants.{Int, Var, Cell', Rows, Cols, Neg', Bin'}
+use Rattle.loop_syntax.specs.declared.expression.Expr.TheVariants.{Int, Var, Cell', Rows, Cols}
+use Rattle.loop_syntax.specs.declared.expression.Expr.TheVariants.{Neg', Bin'}
 use Rattle.loop_syntax.specs.declared.statement.RowAt.{RowAt}
 use Rattle.loop_syntax.specs.declared.statement.RowAt.TheVariants as rows
 use Rattle.loop_syntax.specs.declared.statement.Carry.{Carry}
@@ -124,7 +125,8 @@ stmt_step (layers.Set x e) = NSet (spelled x) (tree_of e)
 stmt_step (layers.Put t i j e) = NPut (spelled t) (tree_of i) (tree_of j) (tree_of e)
 stmt_step (layers.If e taken other) = NIf (tree_of e) (nodes taken.items) (nodes other.items)
 stmt_step (layers.While e inside) = NWhile (tree_of e) (nodes inside.items)
-stmt_step (layers.Loop i a b inside) = NLoop (spelled i) (tree_of a) (tree_of b) (nodes inside.items)
+stmt_step (layers.Loop i a b inside) =
+    NLoop (spelled i) (tree_of a) (tree_of b) (nodes inside.items)
 stmt_step (layers.Par p) = NPar p.0 p.1
 stmt_step (layers.Fold x e) = NFold (spelled x) (tree_of e)
 stmt_step (layers.Call x f) = NCall (spelled x) (app_of f)
@@ -134,7 +136,15 @@ stmt_step (layers.Emit p t) = NEmit p (spelled t)
 
 abbrev pub par_step : ParLoop-F Node (ParHead × Nodes) → ParHead × Nodes
 par_step p = (
-  record { place = p.place; var = spelled p.var; from = tree_of p.from; to = tree_of p.to; carry_place = p.carry_place; carries = map carry_of p.carries.items; reduces = map reduce_of p.reduces.items },
+  record {
+    place = p.place;
+    var = spelled p.var;
+    from = tree_of p.from;
+    to = tree_of p.to;
+    carry_place = p.carry_place;
+    carries = map carry_of p.carries.items;
+    reduces = map reduce_of p.reduces.items;
+  },
   nodes p.body.items,
 )
 
@@ -165,7 +175,12 @@ pub record FuncTree : Type 0 where
   pub value : Tree
 
 abbrev pub func_of : Func → FuncTree
-func_of f = record { name = spelled f.name; params = map spelled f.params.items; body = nodes_of f.body.items; value = tree_of f.result }
+func_of f = record {
+  name = spelled f.name;
+  params = map spelled f.params.items;
+  body = nodes_of f.body.items;
+  value = tree_of f.result;
+}
 
 -- a whole program
 pub record ProgramTree : Type 0 where
@@ -174,4 +189,8 @@ pub record ProgramTree : Type 0 where
   pub main : Nodes
 
 abbrev pub program_of : Program → ProgramTree
-program_of p = record { tables = map table_of p.tables.items; funcs = map func_of p.funcs.items; main = nodes_of p.main.items }
+program_of p = record {
+  tables = map table_of p.tables.items;
+  funcs = map func_of p.funcs.items;
+  main = nodes_of p.main.items;
+}

@@ -1,6 +1,6 @@
 //! The tree of a source text: programs, declarations, functions, statements and expressions, with
-//! the places that faults and traps name. It stands on `tp_value`; it is plain data with no calls.
-//! Start with `program`; brackets leave no node, and a bracketed expression is the one inside.
+//! the places that faults and traps name. It stands on `tp_value`. Start with `program`; brackets
+//! leave no node, and a bracketed expression is the one inside.
 #![tactic(auto)]
 
 mod expression;
@@ -9,4 +9,4 @@ mod statement;
 
 pub use expression::{BinOp, Expr, Name};
 pub use program::{Func, Program, TableDecl};
-pub use statement::{App, Carry, ParLoop, Reduce, RowAt, Stmt};
+pub use statement::{App, Carry, ParLoop, Reduce, RowAt, Stmt, operator_of};

@@ -1,5 +1,8 @@
 // Declarations and whole programs.
 
+ghost use Rattle.std.specs.Prelude.{◌≡◌, MatchOption, Option, Some, None};
+ghost use Rattle.loop_syntax.specs.Naming.{table_of_decl, func_of};
+
 use crate::expression::{Expr, Name};
 use crate::statement::Stmt;
 
@@ -10,6 +13,18 @@ pub enum TableDecl {
     Input(Name),
     /// `table t[rows][cols];`: a table of zeros.
     Made(Name, Expr, Expr),
+}
+
+impl TableDecl {
+    /// The table's name.
+    pub fn name(&self) -> &Name
+        ensures { result.now ≡ table_of_decl self.now }
+    {
+        match self {
+            TableDecl::Input(t) => t,
+            TableDecl::Made(t, _, _) => t,
+        }
+    }
 }
 
 /// A function.
@@ -34,4 +49,26 @@ pub struct Program {
     pub funcs: Vec<Func>,
     /// The statements of main.
     pub main: Vec<Stmt>,
+}
+
+impl Program {
+    /// The function of that name, the first where two have it.
+    pub fn func(&self, name: &[u8]) -> Option<&Func>
+        ensures { MatchOption result (func_of self.now.funcs.items name.now ≡ None)
+            (λ f. func_of self.now.funcs.items name.now ≡ Some f.now) }
+    {
+        func_of(&self.funcs, name)
+    }
+}
+
+fn func_of<'a>(funcs: &'a [Func], name: &[u8]) -> Option<&'a Func>
+    ensures { MatchOption result (func_of funcs.now name.now ≡ None)
+        (λ f. func_of funcs.now name.now ≡ Some f.now) }
+{
+    for f in funcs {
+        if f.name.text.as_slice() == name {
+            return Some(f);
+        }
+    }
+    None
 }

@@ -1,5 +1,8 @@
 // Statements.
 
+ghost use Rattle.std.specs.Prelude.{◌≡◌, Option, Some, None};
+ghost use Rattle.loop_syntax.specs.Naming.{operator_of, table_name};
+
 use crate::expression::{Expr, Name};
 use tp_value::{Op, Place};
 
@@ -21,6 +24,18 @@ pub enum Carry {
     Cells(Name, RowAt, Name),
 }
 
+impl Carry {
+    /// The table that it is of.
+    pub fn table(&self) -> &Name
+        ensures { result.now ≡ table_name self.now }
+    {
+        match self {
+            Carry::Rows(t, _) => t,
+            Carry::Cells(t, _, _) => t,
+        }
+    }
+}
+
 /// A reduced variable of a `par`, with its operator.
 #[derive(Drop)]
 pub struct Reduce {
@@ -28,6 +43,18 @@ pub struct Reduce {
     pub target: Name,
     /// The operator.
     pub op: Op,
+}
+
+/// The operator that a reduce list gives to a name, the first where it has the name twice.
+pub fn operator_of(reduces: &[Reduce], name: &[u8]) -> Option<Op>
+    ensures { result ≡ operator_of reduces.now name.now }
+{
+    for reduce in reduces {
+        if reduce.target.text.as_slice() == name {
+            return Some(reduce.op);
+        }
+    }
+    None
 }
 
 /// A function with its arguments.

@@ -11,10 +11,10 @@ use Rattle.loop_syntax.specs.declared.program.Program.{Program}
 use Rattle.loop_syntax.specs.declared.program.TableDecl.{TableDecl}
 use Rattle.loop_syntax.specs.declared.program.TableDecl.TheVariants.{Input, Made}
 use Rattle.loop_rules.specs.declared.part.Part.TheVariants.{OfSize}
-use Rattle.loop_rules.specs.Broken.{C1'}
+use Rattle.loop_rules.specs.declared.rule.Rule.TheVariants.{Names}
 use Rattle.loop_rules.specs.Declarations.{table_of_decl}
 use Rattle.loop_rules.specs.Names.{is_in, texts, func_of}
-use Rattle.loop_rules.specs.Scopes.{at, c1, is_func_before}
+use Rattle.loop_rules.specs.Scopes.{at, misnamed, is_func_before}
 use Rattle.loop_rules.specs.Sites.{Site, DeclaresTable, site, top, in_decl, in_decls, in_whole}
 use Rattle.loop_check.specs.Unbroken.{NoneBroken}
 use Rattle.loop_check.proofs.Lists.{contains_here}
@@ -27,7 +27,7 @@ AreNew before (d ∷ ds) = (is_in (texts before) (table_of_decl d).text.items �
 
 -- the rule on names holds at these sites
 abbrev AreFine : List Site → Type 0
-AreFine ss = (s : Site) (place : Place) → Contains ss s → Contains (c1 s.act s.spot) place → ⊥
+AreFine ss = (s : Site) (place : Place) → Contains ss s → Contains (misnamed s.act s.spot) place → ⊥
 
 -- a declared table, at its site
 new_here : (fs : List Func) (before : List Name) (t : Name) (rest : List Site) → AreFine (site (top OfSize before fs) (DeclaresTable t) ∷ rest) → is_in (texts before) t.text.items ≡ false
@@ -88,4 +88,4 @@ are_apart before (Made x a b ∷ ds) new = are_apart (before ++ x ∷ []) ds new
 pub inputs_apart : (p : Program) → NoneBroken p → AreApart p.tables.items
 inputs_apart p none =
     are_apart [] p.tables.items (are_new p.funcs.items [] p.tables.items (λ s place there broken.
-    none.unbroken C1' place (record { where_at = s; stands = Contains-append_left (in_decls p.funcs.items [] p.tables.items) _ s there; breaks = broken })))
+    none.unbroken Names place (record { where_at = s; stands = Contains-append_left (in_decls p.funcs.items [] p.tables.items) _ s there; breaks = broken })))

@@ -1,4 +1,4 @@
-use Rattle.loop_check.proofs.Walking.{ok_map}
+use Rattle.loop_rules.proofs.Walking.{ok_map}
 use Rattle.loop_check.proofs.Verdict.{verdict}
 use Rattle.loop_check.proofs.checked.fault_of.Goals as goal
 

@@ -5,5 +5,5 @@ use Rattle.loop_check.proofs.clauses.items.Goals as goal
 
 pub loop-i-preserved : goal.loop-i-preserved
 loop-i-preserved c =
-    rw (c.note_if.ensures, c.bad_carry.ensures, c.table_name.ensures)
-    (items_step c.loop-i.found c.loop-i.i (rounds_of c.args.w.now.rounds.now) (loop_of c.args.round.now) c.args.cs.now c.index-cs-i.result c.loop-i-test.true c.index-cs-i.is ∙ c.loop-i.invariant)
+    rw (c.note_if.ensures, c.bad_carry.ensures, c.table.ensures)
+    (items_step c.loop-i.found c.loop-i.i (rounds_of c.args.spot.now.rounds.now) (loop_of c.args.round.now) c.args.carries.now c.index-carries-i.result c.loop-i-test.true c.index-carries-i.is ∙ c.loop-i.invariant)

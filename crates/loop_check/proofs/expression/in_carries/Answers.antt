@@ -1,8 +1,9 @@
 use Rattle.std.proofs.Common.{◌∙◌}
+use Rattle.loop_check.specs.Search.{checked_rules}
 use Rattle.loop_check.specs.Walk.{inside}
-use Rattle.loop_check.proofs.Searching.{carries_step}
+use Rattle.loop_rules.proofs.Searching.{carries_step}
 use Rattle.loop_check.proofs.expression.in_carries.Goals as goal
 
 pub loop-c-preserved : goal.loop-c-preserved
 loop-c-preserved c =
-    rw c.in_carry.ensures (carries_step c.args.readers.now (inside c.args.w.now) c.loop-c.found c.loop-c.c-index c.args.cs.now c.c-item.result c.loop-c-test.true c.c-item.is ∙ c.loop-c.invariant)
+    rw c.in_carry.ensures (carries_step (checked_rules c.args.readers.now) (inside c.args.spot.now) c.loop-c.found c.loop-c.c-index c.args.carries.now c.c-item.result c.loop-c-test.true c.c-item.is ∙ c.loop-c.invariant)

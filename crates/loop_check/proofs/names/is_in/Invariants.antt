@@ -4,4 +4,4 @@ use Rattle.loop_check.specs.Walk.{texts_of}
 use Rattle.loop_check.proofs.names.is_in.Given as goal
 
 abbrev pub invariant-loop-y : goal.invariant-loop-y
-invariant-loop-y l = is_in (texts_of (drop l.y-index l.names)) l.x ≡ is_in (texts_of l.names) l.x
+invariant-loop-y l = is_in (texts_of (drop l.y-index l.names)) l.name ≡ is_in (texts_of l.names) l.name

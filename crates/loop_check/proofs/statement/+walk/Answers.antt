@@ -1,17 +1,19 @@
 use Rattle.std.proofs.Common.{◌≡◌, ◌∙◌, ap, arith, ℕ, List, Option, take, length, ◌++◌, ◌∷◌}
 use Rattle.loop_rules.specs.Sites.{Loop, declared_var, in_whole, in_list}
 use Rattle.std.specs.Borrow.{Bor}
-use Rattle.loop_check.specs.declared.fault.Fault.{Fault}
+use Rattle.loop_rules.specs.declared.fault.Fault.{Fault}
 use Rattle.loop_check.specs.declared.round.Round.{Round}
-use Rattle.loop_check.specs.Search.{lowest_in}
+use Rattle.loop_rules.specs.Search.{lowest_in}
+use Rattle.loop_check.specs.Search.{checked_rules}
 use Rattle.loop_check.specs.Walk.{spot, inside, texts_of, rounds_of}
-use Rattle.loop_check.proofs.Walking.{texts_more, texts_take, texts_length, two_parts, in_if, in_while, list_found, list_stands, block_left, loop_left, looped_found, par_found, ok_map}
+use Rattle.loop_rules.proofs.Walking.{two_parts, in_if, in_while, list_found, list_stands, block_left, ok_map}
+use Rattle.loop_check.proofs.Walking.{texts_more, texts_take, texts_length, loop_left, looped_found, par_found}
 use Rattle.loop_check.proofs.statement.+walk.Goals as goal
 
 pub in_block-returns : goal.in_block-returns
 in_block-returns t c =
-    let w = c.args.w.now in
-    let v = c.in_list.new.w in
+    let w = c.args.spot.now in
+    let v = c.in_list.new.spot in
     let count : c.len-n.result ≡ length (texts_of w.scope.items) = omega (arith, c.len-n.ensures, w.scope.ok, texts_length w.scope.items) in
     record {
       found = c.in_ok-in_list.ensures.found;
@@ -22,39 +24,39 @@ in_block-returns t c =
 
 pub in_list-loop-s-preserved : goal.in_list-loop-s-preserved
 in_list-loop-s-preserved t c =
-    let w = inside c.loop-s.w in
+    let w = inside c.loop-s.spot in
     let e = c.in_ok-in_stmt.ensures in (
-      list_found c.args.readers.now w c.loop-s.found c.in_stmt.new.found c.args.body.now c.loop-s.s-index c.s-item.result (inside c.in_stmt.new.w) c.loop-s-test.true c.s-item.is e.found e.stands
+      list_found (checked_rules c.args.readers.now) w c.loop-s.found c.in_stmt.new.found c.args.body.now c.loop-s.s-index c.s-item.result (inside c.in_stmt.new.spot) c.loop-s-test.true c.s-item.is e.found e.stands
           ∙ c.loop-s.invariant.0,
-      list_stands c.args.readers.now w c.loop-s.found c.in_stmt.new.found c.args.body.now c.loop-s.s-index c.s-item.result (inside c.in_stmt.new.w) c.loop-s-test.true c.s-item.is e.stands
+      list_stands w c.args.body.now c.loop-s.s-index c.s-item.result (inside c.in_stmt.new.spot) c.loop-s-test.true c.s-item.is e.stands
           ∙ c.loop-s.invariant.1,
     )
 
 pub in_loop-returns : goal.in_loop-returns
 in_loop-returns t c =
-    let w = c.args.w.now in
-    let v = c.in_list.new.w in
+    let w = c.args.spot.now in
+    let v = c.in_list.new.spot in
     let count : c.len-n.result ≡ length (texts_of w.scope.items) = omega (arith, c.len-n.ensures, w.scope.ok, texts_length w.scope.items) in
     let e = rw (c.in_ok-push.ensures.items, texts_more w.scope.items c.deref.result, c.deref.ensures.value) at c.in_ok-in_list.ensures in
     record {
       found = e.found;
       stands =
-          loop_left (texts_of w.scope.items) (rounds_of w.rounds.now) c.args.x.now (inside v) c.args.body.now (texts_of c.truncate.new.self.items) e.stands
+          loop_left (texts_of w.scope.items) (rounds_of w.rounds.now) c.args.variable.now (inside v) c.args.body.now (texts_of c.truncate.new.self.items) e.stands
           (ap texts_of c.truncate.ensures.items ∙ texts_take c.len-n.result v.scope.items ∙ ap (λ n. take n (texts_of v.scope.items)) count);
     }
 
 pub in_par-returns : goal.in_par-returns
 in_par-returns t c =
-    let w = c.args.w.now in
-    let l = c.args.l.now in
+    let w = c.args.spot.now in
+    let l = c.args.par_loop.now in
     let scope = texts_of w.scope.items in
     ok_map c.in_body.result
     (λ u e.
     let head = rw c.as_slice.ensures.value at (c.parallel.ensures l.place l.carry_place) in
     let carried = rw c.deref.ensures.value at c.in_carries.ensures in
-    let step = λ (xs : List (List ℕ)) (ls : List Loop). lowest_in c.args.readers.now c.in_carries.new.found (in_list (declared_var (spot xs ls) l.var) l.body.items) in
+    let step = λ (xs : List (List ℕ)) (ls : List Loop). lowest_in (checked_rules c.args.readers.now) c.in_carries.new.found (in_list (declared_var (spot xs ls) l.var) l.body.items) in
     let body : c.in_body.new.found ≡ step (texts_of c.in_ok-scope.scope.items) (rounds_of c.deref-3.result.now) = e in
-    let deeper : c.deref-3.result.now ≡ record { outside = c.as_slice.result; par = c.args.l } ∷ w.rounds.now = c.deref-3.ensures.value ∙ c.in_ok-rounds.ensures in
+    let deeper : c.deref-3.result.now ≡ record { outside = c.as_slice.result; par = c.args.par_loop } ∷ w.rounds.now = c.deref-3.ensures.value ∙ c.in_ok-rounds.ensures in
     let round : List (Bor (List ℕ)) → Loop = λ outside. record { outside = texts_of outside; var = l.var.text.items; carries = l.carries.items; reduces = l.reduces.items } in
     let last : c.in_body.new.found ≡ step scope (round w.scope.items ∷ rounds_of w.rounds.now) =
     body
@@ -66,8 +68,8 @@ in_par-returns t c =
 
 pub in_stmt-returns-in_ok-in_block-in-If : goal.in_stmt-returns-in_ok-in_block-in-If
 in_stmt-returns-in_ok-in_block-in-If t c =
-    let rs = c.args.readers.now in
-    let w = inside c.args.w.now in
+    let rs = checked_rules c.args.readers.now in
+    let w = inside c.args.spot.now in
     let one = rw c.deref-in-If.ensures.value at c.in_ok-in_block-in-If.ensures in
     ok_map c.in_block-in-If.result
     (λ u e.
@@ -81,8 +83,8 @@ in_stmt-returns-in_ok-in_block-in-If t c =
 
 pub in_stmt-returns-in-While : goal.in_stmt-returns-in-While
 in_stmt-returns-in-While t c =
-    let rs = c.args.readers.now in
-    let w = inside c.args.w.now in
+    let rs = checked_rules c.args.readers.now in
+    let w = inside c.args.spot.now in
     ok_map c.in_block-in-While.result
     (λ u e.
     let two = rw c.deref-in-While.ensures.value at e in
@@ -95,7 +97,7 @@ in_stmt-returns-in-While t c =
 
 pub in_stmt-returns-in-Loop : goal.in_stmt-returns-in-Loop
 in_stmt-returns-in-Loop t c =
-    let w = c.args.w.now in
+    let w = c.args.spot.now in
     ok_map c.in_loop.result
     (λ u e.
     let two = rw c.deref-in-Loop.ensures.value at e in

@@ -1,13 +1,14 @@
 use Rattle.std.proofs.Common.{◌≡◌, ◌+◌, ◌*◌, drop}
 use Rattle.loop_rules.specs.Sites.{in_list, spot_of_list}
-use Rattle.loop_check.specs.Search.{lowest_in}
+use Rattle.loop_rules.specs.Search.{lowest_in}
+use Rattle.loop_check.specs.Search.{checked_rules}
 use Rattle.loop_check.specs.Walk.{inside}
 use Rattle.loop_check.proofs.statement.+walk.Given as goal
 
 abbrev pub invariant-in_list-loop-s : goal.invariant-in_list-loop-s
 invariant-in_list-loop-s l =
-    (lowest_in l.readers l.found (in_list (inside l.w) (drop l.s-index l.body)) ≡ lowest_in l.readers l.initial.found (in_list (inside l.initial.w) l.body))
-    × (spot_of_list (inside l.w) (drop l.s-index l.body) ≡ spot_of_list (inside l.initial.w) l.body)
+    (lowest_in (checked_rules l.readers) l.found (in_list (inside l.spot) (drop l.s-index l.body)) ≡ lowest_in (checked_rules l.readers) l.initial.found (in_list (inside l.initial.spot) l.body))
+    × (spot_of_list (inside l.spot) (drop l.s-index l.body) ≡ spot_of_list (inside l.initial.spot) l.body)
 
 abbrev pub decreases-in_stmt : goal.decreases-in_stmt
 decreases-in_stmt l = 8 * goal.size-in_stmt l

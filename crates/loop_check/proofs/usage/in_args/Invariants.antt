@@ -4,4 +4,4 @@ use Rattle.loop_check.specs.Usage.{any_use, anywhere}
 use Rattle.loop_check.proofs.usage.in_args.Given as goal
 
 abbrev pub invariant-loop-e : goal.invariant-loop-e
-invariant-loop-e l = any_use l.u l.found (in_args anywhere (drop l.e-index l.es)) ≡ any_use l.u l.initial.found (in_args anywhere l.es)
+invariant-loop-e l = any_use l.usage l.found (in_args anywhere (drop l.e-index l.arguments)) ≡ any_use l.usage l.initial.found (in_args anywhere l.arguments)

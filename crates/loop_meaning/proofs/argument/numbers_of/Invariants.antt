@@ -6,4 +6,4 @@ use Rattle.loop_meaning.proofs.argument.numbers_of.Given as goal
 
 abbrev pub invariant-loop-e : goal.invariant-loop-e
 invariant-loop-e l =
-    (go : List ℤ → Ran) → EndAlike (given_all l.es (state_of l.m) go) (given_all (drop l.e-index l.es) (state_of l.m) (λ ns. go (l.ns.items ++ ns)))
+    (go : List ℤ → Ran) → EndAlike (given_all l.arguments (state_of l.memory) go) (given_all (drop l.e-index l.arguments) (state_of l.memory) (λ ns. go (l.ns.items ++ ns)))

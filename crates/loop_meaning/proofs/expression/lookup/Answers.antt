@@ -8,5 +8,5 @@ pub returns-then-eq : goal.returns-then-eq
 returns-then-eq c =
     let f : SFits w64 c.v-item.result.value = search rules in
     let h : c.loop-v.v-index < length c.args.vars.now = search rules in
-    let e : bytes_eq c.v-item.result.name c.args.x.now ≡ true = cc in
+    let e : bytes_eq c.v-item.result.name c.args.name.now ≡ true = cc in
     to_z-of_z w64 c.v-item.result.value f ∙ sym (lookup_found _ _ _ _ h c.v-item.is e) ∙ c.loop-v.invariant

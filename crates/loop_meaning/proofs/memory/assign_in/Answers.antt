@@ -10,12 +10,12 @@ returns-then-eq c =
     let i = c.loop-i.i in
     let d = c.index-vars-i-then-eq.result in
     let h : i < length vs = search rules in
-    let e : bytes_eq c.index-vars-i.result.name c.args.x.now ≡ true = cc in
+    let e : bytes_eq c.index-vars-i.result.name c.args.variable.now ≡ true = cc in
     ap (λ z. set vs i (record { name = (get_or vs i d).name; value = z })) (to_z-of_z w64 c.args.n c.ranges.n)
-    ∙ sym (assign_found vs c.args.x.now c.args.n i c.index-vars-i.result d h c.index-vars-i.is e)
+    ∙ sym (assign_found vs c.args.variable.now c.args.n i c.index-vars-i.result d h c.index-vars-i.is e)
     ∙ simp (to_z-of_z, c.ranges.n) at c.loop-i.invariant
 
 pub returns : goal.returns
 returns c =
     let h : length c.loop-i.vars ≤ c.loop-i.i = search rules in
-    sym (assign_end c.loop-i.vars c.args.x.now c.args.n c.loop-i.i h) ∙ simp (to_z-of_z, c.ranges.n) at c.loop-i.invariant
+    sym (assign_end c.loop-i.vars c.args.variable.now c.args.n c.loop-i.i h) ∙ simp (to_z-of_z, c.ranges.n) at c.loop-i.invariant

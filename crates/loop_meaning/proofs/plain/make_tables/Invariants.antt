@@ -6,5 +6,5 @@ use Rattle.loop_meaning.proofs.plain.make_tables.Given as goal
 
 abbrev pub invariant-loop-d : goal.invariant-loop-d
 invariant-loop-d l =
-    EndAlike (make_tables l.given l.cells (drop l.d-index l.decls) (state_of l.m)) (make_tables l.given l.first l.decls (state_of l.initial.m))
+    EndAlike (make_tables l.given l.cells (drop l.d-index l.decls) (state_of l.memory)) (make_tables l.given l.first l.decls (state_of l.initial.memory))
     × (l.cells ≤ TOO_MANY_CELLS)

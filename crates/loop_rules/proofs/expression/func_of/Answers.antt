@@ -4,15 +4,15 @@ use Rattle.loop_rules.specs.Search.{first_at}
 use Rattle.loop_rules.proofs.Indexing.{func_at, func_none, func_below}
 use Rattle.loop_rules.proofs.expression.func_of.Goals as goal
 
-pub returns-then-k-w : goal.returns-then-k-w
-returns-then-k-w c =
-    let e : first_at (func_names c.args.w.now.all.now) c.args.x.now ≡ Some c.in-Some.k = rw c.args.w.now.known at (sym c.in-Some.ensures) in
-    func_at c.args.w.now.all.now c.args.x.now c.in-Some.k c.index-w-k.result e c.if-k-w.true c.index-w-k.is ∙ ap Some c.index-w-k.is
+pub returns-then-k-spot : goal.returns-then-k-spot
+returns-then-k-spot c =
+    let e : first_at (func_names c.args.spot.now.all.now) c.args.name.now ≡ Some c.in-Some.k = rw c.args.spot.now.known at (sym c.in-Some.ensures) in
+    func_at c.args.spot.now.all.now c.args.name.now c.in-Some.k c.index-spot-k.result e c.if-k-spot.true c.index-spot-k.is ∙ ap Some c.index-spot-k.is
 
-pub returns-else-k-w : goal.returns-else-k-w
-returns-else-k-w c =
-    let e : first_at (func_names c.args.w.now.all.now) c.args.x.now ≡ Some c.in-Some.k = rw c.args.w.now.known at (sym c.in-Some.ensures) in
-    absurd (omega (arith, func_below c.args.w.now.all.now c.args.x.now c.in-Some.k e))
+pub returns-else-k-spot : goal.returns-else-k-spot
+returns-else-k-spot c =
+    let e : first_at (func_names c.args.spot.now.all.now) c.args.name.now ≡ Some c.in-Some.k = rw c.args.spot.now.known at (sym c.in-Some.ensures) in
+    absurd (omega (arith, func_below c.args.spot.now.all.now c.args.name.now c.in-Some.k e))
 
 pub returns-in-None : goal.returns-in-None
-returns-in-None c = func_none c.args.w.now.all.now c.args.x.now (rw c.args.w.now.known at (sym c.in-None.ensures))
+returns-in-None c = func_none c.args.spot.now.all.now c.args.name.now (rw c.args.spot.now.known at (sym c.in-None.ensures))

@@ -2,7 +2,7 @@ use Rattle.loop_rules.proofs.Firsts.{firsts_agree, not_both}
 use Rattle.loop_rules.proofs.laws.one_rule_is_first.Goals as goal
 
 pub returns-clause-alone : goal.returns-clause-alone
-returns-clause-alone c rule other place elsewhere = firsts_agree c.args.p.now rule other place elsewhere
+returns-clause-alone c rule other place elsewhere = firsts_agree c.args.program.now rule other place elsewhere
 
 pub returns-clause-not_both : goal.returns-clause-not_both
-returns-clause-not_both c rule place = not_both c.args.p.now rule place
+returns-clause-not_both c rule place = not_both c.args.program.now rule place

@@ -9,4 +9,5 @@ pub returns-in-None-clause-resolved : goal.returns-in-None-clause-resolved
 returns-in-None-clause-resolved c = nothing_broken c.args.program (sym c.in-None.is ∙ c.in_ok-first_fault.ensures)
 
 pub returns-in-Some-clause-cause : goal.returns-in-Some-clause-cause
-returns-in-Some-clause-cause c = first_broken c.args.program c.in-Some.fault (sym c.in-Some.is ∙ c.in_ok-first_fault.ensures)
+returns-in-Some-clause-cause c =
+    rw c.number.ensures (first_broken c.args.program c.in-Some.fault (sym c.in-Some.is ∙ c.in_ok-first_fault.ensures))

@@ -1,13 +1,13 @@
 use Rattle.std.proofs.Common.{◌≡◌, ◌+◌, ◌*◌, drop}
 use Rattle.loop_rules.specs.Sites.{in_list, spot_of_list}
-use Rattle.loop_rules.specs.Search.{lowest_in}
+use Rattle.loop_rules.specs.Search.{lowest_in, resolved_rules}
 use Rattle.loop_rules.specs.Walk.{spot_of}
 use Rattle.loop_rules.proofs.statement.+walk.Given as goal
 
 abbrev pub invariant-in_list-loop-s : goal.invariant-in_list-loop-s
 invariant-in_list-loop-s l =
-    (lowest_in l.found (in_list (spot_of l.w) (drop l.s-index l.body)) ≡ lowest_in l.initial.found (in_list (spot_of l.initial.w) l.body))
-    × (spot_of_list (spot_of l.w) (drop l.s-index l.body) ≡ spot_of_list (spot_of l.initial.w) l.body)
+    (lowest_in resolved_rules l.found (in_list (spot_of l.spot) (drop l.s-index l.body)) ≡ lowest_in resolved_rules l.initial.found (in_list (spot_of l.initial.spot) l.body))
+    × (spot_of_list (spot_of l.spot) (drop l.s-index l.body) ≡ spot_of_list (spot_of l.initial.spot) l.body)
 
 abbrev pub decreases-in_stmt : goal.decreases-in_stmt
 decreases-in_stmt l = 8 * goal.size-in_stmt l

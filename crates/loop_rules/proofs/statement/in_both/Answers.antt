@@ -1,9 +1,10 @@
+use Rattle.loop_rules.specs.Search.{resolved_rules}
 use Rattle.loop_rules.specs.Walk.{spot_of}
 use Rattle.loop_rules.proofs.Walking.{both_found}
 use Rattle.loop_rules.proofs.statement.in_both.Goals as goal
 
 pub returns : goal.returns
 returns c =
-    both_found (spot_of c.args.w.now) c.args.found.now c.assigns.new.found c.in_app.new.found c.assigns-2.new.found c.assigns_both.new.found c.in_app-2.new.found
-    c.args.x.now c.args.f.now c.args.y.now c.args.g.now
+    both_found resolved_rules (spot_of c.args.spot.now) c.args.found.now c.assigns.new.found c.in_app.new.found c.assigns-2.new.found c.assigns_both.new.found c.in_app-2.new.found
+    c.args.first.now c.args.first_call.now c.args.second.now c.args.second_call.now
     c.assigns.ensures c.in_app.ensures c.assigns-2.ensures c.assigns_both.ensures c.in_app-2.ensures

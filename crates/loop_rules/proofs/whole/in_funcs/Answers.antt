@@ -5,7 +5,7 @@ use Rattle.loop_rules.proofs.whole.in_funcs.Goals as goal
 
 pub loop-i-preserved : goal.loop-i-preserved
 loop-i-preserved c =
-    let p = c.args.d.now.program.now in
+    let p = c.args.whole.now.program.now in
     let fs = p.funcs.items in
     let i = c.loop-i.i in
     let f = c.index-funcs-i.result in

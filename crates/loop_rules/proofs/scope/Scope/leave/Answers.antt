@@ -4,7 +4,7 @@ use Rattle.loop_rules.proofs.scope.Scope.leave.Goals as goal
 
 pub invariant_of-self : goal.invariant_of-self
 invariant_of-self c =
-    rw (c.truncate.ensures.items, names_of-take) (IsIndex-take c.self.inside.first (names_of c.self.inside.names.items) c.args.n c.self.invariant)
+    rw (c.truncate.ensures.items, names_of-take) (IsIndex-take c.self.inside.first (names_of c.self.inside.names.items) c.args.count c.self.invariant)
 
 pub returns : goal.returns
-returns c = ap names_of c.truncate.ensures.items ∙ names_of-take c.self.inside.names.items c.args.n ∙ ap (take c.args.n) c.self.view_is
+returns c = ap names_of c.truncate.ensures.items ∙ names_of-take c.self.inside.names.items c.args.count ∙ ap (take c.args.count) c.self.view_is
