@@ -189,6 +189,26 @@ WritesLength old new =
     → Continues code new more last
     → Continues code old (length_test (next_label old) more) last
 
+-- The begin of a `par` up to its length: its bounds, and behind a test whether it has an iteration,
+-- at a label, the test of the length in front of what its block goes on with.
+pub record IsParBegun (code : Listing) (act : Activation) (names : List (List ℕ)) (l : ParLoop)
+    (check exit : ℕ) (old : Output) (more : List Instr) (last : Term) : Type 0 where
+  pub leads : Leads code old
+      (λ instrs end. (end ≡ to exit)
+      × AreBounds code act names l.from l.to instrs
+      (Calc 2 1 Lt (value.Reg 0) ∷ IfJump 2 check ∷ []))
+  pub tests : Opens code check (length_test (check + 1) more) last
+
+-- it was written; the open block is that of the test
+abbrev pub BeginsPar : Scope → ParLoop → ℕ → ℕ → Output → Output → Type 0
+BeginsPar scope l check exit old new =
+    (code : Listing) (act : Activation) (names : List (List ℕ)) (more : List Instr) (last : Term)
+    → Sees scope names act.tables
+    → IsVisible act.tables names l.from
+    → IsVisible act.tables names l.to
+    → Continues code new more last
+    → IsParBegun code act names l check exit old more last
+
 -- behind it the begin of that `par` was written, and its block closed with the trap block behind it
 abbrev pub WritesBegin : Place → LoopSite → ℕ → Output → Output → Type 0
 WritesBegin place site first old new =

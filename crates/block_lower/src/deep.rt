@@ -146,12 +146,9 @@ impl Lowering {
         ensures scope { OnOk result (self.new.scope ≡ self.old.scope) }
     {
         let check = self.next_label() + trap_count(&l.from) + trap_count(&l.to);
-        let site = self.site_of(round, l, check + 2, cursor_cell(round.depth))?;
-        let head = site.label + site_blocks(&l.carries);
+        let head = check + 2 + site_blocks(&l.carries);
         let exit = head + 2 + added_by_body(self.on.quiet_calls, &l.body);
-        self.bounds(&l.from, &l.to)?;
-        self.push_some(check, exit)?;
-        self.push_length()?;
+        let site = self.begin_par(round, l, cursor_cell(round.depth), exit)?;
         self.store(site.cursor, Value::Reg(1))?;
         self.push_begin(l.place, &site, first_label(site.label))?;
         self.push_deep_site(l, &site, head, exit)?;
