@@ -1,6 +1,6 @@
-// The code of `par`, which is marked while iterations aren't begun. Where a beat cuts it, the handler
-// and the join are made from its site; round them stand the blocks of this file, for one in whose
-// body no promotion point can be reached, or those of `deep`.
+// The code of `par`, which is marked while iterations aren't begun. Where a beat cuts it, the
+// handler and the join are made from its site; round them stand the blocks of this file, for one in
+// whose body no promotion point can be reached, or those of `deep`.
 
 ghost use Rattle.std.specs.Prelude.{◌≡◌, ◌+◌, ◌*◌, ◌<◌, ◌≤◌, ◌^◌, ◌∷◌, ◌++◌, [], true, false};
 ghost use Rattle.std.specs.Prelude.{length, OnOk, IfOk};
@@ -36,7 +36,7 @@ use crate::repeat::{Bound, Turns};
 use crate::round::Round;
 use crate::sizes::{added_by_body, have_row, site_blocks};
 use expr_lower::trap_count;
-use handler_gen::{loop_handler, over_label, side_label, split_label};
+use handler_gen::{RECORD, TEST, loop_handler, over_label, side_label, split_label};
 use join_gen::loop_join;
 use loop_syntax::ParLoop;
 use tp_value::{MAX_PAR_LENGTH, NoMemory, Place, TrapKind};
@@ -88,8 +88,8 @@ impl Lowering {
     }
 
     /// The test of the length of a `par`, in an open block of its own: the trap block, which stands
-    /// behind it, where the difference of the bounds is above the numbers of 64 bits. Register 3 has
-    /// whether it isn't too wide.
+    /// behind it, where the difference of the bounds is above the numbers of 64 bits. Register 3
+    /// has whether it isn't too wide.
     fn push_length(&mut self) -> Result<(), NoMemory>
         requires { writing.next_label self.old.out ≤ MAX_BLOCKS }
         ensures labels { OnOk result
@@ -183,9 +183,9 @@ impl Lowering {
         ensures on { OnOk result (self.new.on ≡ self.old.on) }
         ensures scope { OnOk result (self.new.scope ≡ self.old.scope) }
     {
-        self.load(24, site.rec)?;
-        self.calc(27, 24, Alu::Eq, Value::Nil)?;
-        self.jump_if(27, exit)?;
+        self.load(RECORD, site.rec)?;
+        self.calc(TEST, RECORD, Alu::Eq, Value::Nil)?;
+        self.jump_if(TEST, exit)?;
         self.close(jump(side_label(site.label)))?;
         Ok(())
     }
