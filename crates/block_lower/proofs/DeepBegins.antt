@@ -35,10 +35,11 @@ use Rattle.expr_lower.proofs.Standing.{at_end, behind, next}
 use Rattle.handler_gen.proofs.Marks.{on_prmpush}
 use Rattle.handler_gen.specs.LoopCuts.{loop_mark}
 use Rattle.handler_gen.specs.Sites.{first_label, split_label}
+use Rattle.expr_lower.specs.Registers.{base_register}
 use Rattle.handler_gen.proofs.Words.{word_other, word_same, words_as_many}
 use Rattle.block_lower.specs.Code.{store, to}
 use Rattle.block_lower.specs.DeepMarked.{next_begun}
-use Rattle.block_lower.specs.Layout.{Activation, base_register, bound_cell, levels_cell, value_cell}
+use Rattle.block_lower.specs.Layout.{Activation, bound_cell, levels_cell, value_cell}
 use Rattle.block_lower.specs.Marked.{marked_begin}
 use Rattle.block_lower.proofs.Activations.{clear_above}
 use Rattle.block_lower.proofs.DeepScenes.{Deep, FirstOwed, between, bound_is, cells_are, clear_of}

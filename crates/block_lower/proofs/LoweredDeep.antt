@@ -33,7 +33,7 @@ use Rattle.block_lower.specs.Bodies.{entries, activation}
 use Rattle.block_lower.specs.Code.{Code, Opens, OpensAs, deep_par_code, load, store, to}
 use Rattle.block_lower.specs.DeepMarked.{last_begun, next_begun}
 use Rattle.block_lower.specs.Layout.{cursor_cell, value_cell, Activation}
-use Rattle.block_lower.specs.Lowering.{AreBounds, WritesBounds, WritesSome, WritesLength}
+use Rattle.block_lower.specs.Lowering.{BeginsPar, IsParBegun}
 use Rattle.block_lower.specs.Lowering.{WritesBegin, WritesPrep, WritesNext, WritesLast}
 use Rattle.block_lower.specs.Lowering.{IsRoundDeep, WritesDeepSite, IsDeepBegun, BeginsDeep, Lowers}
 use Rattle.block_lower.specs.Lowering.{LowersBody}
@@ -156,19 +156,16 @@ deep_site_written on scope l site head exit old handled first over none prepped 
 -- ---- the whole begin
 
 pub deep_begun : (on : Body) (as_told : told.Round) (scope : Scope) (l : ParLoop) (site : LoopSite)
-    (check head exit : ℕ) (old bounds start tested stores begun new : Output)
+    (check head exit : ℕ) (old tested stores begun new : Output)
     → site ≡ loop_site scope l on.size as_told.depth (length scope.cells.items)
     (cursor_cell as_told.depth) site.label
-    → IsLoopSite site → WritesBounds scope l.from l.to old bounds
-    → WritesSome check exit bounds start → IsFresh start → check ≡ label start
-    → WritesLength start tested → next_label stores ≡ next_label start
+    → IsLoopSite site → BeginsPar scope l check exit old tested → next_label stores ≡ check + 1
     → Pushes (store site.cursor (value.Reg 1) ∷ []) tested stores
     → WritesBegin l.place site (first_label site.label) stores begun
     → WritesDeepSite on scope l site head exit begun new
     → BeginsDeep on as_told scope l head exit old new
-deep_begun on as_told scope l site check head exit old bounds start tested stores begun new is right
-    starts some fresh check_is measures wide_is push begins round_it code tables names round same
-    sees fits stands =
+deep_begun on as_told scope l site check head exit old tested stores begun new is right starts
+    wide_is push begins round_it code tables names round same sees fits stands =
     let first : ℕ = first_label site.label in
     let wide : ℕ = next_label stores in
     let s : Stands code begun
@@ -177,15 +174,10 @@ deep_begun on as_told scope l site check head exit old bounds start tested store
     let b : Continues code stores (marked_begin site first) (to wide)
     × AreAt code wide (trap_block wide Wide l.place ∷ []) = begins code s.0 in
     let begin : List Instr = store site.cursor (value.Reg 1) ∷ marked_begin site first in
-    let t : Continues code start (length_test (next_label start) begin) (to wide) =
-    measures code begin (to wide)
+    let w : IsParBegun code (activation on tables) names l check exit old begin (to wide) =
+    starts code (activation on tables) names begin (to wide) sees fits.2 fits.3
     (pushed code tested stores (store site.cursor (value.Reg 1) ∷ []) (marked_begin site first)
     (to wide) push b.0) in
-    let test : List Instr = instr.Calc 2 1 Lt (value.Reg 0) ∷ instr.IfJump 2 check ∷ [] in
-    let w : Leads code old (λ instrs end. (end ≡ to exit)
-    × AreBounds code (activation on tables) names l.from l.to instrs test) =
-    starts code (activation on tables) names test (to exit) sees fits.2 fits.3
-    (some code t.closed) in
     let long : length scope.cells.items ≡ length names = as_long scope names tables sees in
     let here : site ≡ loop_site scope l on.size round.depth (length names) (cursor_cell round.depth)
     site.label =
@@ -196,24 +188,21 @@ deep_begun on as_told scope l site check head exit old bounds start tested store
     let round_there : IsRoundDeep code on.dispatch scope l site (length names) head exit =
     subst (λ (n : ℕ). IsRoundDeep code on.dispatch scope l site n head exit) long s.1 in
     record {
-      instrs = w.instrs;
-      end = w.end;
-      continues = w.continues;
+      instrs = w.leads.instrs;
+      end = w.leads.end;
+      continues = w.leads.continues;
       told = (
-        w.told.0,
+        w.leads.told.0,
         record {
           site = site;
           check = check;
-          bounds = w.told.1;
+          bounds = w.leads.told.1;
           is_site = record {
             is_site = site_there on as_told scope tables names sees code l round
                 (cursor_cell round.depth) site fits.5 here right s.1.handler s.1.join s.1.rows;
             wide = wide;
-            begins = subst (λ (k : ℕ). Opens code k (length_test wide begin) (to wide))
-                (sym check_is)
-                (subst (λ (k : ℕ). Opens code (label start) (length_test k begin) (to wide))
-                (sym wide_is)
-                (fresh_opens code start (length_test (next_label start) begin) (to wide) fresh t));
+            begins = subst (λ (k : ℕ). Opens code check (length_test k begin) (to wide))
+                (sym wide_is) w.tests;
             too_wide = b.1;
             last = head + 1;
             first = round_there.first;

@@ -1,6 +1,6 @@
 -- The code of a quiet `par` is written where that of its parts is.
 use Rattle.std.proofs.Common.{◌≡◌, ℕ, suc, ◌+◌, true, List, [], ◌∷◌, ◌++◌, length}
-use Rattle.std.proofs.Common.{refl, sym, ap, subst, ◌∙◌, append-nil, append_assoc}
+use Rattle.std.proofs.Common.{refl, sym, ap, arith, subst, ◌∙◌, append-nil, append_assoc}
 use Rattle.std.specs.Prelude.{pos}
 use Rattle.std.specs.List.{list_any, AllByRecursion}
 use Rattle.loop_syntax.specs.declared.Carry.{Carry}
@@ -43,7 +43,8 @@ use Rattle.block_lower.specs.Code.{OpensAs, Opens, IsFreeCell, Code, Codes, quie
 use Rattle.block_lower.specs.Code.{store, load, next_turn}
 use Rattle.block_lower.specs.Fitting.{CanBeCut, IsFree}
 use Rattle.block_lower.specs.Layout.{value_cell, Activation, Entry}
-use Rattle.block_lower.specs.Lowering.{AreBounds, WritesBounds, WritesSome, WritesLength}
+use Rattle.block_lower.specs.Lowering.{BeginsPar, IsParBegun, WritesBounds, WritesSome}
+use Rattle.block_lower.specs.Lowering.{WritesLength}
 use Rattle.block_lower.specs.Lowering.{WritesBegin, WritesPrep, IsRoundQuiet, WritesSite}
 use Rattle.block_lower.specs.Lowering.{IsQuietBegun, BeginsQuiet, EndsLoop, turn, Lowers}
 use Rattle.block_lower.specs.Lowering.{LowersBody}
@@ -280,31 +281,42 @@ module _ (on : Body) (as_told : told.Round) (scope : Scope) (tables names : List
         rows = λ has. loads (sym rows ∙ has);
       }
 
+pub par_begun : (scope : Scope) (l : ParLoop) (check exit : ℕ) (old bounds start tested : Output)
+    → WritesBounds scope l.from l.to old bounds → WritesSome check exit bounds start → IsFresh start
+    → check ≡ label start → WritesLength start tested → BeginsPar scope l check exit old tested
+par_begun scope l check exit old bounds start tested starts some fresh check_is measures code act
+    names more last sees from below c =
+    let test : List Instr = instr.Calc 2 1 Lt (value.Reg 0) ∷ instr.IfJump 2 check ∷ [] in
+    let wide_is : next_label start ≡ check + 1 = omega (arith, check_is, ap length fresh.traps) in
+    let t : Continues code start (length_test (next_label start) more) last =
+    measures code more last c in
+    record {
+      leads = starts code act names test (to exit) sees from below (some code t.closed);
+      tests = subst (λ (k : ℕ). Opens code check (length_test k more) last) wide_is
+          (subst (λ (k : ℕ). Opens code k (length_test (next_label start) more) last)
+          (sym check_is)
+          (fresh_opens code start (length_test (next_label start) more) last fresh t));
+    }
+
 pub quiet_begun : (on : Body) (as_told : told.Round) (scope : Scope) (l : ParLoop) (site : LoopSite)
-    (turns : Turns) (check first exit : ℕ) (old bounds start tested begun new : Output)
+    (turns : Turns) (check first exit : ℕ) (old tested begun new : Output)
     → site ≡ loop_site scope l on.size as_told.depth (length scope.cells.items)
     (value_cell (length scope.cells.items)) site.label
     → IsLoopSite site → turns.exit ≡ over_label site.label
-    → WritesBounds scope l.from l.to old bounds → WritesSome check exit bounds start → IsFresh start
-    → check ≡ label start
-    → WritesLength start tested → next_label tested ≡ next_label start
+    → BeginsPar scope l check exit old tested → next_label tested ≡ check + 1
     → WritesBegin l.place site first tested begun
     → WritesSite scope l site first exit begun new → first ≡ label new
     → BeginsQuiet on as_told scope l turns exit old new
-quiet_begun on as_told scope l site turns check first exit old bounds start tested begun new is
-    right exits starts some fresh check_is measures wide_is begins round_it first_is code tables
-    names round same sees fits stands =
+quiet_begun on as_told scope l site turns check first exit old tested begun new is right exits
+    starts wide_is begins round_it first_is code tables names round same sees fits stands =
     let wide : ℕ = next_label tested in
     let s : Stands code begun × IsRoundQuiet code scope l site first exit = round_it code stands in
     let b : Continues code tested (marked_begin site first) (to wide)
     × AreAt code wide (trap_block wide Wide l.place ∷ []) = begins code s.0 in
-    let t : Continues code start (length_test (next_label start) (marked_begin site first))
-    (to wide) = measures code (marked_begin site first) (to wide) b.0 in
-    let test : List Instr = instr.Calc 2 1 Lt (value.Reg 0) ∷ instr.IfJump 2 check ∷ [] in
-    let w : Leads code old (λ instrs end. (end ≡ to exit)
-    × AreBounds code (activation on tables) names l.from l.to instrs test) =
-    starts code (activation on tables) names test (to exit) sees fits.2 fits.3 (some code t.closed)
-    in
+    let w : IsParBegun code (activation on tables) names l check exit old (marked_begin site first)
+    (to wide) =
+    starts code (activation on tables) names (marked_begin site first) (to wide) sees fits.2 fits.3
+    b.0 in
     let here : site ≡ loop_site scope l on.size round.depth (length names)
     (value_cell (length names)) site.label =
     is ∙ ap (λ (d : ℕ). loop_site scope l on.size d (length scope.cells.items)
@@ -312,26 +324,22 @@ quiet_begun on as_told scope l site turns check first exit old bounds start test
     ∙ ap (λ (n : ℕ). loop_site scope l on.size round.depth n (value_cell n) site.label)
     (as_long scope names tables sees) in
     record {
-      instrs = w.instrs;
-      end = w.end;
-      continues = w.continues;
+      instrs = w.leads.instrs;
+      end = w.leads.end;
+      continues = w.leads.continues;
       told = (
-        w.told.0,
+        w.leads.told.0,
         record {
           site = site;
           check = check;
-          bounds = w.told.1;
+          bounds = w.leads.told.1;
           is_site = subst (λ (k : ℕ). IsQuietSite code (activation on tables) names l round.depth
               check k exit site) first_is (record {
                 is_site = site_there on as_told scope tables names sees code l round
                     (value_cell (length names)) site fits.5 here right s.1.handler s.1.join s.1.rows;
                 wide = wide;
-                begins = subst (λ (k : ℕ). Opens code k (length_test wide (marked_begin site first))
-                    (to wide)) (sym check_is)
-                    (subst (λ (k : ℕ). Opens code (label start)
-                    (length_test k (marked_begin site first)) (to wide)) (sym wide_is)
-                    (fresh_opens code start (length_test (next_label start) (marked_begin site first))
-                    (to wide) fresh t));
+                begins = subst (λ (k : ℕ). Opens code check
+                    (length_test k (marked_begin site first)) (to wide)) (sym wide_is) w.tests;
                 too_wide = b.1;
                 child = s.1.child;
                 over = s.1.over;

@@ -31,9 +31,10 @@ use Rattle.expr_lower.proofs.Standing.{behind, next}
 use Rattle.handler_gen.specs.CallCuts.{call_mark}
 use Rattle.handler_gen.specs.Sites.{left_end_label}
 use Rattle.handler_gen.proofs.Marks.{on_prmpop}
+use Rattle.expr_lower.specs.Registers.{base_register}
 use Rattle.handler_gen.proofs.Words.{word_other, word_same, word_there}
 use Rattle.block_lower.specs.Code.{call_exit, store, to}
-use Rattle.block_lower.specs.Layout.{Activation, base_register, kept_cell, kept_value, return_cell}
+use Rattle.block_lower.specs.Layout.{Activation, kept_cell, kept_value, return_cell}
 use Rattle.block_lower.specs.Layout.{value_cell}
 use Rattle.block_lower.specs.Pairs.{second_call}
 use Rattle.block_lower.proofs.Activations.{clear_above}

@@ -32,9 +32,10 @@ use Rattle.expr_lower.proofs.Registers.{register_other, register_set}
 use Rattle.expr_lower.proofs.Standing.{behind, next}
 use Rattle.handler_gen.specs.CallCuts.{call_mark}
 use Rattle.handler_gen.proofs.Marks.{on_prmpush}
+use Rattle.expr_lower.specs.Registers.{base_register}
 use Rattle.handler_gen.proofs.Words.{words_as_many}
 use Rattle.block_lower.specs.Code.{load, store}
-use Rattle.block_lower.specs.Layout.{Activation, base_register, kept_by_both, kept_cell, kept_mark}
+use Rattle.block_lower.specs.Layout.{Activation, kept_by_both, kept_cell, kept_mark}
 use Rattle.block_lower.specs.Layout.{levels_cell, return_cell, value_cell}
 use Rattle.block_lower.specs.Pairs.{call_given}
 use Rattle.block_lower.proofs.Activations.{clear_above}

@@ -35,9 +35,10 @@ use Rattle.expr_lower.proofs.Standing.{at_end, behind, next}
 use Rattle.handler_gen.proofs.Marks.{on_prmpush}
 use Rattle.handler_gen.specs.LoopCuts.{loop_mark}
 use Rattle.handler_gen.specs.Sites.{over_label, split_label}
+use Rattle.expr_lower.specs.Registers.{base_register}
 use Rattle.handler_gen.proofs.Words.{word_other, word_same, words_as_many}
 use Rattle.block_lower.specs.Code.{Opens, to}
-use Rattle.block_lower.specs.Layout.{Activation, base_register, bound_cell, levels_cell, value_cell}
+use Rattle.block_lower.specs.Layout.{Activation, bound_cell, levels_cell, value_cell}
 use Rattle.block_lower.specs.Marked.{length_test, marked_begin}
 use Rattle.block_lower.proofs.Activations.{clear_above}
 use Rattle.block_lower.proofs.Fixed.{fixed_same, held_fixed}

@@ -32,7 +32,8 @@ use Rattle.expr_lower.proofs.Registers.{register_set, register_other}
 use Rattle.handler_gen.specs.LoopCuts.{HasRow, number_of, table_cuts}
 use Rattle.handler_gen.specs.Sites.{is_of_cells}
 use Rattle.handler_gen.proofs.Straight.{loads, moves}
-use Rattle.block_lower.specs.Sites.{carries_from, cut_register, row_load, row_register, rows_from}
+use Rattle.handler_gen.specs.Registers.{cut_register}
+use Rattle.block_lower.specs.Sites.{carries_from, row_load, row_register, rows_from}
 use Rattle.block_lower.proofs.OwnWork.{cuts_by}
 use Rattle.block_lower.proofs.Sides.{row_number}
 

@@ -7,7 +7,8 @@ use Rattle.tpal_syntax.specs.declared.instructions.Instr.{Instr}
 use Rattle.tpal_syntax.specs.declared.instructions.Instr.TheVariants as instr
 use Rattle.tpal_syntax.specs.declared.instructions.Value.TheVariants as value
 use Rattle.tpal_syntax.specs.Listing.{Listing}
-use Rattle.block_lower.specs.Layout.{Activation, base_register, kept_cell, levels_cell, return_cell}
+use Rattle.expr_lower.specs.Registers.{base_register}
+use Rattle.block_lower.specs.Layout.{Activation, kept_cell, levels_cell, return_cell}
 use Rattle.block_lower.specs.Layout.{value_cell}
 use Rattle.block_lower.specs.Opening.{load, store}
 

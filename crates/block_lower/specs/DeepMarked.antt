@@ -1,6 +1,7 @@
 -- The code of a `par` that can be cut, in whose body points of promotion may be reached: its blocks
 -- round its iterations.
 use Rattle.std.specs.Prelude.{ℕ, pos, negsuc, List, [], ◌∷◌, length}
+use Rattle.handler_gen.specs.Registers.{back_register}
 use Rattle.loop_syntax.specs.declared.ParLoop.{ParLoop}
 use Rattle.tp_value.specs.declared.TrapKind.TheVariants.{Wide}
 use Rattle.tpal_syntax.specs.declared.instructions.Alu.TheVariants.{Add, Eq, Lt, Sub}
@@ -52,4 +53,4 @@ module _ (code : Listing) (act : Activation) (dispatch : ℕ) where
         (to last)
     pub ends : Opens code last (last_begun site) (to turn)
     pub over : Opens code (over_label site.label) (side_test site exit) (to (side_label site.label))
-    pub none : Opens code (none_label site.label) [] (term.Jump (value.Reg 30))
+    pub none : Opens code (none_label site.label) [] (term.Jump (value.Reg back_register))

@@ -3,10 +3,6 @@ use Rattle.std.specs.Prelude.{ℕ, ◌+◌, ◌*◌, Bool, cond, bytes_eq, List,
 use Rattle.std.specs.Prelude.{Some}
 use Rattle.tp_value.specs.declared.limits.TheConstants.{MAX_PAR_NESTING, MAX_PARAMETERS}
 
--- the register with the position of the activation that runs
-abbrev pub base_register : ℕ
-base_register = 31
-
 -- the label to return to
 abbrev pub return_cell : ℕ
 return_cell = 0
@@ -17,14 +13,18 @@ return_cell = 0
 abbrev pub levels_cell : ℕ
 levels_cell = 2
 
+-- the first of the cells of `par` loops: behind the label to return to, the record and the levels
+abbrev pub loops_cell : ℕ
+loops_cell = 3
+
 -- the cursor of the `par` loop that stands inside so many others of its function: its next
 -- iteration that isn't begun
 abbrev pub cursor_cell : ℕ → ℕ
-cursor_cell depth = 3 + 2 * depth
+cursor_cell depth = loops_cell + 2 * depth
 
 -- the record of the side's end in that loop, or nothing
 abbrev pub rec_cell : ℕ → ℕ
-rec_cell depth = 4 + 2 * depth
+rec_cell depth = loops_cell + 1 + 2 * depth
 
 -- the value of the variable before which so many are visible; in front of the first one stand the
 -- cells of as many loops as there may be inside one another

@@ -4,6 +4,7 @@
 use Rattle.std.specs.Prelude.{◌≡◌, ℕ, ◌+◌, ℤ, true, List, [], ◌∷◌, ◌++◌, length, Some, Vec}
 use Rattle.std.specs.List.{list_any}
 use Rattle.std.specs.declared.alloc.Global.{Global}
+use Rattle.handler_gen.specs.Registers.{back_register}
 use Rattle.loop_syntax.specs.declared.Expr.{Expr}
 use Rattle.loop_syntax.specs.declared.ParLoop.{ParLoop}
 use Rattle.loop_syntax.specs.declared.Stmt.{Stmt}
@@ -189,6 +190,26 @@ WritesLength old new =
     → Continues code new more last
     → Continues code old (length_test (next_label old) more) last
 
+-- The begin of a `par` up to its length: its bounds, and behind a test whether it has an iteration,
+-- at a label, the test of the length in front of what its block goes on with.
+pub record IsParBegun (code : Listing) (act : Activation) (names : List (List ℕ)) (l : ParLoop)
+    (check exit : ℕ) (old : Output) (more : List Instr) (last : Term) : Type 0 where
+  pub leads : Leads code old
+      (λ instrs end. (end ≡ to exit)
+      × AreBounds code act names l.from l.to instrs
+      (Calc 2 1 Lt (value.Reg 0) ∷ IfJump 2 check ∷ []))
+  pub tests : Opens code check (length_test (check + 1) more) last
+
+-- it was written; the open block is that of the test
+abbrev pub BeginsPar : Scope → ParLoop → ℕ → ℕ → Output → Output → Type 0
+BeginsPar scope l check exit old new =
+    (code : Listing) (act : Activation) (names : List (List ℕ)) (more : List Instr) (last : Term)
+    → Sees scope names act.tables
+    → IsVisible act.tables names l.from
+    → IsVisible act.tables names l.to
+    → Continues code new more last
+    → IsParBegun code act names l check exit old more last
+
 -- behind it the begin of that `par` was written, and its block closed with the trap block behind it
 abbrev pub WritesBegin : Place → LoopSite → ℕ → Output → Output → Type 0
 WritesBegin place site first old new =
@@ -245,8 +266,8 @@ BeginsQuiet on as_told scope l turns exit old new =
     (λ instrs end. (end ≡ to exit)
     × IsQuietBegun code (activation on tables) names l round.depth (label new) exit turns instrs)
 
--- the begin of an iteration of a `par` that isn't quiet was written, where the two labels behind the
--- one at which it goes on are told, and its block closed
+-- the begin of an iteration of a `par` that isn't quiet was written, where the two labels behind
+-- the one at which it goes on are told, and its block closed
 abbrev pub WritesNext : LoopSite → ℕ → ℕ → Output → Output → Type 0
 WritesNext site level head old new =
     (code : Listing) → Stands code new
@@ -265,7 +286,7 @@ pub record IsRoundDeep (code : Listing) (dispatch : ℕ) (scope : Scope) (l : Pa
   pub join : AreAt code (target_label site.label) (loop_join_blocks site)
   pub first : Opens code (first_label site.label) (next_begun site level (head + 2)) (to (head + 1))
   pub over : Opens code (over_label site.label) (side_test site exit) (to (side_label site.label))
-  pub none : Opens code (none_label site.label) [] (Jump (value.Reg 30))
+  pub none : Opens code (none_label site.label) [] (Jump (value.Reg back_register))
   pub rows : list_any has_row l.carries.items ≡ true
       → Opens code (prep_label site.label) (rows_from scope 0 l.carries.items) (to site.label)
   pub next : OpensAs code (Ready dispatch) head (next_begun site level (head + 2)) (to (head + 1))

@@ -2,6 +2,7 @@
 -- blocks round its iterations.
 use Rattle.std.specs.Prelude.{◌≡◌, ℕ, pos, true, List, [], ◌∷◌, length}
 use Rattle.std.specs.List.{AllByRecursion, list_any}
+use Rattle.handler_gen.specs.Registers.{record_register, test_register}
 use Rattle.loop_syntax.specs.declared.Carry.{Carry}
 use Rattle.loop_syntax.specs.declared.ParLoop.{ParLoop}
 use Rattle.loop_syntax.specs.declared.Reduce.{Reduce}
@@ -17,7 +18,8 @@ use Rattle.expr_lower.specs.declared.scope.Scope.{Scope}
 use Rattle.expr_lower.specs.Bodies.{trap_block}
 use Rattle.expr_lower.specs.Scopes.{HasTable, HasVariable}
 use Rattle.expr_lower.specs.Standing.{AreAt}
-use Rattle.block_lower.specs.Layout.{Activation, base_register, value_cell}
+use Rattle.expr_lower.specs.Registers.{base_register}
+use Rattle.block_lower.specs.Layout.{Activation, value_cell}
 use Rattle.block_lower.specs.Names.{Sees}
 use Rattle.block_lower.specs.Opening.{Opens, load, store, to}
 use Rattle.block_lower.specs.Sites.{carried_table, loop_site, rows_from}
@@ -48,7 +50,8 @@ unmark site = instr.PrmPop base_register site.mark
 -- that of a side
 abbrev pub side_test : LoopSite → ℕ → List Instr
 side_test site exit =
-    load 24 site.rec ∷ instr.Calc 27 24 Eq value.Nil ∷ instr.IfJump 27 exit ∷ []
+    load record_register site.rec ∷ instr.Calc test_register record_register Eq value.Nil
+    ∷ instr.IfJump test_register exit ∷ []
 
 -- The code of the statements of main, or of a function, that stands on this.
 module _ (code : Listing) (act : Activation) where

@@ -11,7 +11,7 @@ use Rattle.tpal_syntax.specs.declared.notes.Note.{Note}
 use Rattle.tpal_syntax.specs.declared.notes.Note.TheVariants as note
 use Rattle.tpal_syntax.specs.Listing.{Listing}
 use Rattle.tpal_machine.specs.Reading.{block_at}
-use Rattle.block_lower.specs.Layout.{base_register}
+use Rattle.expr_lower.specs.Registers.{base_register}
 
 -- the block at a label is marked as this, and has these instructions and this end
 pub record OpensAs (code : Listing) (mark : Note) (label : ℕ) (instrs : List Instr) (end : Term)

@@ -13,8 +13,9 @@ use Rattle.tpal_syntax.specs.declared.notes.Note.TheVariants as note
 use Rattle.tpal_syntax.specs.declared.sites.CallSite.{CallSite}
 use Rattle.tpal_syntax.specs.Listing.{Listing}
 use Rattle.expr_lower.specs.Standing.{AreAt}
+use Rattle.expr_lower.specs.Registers.{base_register}
 use Rattle.block_lower.specs.Calling.{call_exit, passed}
-use Rattle.block_lower.specs.Layout.{Activation, Entry, base_register, kept_cell, kept_mark}
+use Rattle.block_lower.specs.Layout.{Activation, Entry, kept_cell, kept_mark}
 use Rattle.block_lower.specs.Layout.{kept_record, kept_value, levels_cell, return_cell}
 use Rattle.block_lower.specs.Opening.{Opens, OpensAs, load, store, to}
 use Rattle.handler_gen.specs.Blocks.{call_handler_blocks}

@@ -1,6 +1,7 @@
 -- The site of a `par`: where its cells stand, and what it reduces and carries. Its handler and its
 -- join are made from it.
 use Rattle.std.specs.Prelude.{ℕ, suc, ◌+◌, List, [], ◌∷◌, map}
+use Rattle.handler_gen.specs.Registers.{cut_register}
 use Rattle.loop_syntax.specs.declared.Carry.{Carry}
 use Rattle.loop_syntax.specs.declared.Carry.TheVariants as carry
 use Rattle.loop_syntax.specs.declared.ParLoop.{ParLoop}
@@ -27,10 +28,6 @@ at_register = 0
 -- the row of the carry before which so many stand
 abbrev pub row_register : ℕ → ℕ
 row_register before = 1 + before
-
--- the position of the activation that is cut
-abbrev pub cut_register : ℕ
-cut_register = 28
 
 -- ---- a site
 

@@ -13,11 +13,13 @@ ghost use Rattle.expr_lower.specs.Scopes.{offset_of};
 ghost use Rattle.handler_gen.specs.Blocks.{call_handler_blocks};
 ghost use Rattle.handler_gen.specs.Sites.{IsCallSite};
 ghost use Rattle.join_gen.specs.Blocks.{call_join_blocks};
+ghost use Rattle.expr_lower.specs.Registers.{base_register};
 ghost use Rattle.block_lower.specs.declared.round.Round.{Round};
 ghost use Rattle.block_lower.specs.Bodies.{HasRoomFor, activation};
 ghost use Rattle.block_lower.specs.Code as codes;
 ghost use Rattle.block_lower.specs.Heights.{AreLowArguments};
-ghost use Rattle.block_lower.specs.Layout.{kept_by_both, kept_value, levels_cell, value_cell};
+ghost use Rattle.block_lower.specs.Layout.{kept_by_both, kept_value, levels_cell};
+ghost use Rattle.block_lower.specs.Layout.{value_cell};
 ghost use Rattle.block_lower.specs.Lowering.{Lowers, WritesArguments, WritesBothArguments};
 ghost use Rattle.block_lower.specs.Lowering.{WritesPassed, WritesCall, WritesFirst, WritesJoined};
 ghost use Rattle.block_lower.specs.Lowering.{WritesSecond, WritesPair, pair_site};
@@ -27,8 +29,9 @@ ghost use Rattle.block_lower.specs.Writing as writing;
 ghost use Rattle.block_lower.specs.Writing.{IsFresh, Pushes, Appends, Stands, Continues};
 
 use crate::body::{Target, target_of};
-use crate::layout::{BASE, KEPT_MARK, KEPT_RECORD, KEPT_VALUE, LEVELS, RETURN};
+use crate::layout::{KEPT_MARK, KEPT_RECORD, KEPT_VALUE, LEVELS, RETURN};
 use crate::lowering::{Lowering, jump};
+use expr_lower::BASE;
 use handler_gen::{call_handler, child_end_label, joined_label};
 use join_gen::call_join;
 use loop_syntax::{App, Expr, Name};
@@ -137,7 +140,9 @@ impl Lowering {
     /// The position of the activation that runs goes up or down by the cells of the caller's.
     fn push_move(&mut self, alu: Alu) -> Result<(), NoMemory>
         ensures pushed { OnOk result
-            (Pushes (Instr.Calc 31 31 alu (Value.Int (pos self.old.on.size)) ∷ []) self.old.out
+            (Pushes
+            (Instr.Calc base_register base_register alu (Value.Int (pos self.old.on.size)) ∷ [])
+            self.old.out
             self.new.out) }
         ensures labels { OnOk result
             (writing.next_label self.new.out ≡ writing.next_label self.old.out) }
@@ -389,7 +394,7 @@ impl Lowering {
         requires room { HasRoomFor self.old.on kept_by_both }
         ensures pushed { OnOk result
             (Pushes (codes.call_exit first.size self.old.on.size
-            (Instr.PrmPop 31 site.now.mark
+            (Instr.PrmPop base_register site.now.mark
             ∷ codes.store (value_cell self.old.on.most + kept_value) (Value.Reg 0) ∷ []))
             self.old.out self.new.out) }
         ensures labels { OnOk result

@@ -1,5 +1,5 @@
-// The code of a `par` in whose body a promotion point may be reached. It may be cut in the middle of
-// an iteration, so the next iteration that isn't begun has a cell of its own.
+// The code of a `par` in whose body a promotion point may be reached. It may be cut in the middle
+// of an iteration, so the next iteration that isn't begun has a cell of its own.
 
 ghost use Rattle.std.specs.Prelude.{◌≡◌, ◌+◌, ◌*◌, ◌<◌, ◌≤◌, ◌∷◌, ◌++◌, [], true, false, length};
 ghost use Rattle.std.specs.Prelude.{OnOk, IfOk};
@@ -26,16 +26,17 @@ use crate::par::round_inside;
 use crate::round::Round;
 use crate::sizes::{added_by_body, site_blocks};
 use expr_lower::trap_count;
-use handler_gen::{first_label, over_label};
+use handler_gen::{BACK, first_label, over_label};
 use loop_syntax::ParLoop;
 use tp_value::NoMemory;
 use tpal_syntax::{Alu, LoopSite, Term, Value};
 
 impl Lowering {
     /// The begin of an iteration: its number comes into the cell of its variable, and the cursor
-    /// goes on. Two labels behind that of the promotion point the body stands, before which the last
-    /// iteration, and where there is none, goes by the label between. The test is on the difference
-    /// of the number and the bound, since the number behind the bound may be above those of 64 bits.
+    /// goes on. Two labels behind that of the promotion point the body stands, before which the
+    /// last iteration, and where there is none, goes by the label between. The test is on the
+    /// difference of the number and the bound, since the number behind the bound may be above those
+    /// of 64 bits.
     fn push_next(&mut self, site: &LoopSite, head: u32) -> Result<(), NoMemory>
         requires labels { writing.next_label self.old.out ≤ MAX_BLOCKS }
         requires head { head + 2 ≤ MAX_BLOCKS }
@@ -81,8 +82,8 @@ impl Lowering {
         Ok(())
     }
 
-    /// The handler and the join, and what stands round them and between two iterations. The promotion
-    /// point is at a label.
+    /// The handler and the join, and what stands round them and between two iterations. The
+    /// promotion point is at a label.
     fn push_deep_site(
         &mut self,
         l: &ParLoop,
@@ -110,7 +111,7 @@ impl Lowering {
         self.push_handler(site)?;
         self.push_next(site, head)?;
         self.push_end(site, exit)?;
-        self.close(Term::Jump(Value::Reg(30)))?;
+        self.close(Term::Jump(Value::Reg(BACK)))?;
         self.push_prep(l, site)?;
         self.make_ready();
         self.push_next(site, head)?;
@@ -118,8 +119,8 @@ impl Lowering {
         Ok(())
     }
 
-    /// The begin of the `par`, and the label of its promotion point. The open block behind it is that
-    /// of the body.
+    /// The begin of the `par`, and the label of its promotion point. The open block behind it is
+    /// that of the body.
     fn begin_deep(&mut self, round: Round, l: &ParLoop) -> Result<u32, NoMemory>
         requires few_tables { length self.old.scope.tables.items ≤ MAX_TABLES }
         requires low { (height l.now.from ≤ MAX_EXPRESSION_HEIGHT)
@@ -146,12 +147,9 @@ impl Lowering {
         ensures scope { OnOk result (self.new.scope ≡ self.old.scope) }
     {
         let check = self.next_label() + trap_count(&l.from) + trap_count(&l.to);
-        let site = self.site_of(round, l, check + 2, cursor_cell(round.depth))?;
-        let head = site.label + site_blocks(&l.carries);
+        let head = check + 2 + site_blocks(&l.carries);
         let exit = head + 2 + added_by_body(self.on.quiet_calls, &l.body);
-        self.bounds(&l.from, &l.to)?;
-        self.push_some(check, exit)?;
-        self.push_length()?;
+        let site = self.begin_par(round, l, cursor_cell(round.depth), exit)?;
         self.store(site.cursor, Value::Reg(1))?;
         self.push_begin(l.place, &site, first_label(site.label))?;
         self.push_deep_site(l, &site, head, exit)?;

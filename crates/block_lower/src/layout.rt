@@ -5,14 +5,18 @@ ghost use Rattle.block_lower.specs.Layout as layout;
 
 use tp_value::{MAX_DECLARED_VARIABLES, MAX_PAR_NESTING, MAX_PARAMETERS};
 
-/// The register with the position of the running activation.
-pub const BASE: u8 = 31;
-
 /// The cell with the label to return to.
 pub const RETURN: u16 = 0;
 
 /// The cell with the number of levels of calls that are left.
 pub const LEVELS: u16 = 2;
+
+/// The first of the cells of `par` loops. In front of it stand the label to return to, the record
+/// of the side's end of a call, and how many levels of calls are left.
+const LOOPS: u16 = 3;
+
+/// How many cells each `par` loop has, and each variable with the bound of a loop over it.
+const CELLS: u16 = 2;
 
 /// The kept value of a `both` behind the arguments of its second call: the first call's value.
 pub const KEPT_VALUE: u16 = MAX_PARAMETERS as u16;
@@ -27,13 +31,12 @@ pub const KEPT_RECORD: u16 = MAX_PARAMETERS as u16 + 2;
 pub const KEPT_BY_BOTH: u16 = MAX_PARAMETERS as u16 + 3;
 
 /// The cell of the next iteration that isn't begun, of the `par` loop that stands inside so many
-/// others of its function. In front of those cells stand the label to return to, the record of the
-/// side's end of a call, and how many levels of calls are left.
+/// others of its function.
 pub fn cursor_cell(depth: u32) -> u16
     requires { depth < MAX_PAR_NESTING }
     ensures { result ≡ layout.cursor_cell depth }
 {
-    3 + 2 * depth as u16
+    LOOPS + CELLS * depth as u16
 }
 
 /// The cell of the record of the side's end, of the `par` loop that stands inside so many others of
@@ -42,7 +45,7 @@ pub fn rec_cell(depth: u32) -> u16
     requires { depth < MAX_PAR_NESTING }
     ensures { result ≡ layout.rec_cell depth }
 {
-    4 + 2 * depth as u16
+    cursor_cell(depth) + 1
 }
 
 /// The cell of the variable before which so many are visible, from 19 on: behind the cells of as
@@ -51,7 +54,7 @@ pub fn value_cell(level: usize) -> u16
     requires { level ≤ MAX_DECLARED_VARIABLES }
     ensures { result ≡ layout.value_cell level }
 {
-    3 + 2 * MAX_PAR_NESTING as u16 + 2 * level as u16
+    LOOPS + CELLS * MAX_PAR_NESTING as u16 + CELLS * level as u16
 }
 
 /// The cell of the bound of the loop over that variable.
@@ -59,5 +62,5 @@ pub fn bound_cell(level: usize) -> u16
     requires { level ≤ MAX_DECLARED_VARIABLES }
     ensures { result ≡ layout.bound_cell level }
 {
-    4 + 2 * MAX_PAR_NESTING as u16 + 2 * level as u16
+    value_cell(level) + 1
 }

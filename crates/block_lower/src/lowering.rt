@@ -9,6 +9,7 @@ ghost use Rattle.tp_value.specs.declared.limits.TheConstants.{MAX_DECLARED_VARIA
 ghost use Rattle.tp_value.specs.declared.limits.TheConstants.{MAX_PARAMETERS};
 ghost use Rattle.loop_rules.specs.Limits.{height};
 ghost use Rattle.expr_lower.specs.Bodies.{trap_count};
+ghost use Rattle.expr_lower.specs.Registers.{base_register};
 ghost use Rattle.block_lower.specs.Code as codes;
 ghost use Rattle.block_lower.specs.Lowering.{WritesOperand, WritesValue};
 ghost use Rattle.block_lower.specs.Writing as writing;
@@ -20,10 +21,9 @@ ghost use Rattle.block_lower.specs.Layout.{value_cell};
 ghost use Rattle.block_lower.specs.Names.{SeesAfter};
 
 use crate::body::{Body, kept_cell, parameter_cell};
-use crate::layout::BASE;
 use crate::output::{Output, close, next_label, push, push_trap_block, push_value};
 use crate::scope::{declare, leave};
-use expr_lower::{Scope, literal, offset_of, table_number};
+use expr_lower::{BASE, Scope, literal, offset_of, table_number};
 use loop_syntax::{Expr, Name};
 use std::alloc::Global;
 use tp_value::{NoMemory, Place, TrapKind};
@@ -139,7 +139,8 @@ impl Lowering {
     /// Sets the mark of a cell of the activation, which a block cuts.
     pub fn push_mark(&mut self, off: u16, split: u32) -> Result<(), NoMemory>
         ensures pushed { OnOk result
-            (Pushes (Instr.PrmPush 31 off self.old.on.size split ∷ []) self.old.out self.new.out) }
+            (Pushes (Instr.PrmPush base_register off self.old.on.size split ∷ []) self.old.out
+            self.new.out) }
         ensures labels { OnOk result
             (writing.next_label self.new.out ≡ writing.next_label self.old.out) }
         ensures on { OnOk result (self.new.on ≡ self.old.on) }
@@ -156,7 +157,8 @@ impl Lowering {
 
     /// Takes the mark of a cell of the activation away, if any.
     pub fn pop_mark(&mut self, off: u16) -> Result<(), NoMemory>
-        ensures pushed { OnOk result (Pushes (Instr.PrmPop 31 off ∷ []) self.old.out self.new.out) }
+        ensures pushed { OnOk result
+            (Pushes (Instr.PrmPop base_register off ∷ []) self.old.out self.new.out) }
         ensures labels { OnOk result
             (writing.next_label self.new.out ≡ writing.next_label self.old.out) }
         ensures on { OnOk result (self.new.on ≡ self.old.on) }

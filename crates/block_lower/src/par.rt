@@ -1,6 +1,6 @@
-// The code of `par`, which is marked while iterations aren't begun. Where a beat cuts it, the handler
-// and the join are made from its site; round them stand the blocks of this file, for one in whose
-// body no promotion point can be reached, or those of `deep`.
+// The code of `par`, which is marked while iterations aren't begun. Where a beat cuts it, the
+// handler and the join are made from its site; round them stand the blocks of this file, for one in
+// whose body no promotion point can be reached, or those of `deep`.
 
 ghost use Rattle.std.specs.Prelude.{◌≡◌, ◌+◌, ◌*◌, ◌<◌, ◌≤◌, ◌^◌, ◌∷◌, ◌++◌, [], true, false};
 ghost use Rattle.std.specs.Prelude.{length, OnOk, IfOk};
@@ -20,10 +20,11 @@ ghost use Rattle.block_lower.specs.Code as codes;
 ghost use Rattle.block_lower.specs.Heights.{AllAreLow};
 ghost use Rattle.block_lower.specs.Lowering.{Lowers, FitsIn, WritesSome};
 ghost use Rattle.block_lower.specs.Lowering.{WritesLength, WritesBegin, WritesPrep, WritesSite};
-ghost use Rattle.block_lower.specs.Lowering.{BeginsQuiet};
+ghost use Rattle.block_lower.specs.Lowering.{BeginsPar, BeginsQuiet};
 ghost use Rattle.block_lower.specs.Marked as marked;
 ghost use Rattle.block_lower.specs.Names.{SeesAfter};
 ghost use Rattle.block_lower.specs.Quiet.{list_is_quiet};
+ghost use Rattle.block_lower.specs.Sites.{loop_site};
 ghost use Rattle.block_lower.specs.Sizes as sizes;
 ghost use Rattle.block_lower.specs.Writing as writing;
 ghost use Rattle.block_lower.specs.Writing.{IsFresh, Pushes, Appends, Stands, Continues};
@@ -35,7 +36,7 @@ use crate::repeat::{Bound, Turns};
 use crate::round::Round;
 use crate::sizes::{added_by_body, have_row, site_blocks};
 use expr_lower::trap_count;
-use handler_gen::{loop_handler, over_label, side_label, split_label};
+use handler_gen::{RECORD, TEST, loop_handler, over_label, side_label, split_label};
 use join_gen::loop_join;
 use loop_syntax::ParLoop;
 use tp_value::{MAX_PAR_LENGTH, NoMemory, Place, TrapKind};
@@ -56,7 +57,7 @@ pub fn round_inside<'a>(round: Round, l: &'a ParLoop) -> Round<'a>
 impl Lowering {
     /// The test of a `par`, whose first number is in register 1 and whose bound is in register 0:
     /// the label `check` where it has an iteration, else the exit.
-    pub fn push_some(&mut self, check: u32, exit: u32) -> Result<(), NoMemory>
+    fn push_some(&mut self, check: u32, exit: u32) -> Result<(), NoMemory>
         requires { writing.next_label self.old.out ≤ MAX_BLOCKS }
         ensures labels { OnOk result
             (writing.next_label self.new.out ≡ writing.next_label self.old.out + 1) }
@@ -87,9 +88,9 @@ impl Lowering {
     }
 
     /// The test of the length of a `par`, in an open block of its own: the trap block, which stands
-    /// behind it, where the difference of the bounds is above the numbers of 64 bits. Register 3 has
-    /// whether it isn't too wide.
-    pub fn push_length(&mut self) -> Result<(), NoMemory>
+    /// behind it, where the difference of the bounds is above the numbers of 64 bits. Register 3
+    /// has whether it isn't too wide.
+    fn push_length(&mut self) -> Result<(), NoMemory>
         requires { writing.next_label self.old.out ≤ MAX_BLOCKS }
         ensures labels { OnOk result
             (writing.next_label self.new.out ≡ writing.next_label self.old.out) }
@@ -102,6 +103,46 @@ impl Lowering {
         self.push_length_test(Alu::Lt, 0, wide)?;
         self.calc(3, 2, Alu::Le, Value::Int(MAX_PAR_LENGTH as i64))?;
         Ok(())
+    }
+
+    /// The begin of a `par` up to that test: the bounds, and whether it has an iteration. The cell of
+    /// the next one that isn't begun is told. Its site stands two labels behind the test's block.
+    pub fn begin_par(
+        &mut self,
+        round: Round,
+        l: &ParLoop,
+        cursor: u16,
+        exit: u32,
+    ) -> Result<LoopSite, NoMemory>
+        requires few_tables { length self.old.scope.tables.items ≤ MAX_TABLES }
+        requires low { (height l.now.from ≤ MAX_EXPRESSION_HEIGHT)
+            × (height l.now.to ≤ MAX_EXPRESSION_HEIGHT) }
+        requires labels { writing.next_label self.old.out
+            + (trap_count l.now.from + trap_count l.now.to + 3)
+            ≤ MAX_BLOCKS }
+        requires fits { FitsIn self.old.on self.old.scope round (Stmt.Par l.now ∷ []) }
+        requires room { HasRoomFor self.old.on 0 }
+        ensures labels { OnOk result
+            (writing.next_label self.new.out
+            ≡ writing.next_label self.old.out
+            + (trap_count l.now.from + trap_count l.now.to + 1)) }
+        ensures site { IfOk result
+            (λ site. site
+            ≡ loop_site self.old.scope l.now self.old.on.size round.entry.depth
+            (length self.old.scope.cells.items) cursor (writing.next_label self.new.out + 1)) }
+        ensures code { OnOk result
+            (BeginsPar self.old.scope l.now
+            (writing.next_label self.old.out + trap_count l.now.from + trap_count l.now.to) exit
+            self.old.out self.new.out) }
+        ensures on { OnOk result (self.new.on ≡ self.old.on) }
+        ensures scope { OnOk result (self.new.scope ≡ self.old.scope) }
+    {
+        let check = self.next_label() + trap_count(&l.from) + trap_count(&l.to);
+        let site = self.site_of(round, l, check + 2, cursor)?;
+        self.bounds(&l.from, &l.to)?;
+        self.push_some(check, exit)?;
+        self.push_length()?;
+        Ok(site)
     }
 
     /// The begin of a `par` behind that test: with no record and the mark set, the first iteration,
@@ -142,9 +183,9 @@ impl Lowering {
         ensures on { OnOk result (self.new.on ≡ self.old.on) }
         ensures scope { OnOk result (self.new.scope ≡ self.old.scope) }
     {
-        self.load(24, site.rec)?;
-        self.calc(27, 24, Alu::Eq, Value::Nil)?;
-        self.jump_if(27, exit)?;
+        self.load(RECORD, site.rec)?;
+        self.calc(TEST, RECORD, Alu::Eq, Value::Nil)?;
+        self.jump_if(TEST, exit)?;
         self.close(jump(side_label(site.label)))?;
         Ok(())
     }
@@ -274,14 +315,11 @@ impl Lowering {
     {
         let level = self.level();
         let check = self.next_label() + trap_count(&l.from) + trap_count(&l.to);
-        let site = self.site_of(round, l, check + 2, value_cell(level))?;
-        let first = site.label + site_blocks(&l.carries);
+        let first = check + 2 + site_blocks(&l.carries);
         let body = added_by_body(self.on.quiet_calls, &l.body);
         let again = first + body;
         let exit = again + body;
-        self.bounds(&l.from, &l.to)?;
-        self.push_some(check, exit)?;
-        self.push_length()?;
+        let site = self.begin_par(round, l, value_cell(level), exit)?;
         self.push_begin(l.place, &site, first)?;
         self.push_site(l, &site, first, exit)?;
         Ok(Turns {

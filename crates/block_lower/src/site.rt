@@ -12,6 +12,7 @@ use crate::layout::{bound_cell, rec_cell};
 use crate::lowering::Lowering;
 use crate::round::Round;
 use expr_lower::{Scope, offset_of, table_number};
+use handler_gen::CUT;
 use loop_syntax::{Carry, ParLoop, Reduce, RowAt};
 use std::alloc::Global;
 use tp_value::{Items, NoMemory, Op};
@@ -22,9 +23,6 @@ const AT: u8 = 0;
 
 /// The register with the row of the first carry.
 const FIRST_ROW: u8 = 1;
-
-/// The register with the position of the activation that is cut.
-const CUT: u8 = 28;
 
 /// The register with the row of the carry before which so many stand.
 fn row_register(before: usize) -> u8

@@ -3,6 +3,7 @@
 use Rattle.std.specs.Prelude.{ℕ, zero, suc, ◌+◌, ℤ, pos, negsuc, Bool, true, false, nat_lt}
 use Rattle.std.specs.Prelude.{if◌then◌else◌, List, [], ◌∷◌, ◌++◌, Option, None, Some, codes}
 use Rattle.std.specs.Fmt.{decimal}
+use Rattle.expr_lower.specs.Registers.{base_register, last_left}
 use Rattle.tp_value.specs.declared.Place.{Place}
 use Rattle.tp_value.specs.declared.TrapKind.{TrapKind}
 use Rattle.tp_value.specs.declared.TrapKind.TheVariants.{Divide, Index}
@@ -108,11 +109,12 @@ calculation o to right (Some n) = instr.Calc to to o (value.Int n) ∷ []
 abbrev pub turned : Alu → ℕ → List Instr → List Instr
 turned o to right = right ++ instr.Calc to (to + 1) o (value.Reg to) ∷ []
 
--- A division, with a test of the divisor before it. Register 23 is the last one that may change:
--- where the test has no register of its own, it takes the divisor's, which is computed anew.
+-- A division, with a test of the divisor before it. The register behind `last_left` is the last one
+-- that may change: where the test has no register of its own, it takes the divisor's, which is
+-- computed anew.
 abbrev pub tested_division : Alu → ℕ → List Instr → ℕ → List Instr
 tested_division o to right trap =
-    if nat_lt to 22
+    if nat_lt to last_left
     then right ++ instr.Calc (to + 2) (to + 1) alu.Eq (value.Int (pos 0))
     ∷ instr.IfJump (to + 2) trap ∷ instr.Calc to to o (value.Reg (to + 1)) ∷ []
     else right
@@ -171,7 +173,7 @@ range_tests table row col test trap =
 -- computed anew.
 abbrev pub cell_read : ℕ → ℕ → List Instr → List Instr → ℕ → List Instr
 cell_read table to row col trap =
-    if nat_lt to 22
+    if nat_lt to last_left
     then row
     ++ (col
     ++ (range_tests table to (to + 1) (to + 2) trap ++ instr.Fetch to table to (to + 1) ∷ []))
@@ -189,7 +191,7 @@ cell_read table to row col trap =
 -- from a label on
 abbrev pub body_of : Scope → ℕ → Expr → ℕ → List Instr
 body_of scope label (Int n place) to = instr.Move to (value.Int n) ∷ []
-body_of scope label (Var x) to = instr.Load to 31 (offset_of scope x.text.items) ∷ []
+body_of scope label (Var x) to = instr.Load to base_register (offset_of scope x.text.items) ∷ []
 body_of scope label (Cell' t p a q b) to =
     cell_read (table_number scope t.text.items) to (body_of scope label a to)
     (body_of scope (label + trap_count a) b (to + 1)) (label + trap_count a + trap_count b)

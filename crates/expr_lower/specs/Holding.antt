@@ -1,6 +1,8 @@
 -- How a task holds variables and tables.
 use Rattle.std.specs.Prelude.{◌≡◌, ℕ, ℤ, pos, ◌+ℤ◌, ⊤, List, Some, length}
 use Rattle.std.specs.List.{AllByRecursion}
+use Rattle.tp_value.specs.declared.limits.TheConstants.{REGISTERS}
+use Rattle.expr_lower.specs.Registers.{base_register}
 use Rattle.slices.specs.Holding.{cell_at}
 use Rattle.stack_marks.specs.Stacks.{word_at}
 use Rattle.tp_value.specs.declared.Table.{Table}
@@ -22,13 +24,13 @@ IsHeld scope tables state (Emits t) = ⊤
 IsHeld scope tables state Chance = ⊤
 
 -- A task holds the variables of a scope in the cells of its activation, which begins at the
--- position in register 31. It holds the sizes of the scope's tables, and of their cells those that
--- are read by these notes. A side may hold no more than these.
+-- position in the base register. It holds the sizes of the scope's tables, and of their cells those
+-- that are read by these notes. A side may hold no more than these.
 pub record Holds (scope : Scope) (vars : List Variable) (tables : List Table) (notes : List Note)
     (state : State) : Type 0 where
-  pub registers : length state.registers ≡ 32
+  pub registers : length state.registers ≡ REGISTERS
   pub base : ℤ
-  pub is_base : register state.registers 31 ≡ Int base
+  pub is_base : register state.registers base_register ≡ Int base
   pub variables : (x : List ℕ)
       → HasVariable scope x
       → word_at state.stack (base +ℤ pos (offset_of scope x)) ≡ Some (Int (lookup vars x))

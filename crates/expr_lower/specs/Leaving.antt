@@ -1,5 +1,6 @@
 -- What the code of an expression comes to.
 use Rattle.std.specs.Prelude.{◌≡◌, ℕ, ℤ, ◌<◌, ◌≤◌, Bool, List, None, length}
+use Rattle.expr_lower.specs.Registers.{value_registers}
 use Rattle.beat_count.specs.BeatState.{BeatState}
 use Rattle.tp_value.specs.declared.Place.{Place}
 use Rattle.tp_value.specs.declared.TrapKind.{TrapKind}
@@ -15,12 +16,12 @@ use Rattle.tpal_machine.specs.Serial.{Comes}
 use Rattle.tpal_machine.specs.State.{State}
 use Rattle.tpal_machine.specs.Step.{Ends, step, enters, advanced}
 
--- These words and this beat are those of a task but for the registers from `to` to 23 and for the
--- instructions that the beat has counted.
+-- These words and this beat are those of a task but for the registers of values from `to` on and
+-- for the instructions that the beat has counted.
 pub record Keeps (to : ℕ) (state : State) (words : List Word) (beat : BeatState) : Type 0 where
   pub size : length words ≡ length state.registers
   pub below : (r : ℕ) → r < to → register words r ≡ register state.registers r
-  pub above : (r : ℕ) → 24 ≤ r → register words r ≡ register state.registers r
+  pub above : (r : ℕ) → value_registers ≤ r → register words r ≡ register state.registers r
   pub quiet : beat.quiet ≡ state.beat.quiet
   pub granted : beat.granted ≡ state.beat.granted
 

@@ -2,6 +2,8 @@
 
 -- where the variables and tables of an expression stand
 pub mod Scopes
+-- the registers that it uses
+pub mod Registers
 -- the instructions and the trap blocks of an expression
 pub mod Bodies
 -- where in a code instructions and blocks stand

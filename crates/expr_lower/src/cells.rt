@@ -1,8 +1,10 @@
 // The instructions that read a cell of a table, with the tests of its row and its column.
 
 ghost use Rattle.std.specs.Prelude.{◌≡◌, ◌≤◌, ◌+◌, ◌++◌, ◌∷◌, [], OnOk};
+ghost use Rattle.expr_lower.specs.Registers.{last_left};
 ghost use Rattle.expr_lower.specs.Bodies.{below_test, row_test, col_test, range_tests, cell_read};
 
+use crate::registers::LAST_LEFT;
 use tp_value::NoMemory;
 use tpal_syntax::{Alu, Instr, Value};
 
@@ -100,7 +102,7 @@ fn push_tests_in_place(
     col: &[Instr],
     trap: u32,
 ) -> Result<(), NoMemory>
-    requires { to ≤ 22 }
+    requires { to ≤ last_left }
     ensures { OnOk result
         (body.new.items
         ≡ body.old.items
@@ -127,13 +129,13 @@ pub fn push_cell_read(
     col: &[Instr],
     trap: u32,
 ) -> Result<(), NoMemory>
-    requires { to ≤ 22 }
+    requires { to ≤ last_left }
     ensures { OnOk result
         (body.new.items ≡ body.old.items ++ cell_read table to row.now col.now trap) }
 {
     body.extend_from_slice(row)?;
     body.extend_from_slice(col)?;
-    if to < 22 {
+    if to < LAST_LEFT {
         push_range_tests(body, table, to, to + 1, to + 2, trap)?;
     } else {
         push_tests_in_place(body, table, to, row, col, trap)?;

@@ -2,6 +2,9 @@
 
 ghost use Rattle.std.specs.Prelude.{◌≡◌, ℕ, ◌≤◌, ◌<◌, ◌+◌, ◌^◌, ◌++◌, ◌∷◌, [], List, length};
 ghost use Rattle.std.specs.Prelude.{if◌then◌else◌, IfOk, OnOk};
+ghost use Rattle.tp_value.specs.declared.limits.TheConstants.{MAX_BLOCKS, MAX_EXPRESSION_HEIGHT};
+ghost use Rattle.tp_value.specs.declared.limits.TheConstants.{MAX_TABLES};
+ghost use Rattle.expr_lower.specs.Registers.{last_left};
 ghost use Rattle.tp_value.specs.declared.Table.{Table};
 ghost use Rattle.loop_rules.specs.Limits.{height};
 ghost use Rattle.loop_meaning.specs.declared.value.Variable.{Variable};
@@ -19,6 +22,7 @@ ghost use Rattle.expr_lower.specs.Standing.{AreAt};
 
 use crate::cells::push_cell_read;
 use crate::operators::{can_trap, literal, push_operation};
+use crate::registers::BASE;
 use crate::scope::{Scope, offset_of, table_number};
 use crate::traps::{name_of, push_trap};
 use loop_syntax::{BinOp, Expr, Name};
@@ -29,7 +33,7 @@ use tpal_syntax::{Alu, Block, Instr, Note, Term, Value};
 /// Where the code of an expression leaves its value, and where its trap blocks stand.
 #[derive(Clone, Copy)]
 pub struct Site {
-    /// The register of the value, below 24.
+    /// The register of the value, one of those of values.
     pub to: u8,
     /// The label of the first trap block of the list to which the expression's own are appended.
     pub first: u32,
@@ -37,7 +41,7 @@ pub struct Site {
 
 // the same with the next register
 fn above(at: Site) -> Site
-    requires { at.to ≤ 23 }
+    requires { at.to ≤ last_left + 1 }
     ensures to { result.to ≡ at.to + 1 }
     ensures first { result.first ≡ at.first }
 {
@@ -59,7 +63,7 @@ fn push_cell(
     row: &[Instr],
     col: &[Instr],
 ) -> Result<(), NoMemory>
-    requires registers { at.to ≤ 22 }
+    requires registers { at.to ≤ last_left }
     requires labels { at.first + length traps.old.items < 2 ^ 32 }
     ensures body { OnOk result
         (body.new.items
@@ -89,7 +93,7 @@ fn push_operator(
     right: &[Instr],
     number: Option<i64>,
 ) -> Result<(), NoMemory>
-    requires registers { at.to ≤ 22 }
+    requires registers { at.to ≤ last_left }
     requires labels { at.first + length traps.old.items < 2 ^ 32 }
     ensures body { OnOk result
         (body.new.items
@@ -123,8 +127,8 @@ pub fn push_expr(
     scope: &Scope,
     at: Site,
 ) -> Result<(), NoMemory>
-    requires few_tables { length scope.now.tables.items ≤ 16 }
-    requires registers { at.to + height expr.now ≤ 24 }
+    requires few_tables { length scope.now.tables.items ≤ MAX_TABLES }
+    requires registers { at.to + height expr.now ≤ MAX_EXPRESSION_HEIGHT }
     requires labels { at.first + length traps.old.items + trap_count expr.now < 2 ^ 32 }
     ensures body { OnOk result
         (body.new.items
@@ -133,7 +137,8 @@ pub fn push_expr(
     ensures traps { OnOk result
         (traps.new.items
         ≡ traps.old.items ++ traps_of (at.first + length traps.old.items) expr.now) }
-    ensures count { OnOk result (length traps.new.items ≡ length traps.old.items + trap_count expr.now) }
+    ensures count { OnOk result (length traps.new.items
+        ≡ length traps.old.items + trap_count expr.now) }
     ensures literals { OnOk result (ExprInRange expr.now) }
 {
     let to = at.to;
@@ -144,7 +149,11 @@ pub fn push_expr(
         })?,
         Expr::Var(name) => {
             let off = offset_of(scope, name.text.as_slice());
-            body.push(Instr::Load { to, base: 31, off })?;
+            body.push(Instr::Load {
+                to,
+                base: BASE,
+                off,
+            })?;
         }
         Expr::Cell(name, i, j) => {
             let mut row = Vec::new(alloc);
@@ -183,9 +192,9 @@ pub fn push_expr(
 
 // The blocks of an expression.
 fn blocks_of(alloc: Global, expr: &Expr, scope: &Scope, to: u8) -> Result<Vec<Block>, NoMemory>
-    requires few_tables { length scope.now.tables.items ≤ 16 }
-    requires registers { to + height expr.now ≤ 24 }
-    requires label { scope.now.next_label < 65536 }
+    requires few_tables { length scope.now.tables.items ≤ MAX_TABLES }
+    requires registers { to + height expr.now ≤ MAX_EXPRESSION_HEIGHT }
+    requires label { scope.now.next_label < MAX_BLOCKS }
     ensures { IfOk result (λ blocks. blocks.items ≡ blocks_of scope.now expr.now to) }
 {
     let mut body = Vec::new(alloc);
@@ -217,9 +226,9 @@ fn blocks_of(alloc: Global, expr: &Expr, scope: &Scope, to: u8) -> Result<Vec<Bl
 /// register `to` and goes on at the label behind the last of them, or it traps as the expression
 /// does. It changes no register below `to` or above 23, no cell of the stack and no table.
 pub fn lower_expr(alloc: Global, expr: &Expr, scope: &Scope, to: u8) -> Result<Vec<Block>, NoMemory>
-    requires few_tables { length scope.now.tables.items ≤ 16 }
-    requires registers { to + height expr.now ≤ 24 }
-    requires label { scope.now.next_label < 65536 }
+    requires few_tables { length scope.now.tables.items ≤ MAX_TABLES }
+    requires registers { to + height expr.now ≤ MAX_EXPRESSION_HEIGHT }
+    requires label { scope.now.next_label < MAX_BLOCKS }
     ensures blocks { IfOk result (λ blocks. blocks.items ≡ blocks_of scope.now expr.now to) }
     ensures answer { IfOk result
         (λ blocks. (code : Listing) (heartbeat : ℕ) (vars : List Variable) (tables : List Table)

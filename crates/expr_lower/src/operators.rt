@@ -1,10 +1,12 @@
 // The instructions of an operator, behind those of its left operand.
 
 ghost use Rattle.std.specs.Prelude.{◌≡◌, ◌≤◌, ◌+◌, ◌++◌, ◌∷◌, [], OnOk, IfSome};
+ghost use Rattle.expr_lower.specs.Registers.{last_left};
 ghost use Rattle.loop_meaning.specs.InRange.{InRange};
 ghost use Rattle.expr_lower.specs.Bodies.{literal, may_be_zero, can_trap, calculation, turned};
 ghost use Rattle.expr_lower.specs.Bodies.{tested_division, division, operation};
 
+use crate::registers::LAST_LEFT;
 use loop_syntax::{BinOp, Expr};
 use tp_value::NoMemory;
 use tpal_syntax::{Alu, Instr, Value};
@@ -60,7 +62,7 @@ fn push_calculation(
     right: &[Instr],
     number: Option<i64>,
 ) -> Result<(), NoMemory>
-    requires { to ≤ 22 }
+    requires { to ≤ last_left }
     ensures { OnOk result (body.new.items ≡ body.old.items ++ calculation alu to right.now number) }
 {
     match number {
@@ -85,7 +87,7 @@ fn push_calculation(
 
 // Appends the calculation with the operands in turn.
 fn push_turned(body: &mut Vec<Instr>, alu: Alu, to: u8, right: &[Instr]) -> Result<(), NoMemory>
-    requires { to ≤ 22 }
+    requires { to ≤ last_left }
     ensures { OnOk result (body.new.items ≡ body.old.items ++ turned alu to right.now) }
 {
     body.extend_from_slice(right)?;
@@ -106,11 +108,12 @@ fn push_tested_division(
     right: &[Instr],
     trap: u32,
 ) -> Result<(), NoMemory>
-    requires { to ≤ 22 }
-    ensures { OnOk result (body.new.items ≡ body.old.items ++ tested_division alu to right.now trap) }
+    requires { to ≤ last_left }
+    ensures { OnOk result (body.new.items
+        ≡ body.old.items ++ tested_division alu to right.now trap) }
 {
     body.extend_from_slice(right)?;
-    let test = if to < 22 { to + 2 } else { to + 1 };
+    let test = if to < LAST_LEFT { to + 2 } else { to + 1 };
     body.push(Instr::Calc {
         to: test,
         left: to + 1,
@@ -118,7 +121,7 @@ fn push_tested_division(
         right: Value::Int(0),
     })?;
     body.push(Instr::IfJump { test, label: trap })?;
-    if to >= 22 {
+    if to >= LAST_LEFT {
         body.extend_from_slice(right)?;
     }
     body.push(Instr::Calc {
@@ -138,8 +141,9 @@ fn push_division(
     number: Option<i64>,
     trap: u32,
 ) -> Result<(), NoMemory>
-    requires { to ≤ 22 }
-    ensures { OnOk result (body.new.items ≡ body.old.items ++ division alu to right.now number trap) }
+    requires { to ≤ last_left }
+    ensures { OnOk result (body.new.items
+        ≡ body.old.items ++ division alu to right.now number trap) }
 {
     match number {
         Some(0) => {
@@ -176,8 +180,9 @@ pub fn push_operation(
     number: Option<i64>,
     trap: u32,
 ) -> Result<(), NoMemory>
-    requires { to ≤ 22 }
-    ensures { OnOk result (body.new.items ≡ body.old.items ++ operation op to right.now number trap) }
+    requires { to ≤ last_left }
+    ensures { OnOk result (body.new.items
+        ≡ body.old.items ++ operation op to right.now number trap) }
 {
     match op {
         BinOp::Add => push_calculation(body, Alu::Add, to, right, number),

@@ -1,6 +1,7 @@
 // Where the variables and tables of an expression stand.
 
 ghost use Rattle.std.specs.Prelude.{◌≡◌, ◌≤◌, length};
+ghost use Rattle.tp_value.specs.declared.limits.TheConstants.{MAX_TABLES};
 ghost use Rattle.expr_lower.specs.Scopes.{cell_in, number_in, offset_of, table_number};
 
 /// What an expression may name, and the label of the first block that it may have.
@@ -29,7 +30,7 @@ pub fn offset_of(scope: &Scope, name: &[u8]) -> u16
 
 /// The number of a table, or how many there are where the scope doesn't have it.
 pub fn table_number(scope: &Scope, name: &[u8]) -> u8
-    requires { length scope.now.tables.items ≤ 16 }
+    requires { length scope.now.tables.items ≤ MAX_TABLES }
     ensures { result ≡ table_number scope.now name.now }
 {
     let mut number: u8 = 0;

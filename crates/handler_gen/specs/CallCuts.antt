@@ -1,5 +1,7 @@
 -- How the handler of a pair of calls cuts it.
 use Rattle.std.specs.Prelude.{◌≡◌, ℕ, ◌+◌, ◌≤◌, ◌^◌, pos, false, true, [], Some, None, length, Bool}
+use Rattle.tp_value.specs.declared.limits.TheConstants.{REGISTERS}
+use Rattle.handler_gen.specs.Registers.{cut_register}
 use Rattle.stack_marks.specs.Causes.{Holds}
 use Rattle.stack_marks.specs.declared.mark.Mark.{Mark}
 use Rattle.stack_marks.specs.Stacks.{StackValue, with_word, left_of, child_of}
@@ -60,8 +62,8 @@ pub record IsRoundCalls (code : Listing) (site : CallSite) : Type 0 where
 pub record IsAtCalls (site : CallSite) (z : ℕ) (state : State) : Type 0 where
   pub block : state.block ≡ site.label
   pub at : state.at ≡ 0
-  pub size : length state.registers ≡ 32
-  pub base : register state.registers 28 ≡ Int (pos z)
+  pub size : length state.registers ≡ REGISTERS
+  pub base : register state.registers cut_register ≡ Int (pos z)
   pub granted : state.beat.granted ≡ true
   pub free : state.pending ≡ None
   pub marked : oldest state.stack ≡ Some (call_mark site z)

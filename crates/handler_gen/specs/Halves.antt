@@ -1,6 +1,9 @@
 -- What a handler makes of a task that a beat interrupted: it asks for a join record, and goes back
 -- or cuts the work of the oldest mark in two.
 use Rattle.std.specs.Prelude.{◌≡◌, ◌≤◌, ℕ, Bool, false, List, [], Some, None, length, pos}
+use Rattle.tp_value.specs.declared.limits.TheConstants.{REGISTERS}
+use Rattle.expr_lower.specs.Registers.{base_register}
+use Rattle.handler_gen.specs.Registers.{record_register, back_register}
 use Rattle.beat_count.specs.BeatState.{BeatState}
 use Rattle.stack_marks.specs.Stacks as stacks
 use Rattle.stack_marks.specs.Stacks.{StackValue}
@@ -23,15 +26,17 @@ use Rattle.handler_gen.specs.Sites.{back_label, target_label}
 -- a task that waits for a join record in r24, for the join target of a site
 abbrev pub asking : ℕ → State → State
 asking label state =
-    record (advanced state) { waiting = Some (record { to = 24; target = target_label label }) }
+    record (advanced state) {
+      waiting = Some (record { to = record_register; target = target_label label });
+    }
 
 -- ---- going back
 
 -- These words and this beat are those of a task, as far as the block that was interrupted needs
 -- them: r30 has its label and r31 the base of its activation, and it isn't diverted again.
 pub record KeepsPlace (state : State) (words : List Word) (beat : BeatState) : Type 0 where
-  pub size : length words ≡ 32
-  pub high : (r : ℕ) → 30 ≤ r → register words r ≡ register state.registers r
+  pub size : length words ≡ REGISTERS
+  pub high : (r : ℕ) → back_register ≤ r → register words r ≡ register state.registers r
   pub quiet : beat.quiet ≡ state.beat.quiet
 
 -- a task with other words and another beat, at the start of a block
@@ -132,8 +137,8 @@ pub record ChildGoesOn (code : Listing) (heartbeat : ℕ) (work : Work) (halves 
     (state child : State) : Type 0 where
   pub words : List Word
   pub beat : BeatState
-  pub size : length words ≡ 32
-  pub base : register words 31 ≡ Int (pos work.base)
+  pub size : length words ≡ REGISTERS
+  pub base : register words base_register ≡ Int (pos work.base)
   pub loud : beat.quiet ≡ false
   pub granted : beat.granted ≡ false
   pub comes : Reaches code heartbeat child (child_part work halves state words beat)

@@ -1,5 +1,7 @@
 -- What is promised of handlers.
 
+-- the registers that a cut uses
+pub mod Registers
 -- the conditions on sites, and the labels of their blocks
 pub mod Sites
 -- the blocks of handlers, and the join targets of sites

@@ -1,6 +1,8 @@
 -- How the handler of a loop cuts the iterations that aren't begun.
 use Rattle.std.specs.Prelude.{◌≡◌, ℕ, ◌+◌, ℤ, pos, ◌-ℤ◌, ◌≤ℤ◌, int_lt, false, true, List, [], ◌∷◌}
 use Rattle.std.specs.Prelude.{if◌then◌else◌, map, All, Some, None, length, Bool}
+use Rattle.tp_value.specs.declared.limits.TheConstants.{REGISTERS}
+use Rattle.handler_gen.specs.Registers.{cut_register}
 use Rattle.loop_meaning.specs.InRange.{InRange}
 use Rattle.frame_machine.specs.Splitting.{cut_of}
 use Rattle.reduce_ops.specs.Reduction.{unit}
@@ -114,8 +116,8 @@ pub record IsRoundLoop (code : Listing) (site : LoopSite) : Type 0 where
 pub record IsAtLoop (site : LoopSite) (z : ℕ) (next middle end : ℤ) (state : State) : Type 0 where
   pub block : state.block ≡ site.label
   pub at : state.at ≡ 0
-  pub size : length state.registers ≡ 32
-  pub base : register state.registers 28 ≡ Int (pos z)
+  pub size : length state.registers ≡ REGISTERS
+  pub base : register state.registers cut_register ≡ Int (pos z)
   pub rows : All (HasRow state.registers) site.carries
   pub granted : state.beat.granted ≡ true
   pub free : state.pending ≡ None

@@ -3,6 +3,10 @@
 use Rattle.std.specs.Prelude.{◌≢◌, ℕ, ◌+◌, ◌<◌, ◌≤◌, Bool, true, false, if◌then◌else◌, List, ◌∷◌}
 use Rattle.std.specs.Prelude.{length, map, All, AllPairs}
 use Rattle.std.specs.List.{list_any}
+use Rattle.tp_value.specs.declared.limits.TheConstants.{MAX_REDUCTIONS, MAX_BLOCKS, MAX_TABLES}
+use Rattle.tp_value.specs.declared.limits.TheConstants.{MAX_ACTIVATION_CELLS, MAX_CARRIES}
+use Rattle.tp_value.specs.declared.limits.TheConstants.{MAX_PARAMETERS}
+use Rattle.expr_lower.specs.Registers.{value_registers}
 use Rattle.tpal_syntax.specs.declared.notes.CarryAt.{CarryAt}
 use Rattle.tpal_syntax.specs.declared.notes.CarryAt.TheVariants as carry
 use Rattle.tpal_syntax.specs.declared.sites.CallSite.{CallSite}
@@ -21,10 +25,11 @@ abbrev pub is_of_cells : CarryAt → Bool
 is_of_cells (carry.Rows table at) = false
 is_of_cells (carry.Cells table row at) = true
 
--- a carry is of one of 16 tables, by registers below 24
+-- a carry is of a table of a code, by registers of values
 abbrev pub IsLowCarry : CarryAt → Type 0
-IsLowCarry (carry.Rows table at) = (table < 16) × (at < 24)
-IsLowCarry (carry.Cells table row at) = (table < 16) × (row < 24) × (at < 24)
+IsLowCarry (carry.Rows table at) = (table < MAX_TABLES) × (at < value_registers)
+IsLowCarry (carry.Cells table row at) =
+    (table < MAX_TABLES) × (row < value_registers) × (at < value_registers)
 
 -- a register isn't that of a carry's row, where it has one
 abbrev pub IsNoRow : CarryAt → ℕ → Type 0
@@ -39,12 +44,12 @@ loop_cells site = site.cursor ∷ site.bound ∷ site.rec ∷ map (λ (a : ℕ �
 
 -- the site of a parallel loop
 pub record IsLoopSite (site : LoopSite) : Type 0 where
-  pub label : site.label < 65536
-  pub cells : site.cells ≤ 512
+  pub label : site.label < MAX_BLOCKS
+  pub cells : site.cells ≤ MAX_ACTIVATION_CELLS
   pub offsets : All (λ off. off < site.cells) (site.mark ∷ loop_cells site)
   pub offsets_differ : AllPairs (λ a b. a ≢ b) (loop_cells site)
-  pub few_accs : length site.accs ≤ 8
-  pub few_carries : length site.carries ≤ 4
+  pub few_accs : length site.accs ≤ MAX_REDUCTIONS
+  pub few_carries : length site.carries ≤ MAX_CARRIES
   pub carries : All IsLowCarry site.carries
   pub tables_differ : AllPairs (λ c d. table_of c ≢ table_of d) site.carries
   pub rows_stay : All (λ c. All (λ d. IsNoRow c (at_of d)) site.carries) site.carries
@@ -55,12 +60,12 @@ call_cells site = site.rec ∷ site.args
 
 -- the site of a pair of calls
 pub record IsCallSite (site : CallSite) : Type 0 where
-  pub label : site.label < 65536
-  pub entry : site.entry < 65536
-  pub cells : site.cells ≤ 512
+  pub label : site.label < MAX_BLOCKS
+  pub entry : site.entry < MAX_BLOCKS
+  pub cells : site.cells ≤ MAX_ACTIVATION_CELLS
   pub offsets : All (λ off. off < site.cells) (site.mark ∷ call_cells site)
   pub offsets_differ : AllPairs (λ a b. a ≢ b) (call_cells site)
-  pub few_args : length site.args ≤ 8
+  pub few_args : length site.args ≤ MAX_PARAMETERS
 
 -- ---- labels
 

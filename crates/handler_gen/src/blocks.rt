@@ -1,6 +1,7 @@
 // Blocks at their labels, and those that both handlers have.
 
 ghost use Rattle.std.specs.Prelude.{◌≡◌, ℕ, ◌<◌, ◌++◌, List, Some, IfOk, OnOk};
+ghost use Rattle.tp_value.specs.declared.limits.TheConstants.{MAX_BLOCKS};
 ghost use Rattle.tpal_syntax.specs.Conditions.{IsBlock};
 ghost use Rattle.tpal_syntax.specs.declared.blocks.CodeTable.{CodeTable};
 ghost use Rattle.tpal_syntax.specs.Listing.{Listing};
@@ -9,6 +10,7 @@ ghost use Rattle.handler_gen.specs.Blocks as blocks;
 ghost use Rattle.handler_gen.specs.Dispatching.{Dispatches};
 
 use crate::labels::{back_label, target_label};
+use crate::registers::{BACK, CUT, RECORD, SPLIT, TEST};
 use expr_lower::name_of;
 use std::alloc::Global;
 use tp_value::{Items, NoMemory};
@@ -39,17 +41,23 @@ fn dispatch_block(alloc: Global, label: u32) -> Result<Block, NoMemory>
 {
     let body = vec![in alloc;
         Instr::PrmSplit {
-            base: 28,
-            split: 29
+            base: CUT,
+            split: SPLIT
         },
     ]?;
-    block_of(alloc, label, Note::Plain, body, Term::Jump(Value::Reg(29)))
+    block_of(
+        alloc,
+        label,
+        Note::Plain,
+        body,
+        Term::Jump(Value::Reg(SPLIT)),
+    )
 }
 
 /// The block to which each beat goes, at a label. In a code that has it there a task in which a
 /// mark stands comes to the split label of the oldest mark, with that mark's base in r28.
 pub fn dispatch(alloc: Global, label: u32) -> Result<Block, NoMemory>
-    requires label { label < 65536 }
+    requires label { label < MAX_BLOCKS }
     ensures block { IfOk result (λ block. block ≡ blocks.dispatch_block label) }
     ensures dispatches { IfOk result (λ block. (code : Listing) (heartbeat : ℕ)
         → block_at code label ≡ Some block
@@ -63,21 +71,21 @@ pub fn dispatch(alloc: Global, label: u32) -> Result<Block, NoMemory>
 
 /// Appends the instructions that ask for a join record in r24, and go back where there is none.
 pub fn push_ask(body: &mut Vec<Instr>, label: u32) -> Result<(), NoMemory>
-    requires label { label < 65536 }
+    requires label { label < MAX_BLOCKS }
     ensures { OnOk result (body.new.items ≡ body.old.items ++ blocks.ask label) }
 {
     body.push(Instr::JrAlloc {
-        to: 24,
+        to: RECORD,
         target: target_label(label),
     })?;
     body.push(Instr::Calc {
-        to: 27,
-        left: 24,
+        to: TEST,
+        left: RECORD,
         alu: Alu::Eq,
         right: Value::Nil,
     })?;
     body.push(Instr::IfJump {
-        test: 27,
+        test: TEST,
         label: back_label(label),
     })?;
     Ok(())
@@ -85,9 +93,9 @@ pub fn push_ask(body: &mut Vec<Instr>, label: u32) -> Result<(), NoMemory>
 
 /// The block that goes back to where the beat came.
 pub fn back_block(alloc: Global, label: u32) -> Result<Block, NoMemory>
-    requires label { label < 65536 }
+    requires label { label < MAX_BLOCKS }
     ensures { IfOk result (λ block. block ≡ blocks.back_block label) }
 {
-    let back = Term::Jump(Value::Reg(30));
+    let back = Term::Jump(Value::Reg(BACK));
     block_of(alloc, back_label(label), Note::Plain, Vec::new(alloc), back)
 }

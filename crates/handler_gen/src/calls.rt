@@ -1,6 +1,7 @@
 // The handler of a pair of calls.
 
 ghost use Rattle.std.specs.Prelude.{◌≡◌, ℕ, ◌++◌, ◌<◌, List, IfOk, OnOk};
+ghost use Rattle.tp_value.specs.declared.limits.TheConstants.{MAX_BLOCKS};
 ghost use Rattle.tpal_syntax.specs.declared.blocks.CodeTable.{CodeTable};
 ghost use Rattle.expr_lower.specs.Standing.{AreAt};
 ghost use Rattle.tpal_syntax.specs.Listing.{Listing};
@@ -11,43 +12,45 @@ ghost use Rattle.handler_gen.specs.Sites.{IsCallSite};
 
 use crate::blocks::{back_block, block_of, push_ask};
 use crate::labels::{back_label, child_label, left_end_label};
+use crate::registers::{CUT, RECORD};
+use expr_lower::BASE;
 use std::alloc::Global;
 use tp_value::NoMemory;
 use tpal_syntax::{Alu, Block, CallSite, Instr, Note, Term, Value};
 
 // Appends what the left does behind the fork: it will return to where it ends, and has its record.
 fn push_left_returns(body: &mut Vec<Instr>, site: &CallSite) -> Result<(), NoMemory>
-    requires label { site.now.label < 65536 }
+    requires label { site.now.label < MAX_BLOCKS }
     ensures { OnOk result (body.new.items ≡ body.old.items ++ blocks.left_returns site.now) }
 {
     body.push(Instr::Calc {
-        to: 28,
-        left: 28,
+        to: CUT,
+        left: CUT,
         alu: Alu::Add,
         right: Value::Int(site.cells as i64),
     })?;
     body.push(Instr::Store {
-        base: 28,
+        base: CUT,
         off: 0,
         value: Value::Label(left_end_label(site.label)),
     })?;
     body.push(Instr::Store {
-        base: 28,
+        base: CUT,
         off: 1,
-        value: Value::Reg(24),
+        value: Value::Reg(RECORD),
     })?;
     Ok(())
 }
 
 // The block that cuts.
 fn cut_block(alloc: Global, site: &CallSite) -> Result<Block, NoMemory>
-    requires label { site.now.label < 65536 }
+    requires label { site.now.label < MAX_BLOCKS }
     ensures { IfOk result (λ block. block ≡ blocks.call_cut_block site.now) }
 {
     let mut body = Vec::new(alloc);
     push_ask(&mut body, site.label)?;
     body.push(Instr::Fork {
-        rec: 24,
+        rec: RECORD,
         child: child_label(site.label),
     })?;
     push_left_returns(&mut body, site)?;
@@ -57,13 +60,13 @@ fn cut_block(alloc: Global, site: &CallSite) -> Result<Block, NoMemory>
 
 // The block where the child begins.
 fn child_block(alloc: Global, site: &CallSite) -> Result<Block, NoMemory>
-    requires label { site.now.label < 65536 }
+    requires label { site.now.label < MAX_BLOCKS }
     ensures { IfOk result (λ block. block ≡ blocks.call_child_block site.now) }
 {
     let record = Instr::Store {
-        base: 31,
+        base: BASE,
         off: site.rec,
-        value: Value::Reg(24),
+        value: Value::Reg(RECORD),
     };
     let second = Term::Jump(Value::Label(site.entry));
     let body = vec![in alloc; record]?;
@@ -72,7 +75,7 @@ fn child_block(alloc: Global, site: &CallSite) -> Result<Block, NoMemory>
 
 // The blocks of the handler of a pair of calls.
 fn handler_blocks(alloc: Global, site: &CallSite) -> Result<Vec<Block>, NoMemory>
-    requires label { site.now.label < 65536 }
+    requires label { site.now.label < MAX_BLOCKS }
     ensures { IfOk result (λ v. v.items ≡ blocks.call_handler_blocks site.now) }
 {
     let mut all = Vec::new(alloc);

@@ -10,6 +10,7 @@ mod calls;
 mod labels;
 mod laws;
 mod loops;
+mod registers;
 
 pub use blocks::{block_of, dispatch};
 pub use calls::call_handler;
@@ -19,6 +20,7 @@ pub use labels::{
 };
 pub use laws::{cuts_frame, cuts_pair};
 pub use loops::loop_handler;
+pub use registers::{BACK, CUT, MIDDLE, NEXT, OTHER_RECORD, RECORD, SPLIT, TEST};
 
 #[cfg(test)]
 mod tests;

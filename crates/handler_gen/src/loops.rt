@@ -1,6 +1,7 @@
 // The handler of a parallel loop.
 
 ghost use Rattle.std.specs.Prelude.{◌≡◌, ℕ, ◌++◌, ◌<◌, ◌∷◌, [], List, IfOk, OnOk};
+ghost use Rattle.tp_value.specs.declared.limits.TheConstants.{MAX_BLOCKS};
 ghost use Rattle.tpal_syntax.specs.declared.blocks.CodeTable.{CodeTable};
 ghost use Rattle.expr_lower.specs.Standing.{AreAt};
 ghost use Rattle.tpal_syntax.specs.Listing.{Listing};
@@ -12,6 +13,8 @@ ghost use Rattle.handler_gen.specs.Sites as sites;
 
 use crate::blocks::{back_block, block_of, push_ask};
 use crate::labels::{back_label, child_label, first_label, none_label, split_label};
+use crate::registers::{CUT, MIDDLE, NEXT, RECORD, TEST};
+use expr_lower::BASE;
 use reduce_ops::unit;
 use std::alloc::Global;
 use tp_value::{NoMemory, Op};
@@ -31,37 +34,38 @@ fn at_of(carry: CarryAt) -> u8
     }
 }
 
-// Appends a calculation on r25 in place.
+// Appends a calculation on the place of the cut.
 fn push_on_middle(body: &mut Vec<Instr>, alu: Alu, right: Value) -> Result<(), NoMemory>
     ensures { OnOk result
         (body.new.items ≡ body.old.items ++ blocks.on_middle alu right ∷ []) }
 {
     body.push(Instr::Calc {
-        to: 25,
-        left: 25,
+        to: MIDDLE,
+        left: MIDDLE,
         alu,
         right,
     })?;
     Ok(())
 }
 
-// Appends the instructions that leave the place of the cut in r25, and the next iteration in r26.
+// Appends the instructions that leave the place of the cut and the next iteration in their
+// registers.
 fn push_middle(body: &mut Vec<Instr>, site: &LoopSite) -> Result<(), NoMemory>
     ensures { OnOk result (body.new.items ≡ body.old.items ++ blocks.middle site.now) }
 {
     body.push(Instr::Load {
-        to: 26,
-        base: 28,
+        to: NEXT,
+        base: CUT,
         off: site.cursor,
     })?;
     body.push(Instr::Load {
-        to: 25,
-        base: 28,
+        to: MIDDLE,
+        base: CUT,
         off: site.bound,
     })?;
-    push_on_middle(body, Alu::Sub, Value::Reg(26))?;
+    push_on_middle(body, Alu::Sub, Value::Reg(NEXT))?;
     push_on_middle(body, Alu::Div, Value::Int(2))?;
-    push_on_middle(body, Alu::Add, Value::Reg(26))
+    push_on_middle(body, Alu::Add, Value::Reg(NEXT))
 }
 
 // Appends the moves of the place of the cut to the registers of the carries.
@@ -71,7 +75,7 @@ fn push_cut_places(body: &mut Vec<Instr>, carries: &[CarryAt]) -> Result<(), NoM
     for carry in carries {
         body.push(Instr::Move {
             to: at_of(*carry),
-            value: Value::Reg(25),
+            value: Value::Reg(MIDDLE),
         })?;
     }
     Ok(())
@@ -80,27 +84,27 @@ fn push_cut_places(body: &mut Vec<Instr>, carries: &[CarryAt]) -> Result<(), NoM
 // Appends what the left does behind the fork: its record and its end, and its mark goes where no
 // iteration is left to it.
 fn push_left_begins(body: &mut Vec<Instr>, site: &LoopSite) -> Result<(), NoMemory>
-    requires label { site.now.label < 65536 }
+    requires label { site.now.label < MAX_BLOCKS }
     ensures { OnOk result (body.new.items ≡ body.old.items ++ blocks.left_begins site.now) }
 {
     body.push(Instr::Store {
-        base: 28,
+        base: CUT,
         off: site.rec,
-        value: Value::Reg(24),
+        value: Value::Reg(RECORD),
     })?;
     body.push(Instr::Store {
-        base: 28,
+        base: CUT,
         off: site.bound,
-        value: Value::Reg(25),
+        value: Value::Reg(MIDDLE),
     })?;
     body.push(Instr::Calc {
-        to: 27,
-        left: 26,
+        to: TEST,
+        left: NEXT,
         alu: Alu::Lt,
-        right: Value::Reg(25),
+        right: Value::Reg(MIDDLE),
     })?;
     body.push(Instr::IfJump {
-        test: 27,
+        test: TEST,
         label: back_label(site.label),
     })?;
     body.push(Instr::PrmDrop)?;
@@ -109,7 +113,7 @@ fn push_left_begins(body: &mut Vec<Instr>, site: &LoopSite) -> Result<(), NoMemo
 
 // The block that cuts.
 fn cut_block(alloc: Global, site: &LoopSite) -> Result<Block, NoMemory>
-    requires label { site.now.label < 65536 }
+    requires label { site.now.label < MAX_BLOCKS }
     ensures { IfOk result (λ block. block ≡ blocks.loop_cut_block site.now) }
 {
     let mut body = Vec::new(alloc);
@@ -117,7 +121,7 @@ fn cut_block(alloc: Global, site: &LoopSite) -> Result<Block, NoMemory>
     push_middle(&mut body, site)?;
     push_cut_places(&mut body, site.carries.items())?;
     body.push(Instr::Fork {
-        rec: 24,
+        rec: RECORD,
         child: child_label(site.label),
     })?;
     push_left_begins(&mut body, site)?;
@@ -131,7 +135,7 @@ fn push_units(body: &mut Vec<Instr>, accs: &[(u16, Op)]) -> Result<(), NoMemory>
 {
     for acc in accs {
         body.push(Instr::Store {
-            base: 31,
+            base: BASE,
             off: acc.0,
             value: Value::Int(unit(acc.1)),
         })?;
@@ -141,23 +145,23 @@ fn push_units(body: &mut Vec<Instr>, accs: &[(u16, Op)]) -> Result<(), NoMemory>
 
 // The block where the child begins.
 fn child_block(alloc: Global, site: &LoopSite) -> Result<Block, NoMemory>
-    requires label { site.now.label < 65536 }
+    requires label { site.now.label < MAX_BLOCKS }
     ensures { IfOk result (λ block. block ≡ blocks.loop_child_block site.now) }
 {
     let mut body = Vec::new(alloc);
     body.push(Instr::Store {
-        base: 31,
+        base: BASE,
         off: site.rec,
-        value: Value::Reg(24),
+        value: Value::Reg(RECORD),
     })?;
     body.push(Instr::Store {
-        base: 31,
+        base: BASE,
         off: site.cursor,
-        value: Value::Reg(25),
+        value: Value::Reg(MIDDLE),
     })?;
     push_units(&mut body, site.accs.items())?;
     body.push(Instr::PrmPush {
-        base: 31,
+        base: BASE,
         off: site.mark,
         cells: site.cells,
         split: split_label(site),
@@ -168,7 +172,7 @@ fn child_block(alloc: Global, site: &LoopSite) -> Result<Block, NoMemory>
 
 // The blocks of a loop's handler.
 fn handler_blocks(alloc: Global, site: &LoopSite) -> Result<Vec<Block>, NoMemory>
-    requires label { site.now.label < 65536 }
+    requires label { site.now.label < MAX_BLOCKS }
     ensures { IfOk result (λ v. v.items ≡ blocks.loop_handler_blocks site.now) }
 {
     let mut all = Vec::new(alloc);

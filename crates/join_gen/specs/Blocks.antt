@@ -1,5 +1,8 @@
 -- The blocks where the sides of a loop and of a pair of calls end, meet and are combined.
 use Rattle.std.specs.Prelude.{ℕ, ◌+◌, pos, List, [], ◌∷◌}
+use Rattle.tp_value.specs.declared.limits.TheConstants.{MAX_REDUCTIONS}
+use Rattle.expr_lower.specs.Registers.{base_register}
+use Rattle.handler_gen.specs.Registers.{record_register}
 use Rattle.tp_value.specs.declared.Op.{Op}
 use Rattle.tp_value.specs.declared.Op.TheVariants as op
 use Rattle.tpal_syntax.specs.declared.blocks.Block.{Block}
@@ -29,13 +32,14 @@ alu_of op.Affine = alu.Affine
 -- the accumulators, in registers from one on
 abbrev pub loads_from : ℕ → List (ℕ × Op) → List Instr
 loads_from r [] = []
-loads_from r (a ∷ accs) = instr.Load r 31 a.0 ∷ loads_from (r + 1) accs
+loads_from r (a ∷ accs) = instr.Load r base_register a.0 ∷ loads_from (r + 1) accs
 
 -- each accumulator of the left with that of the right, the left one first, in its cell
 abbrev pub combines_from : ℕ → List (ℕ × Op) → List Instr
 combines_from r [] = []
 combines_from r (a ∷ accs) =
-    instr.Calc r r (alu_of a.1) (value.Reg (8 + r)) ∷ instr.Store 31 a.0 (value.Reg r)
+    instr.Calc r r (alu_of a.1) (value.Reg (MAX_REDUCTIONS + r))
+    ∷ instr.Store base_register a.0 (value.Reg r)
     ∷ combines_from (r + 1) accs
 
 -- both sides meet, and go on where no iteration is left
@@ -47,12 +51,13 @@ loop_target_block site =
 -- combines the accumulators of both sides, and goes on by the record in r24
 abbrev pub loop_comb_block : LoopSite → Block
 loop_comb_block site =
-    block_of (comb_label site.label) note.Plain (combines_from 0 site.accs) (term.Join 24)
+    block_of (comb_label site.label) note.Plain (combines_from 0 site.accs)
+    (term.Join record_register)
 
 -- ends a side, whose record is in r24
 abbrev pub side_block : LoopSite → Block
 side_block site =
-    block_of (side_label site.label) note.Plain (loads_from 0 site.accs) (term.Join 24)
+    block_of (side_label site.label) note.Plain (loads_from 0 site.accs) (term.Join record_register)
 
 abbrev pub loop_join_blocks : LoopSite → List Block
 loop_join_blocks site = loop_target_block site ∷ loop_comb_block site ∷ side_block site ∷ []
@@ -67,20 +72,22 @@ call_target_block site =
 
 -- goes on by the record in r24: there is nothing to combine
 abbrev pub call_comb_block : CallSite → Block
-call_comb_block site = block_of (comb_label site.label) note.Plain [] (term.Join 24)
+call_comb_block site = block_of (comb_label site.label) note.Plain [] (term.Join record_register)
 
 -- ends the child, to which the second function has returned, by the record of its activation
 abbrev pub child_end_block : CallSite → Block
 child_end_block site =
     block_of (child_end_label site.label) note.Plain
-    (instr.Calc 31 31 alu.Sub (value.Int (pos site.cells)) ∷ instr.Load 24 31 site.rec ∷ [])
-    (term.Join 24)
+    (instr.Calc base_register base_register alu.Sub (value.Int (pos site.cells))
+    ∷ instr.Load record_register base_register site.rec ∷ [])
+    (term.Join record_register)
 
 -- ends the left, to which the first function has returned, by the record of that function's
 -- activation
 abbrev pub left_end_block : CallSite → Block
 left_end_block site =
-    block_of (left_end_label site.label) note.Plain (instr.Load 24 31 1 ∷ []) (term.Join 24)
+    block_of (left_end_label site.label) note.Plain
+    (instr.Load record_register base_register 1 ∷ []) (term.Join record_register)
 
 abbrev pub call_join_blocks : CallSite → List Block
 call_join_blocks site =

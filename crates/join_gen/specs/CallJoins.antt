@@ -1,5 +1,8 @@
 -- How the sides of a pair of calls end, and how they meet.
 use Rattle.std.specs.Prelude.{◌≡◌, ◌≤◌, ℕ, ◌+◌, ◌^◌, pos, false, List, [], ◌∷◌, length, Some, None}
+use Rattle.tp_value.specs.declared.limits.TheConstants.{REGISTERS}
+use Rattle.expr_lower.specs.Registers.{base_register}
+use Rattle.handler_gen.specs.Registers.{record_register}
 use Rattle.beat_count.specs.BeatState.{BeatState}
 use Rattle.stack_marks.specs.Stacks.{word_at}
 use Rattle.tp_value.specs.declared.values.Stop.TheVariants.{Done}
@@ -27,7 +30,7 @@ call_side value k state = record {
   stop = Done;
   ticks = state.fuel.ticks;
   output = state.output;
-  words = (0, value) ∷ (24, Rec k) ∷ [];
+  words = (0, value) ∷ (record_register, Rec k) ∷ [];
   slices = [];
 }
 
@@ -37,8 +40,8 @@ pub record HasReturned (site : CallSite) (label position k : ℕ) (side : SideNa
     (state : State) : Type 0 where
   pub block : state.block ≡ label
   pub at : state.at ≡ 0
-  pub size : length state.registers ≡ 32
-  pub base : register state.registers 31 ≡ Int (pos position)
+  pub size : length state.registers ≡ REGISTERS
+  pub base : register state.registers base_register ≡ Int (pos position)
   pub value : register state.registers 0 ≡ given
   pub goal : state.goal ≡ goal.At k side (target_label site.label)
   pub free : state.pending ≡ None
@@ -48,16 +51,16 @@ pub record HasReturned (site : CallSite) (label position k : ℕ) (side : SideNa
 pub record AreSidesOfCalls (site : CallSite) (first second : Word) (rest : RestState)
     (left right : Side) : Type 0 where
   pub target : rest.target ≡ target_label site.label
-  pub left_words : left.words ≡ (0, first) ∷ (24, Rec rest.rec) ∷ []
-  pub right_words : right.words ≡ (0, second) ∷ (24, Rec rest.rec) ∷ []
+  pub left_words : left.words ≡ (0, first) ∷ (record_register, Rec rest.rec) ∷ []
+  pub right_words : right.words ≡ (0, second) ∷ (record_register, Rec rest.rec) ∷ []
 
 -- The task that both sides merge to goes on with both values, in the activation that was cut.
 pub record Meets (code : Listing) (heartbeat : ℕ) (site : CallSite) (first second : Word)
     (rest : RestState) (merged_state : State) : Type 0 where
   pub words : List Word
   pub beat : BeatState
-  pub size : length words ≡ 32
-  pub base : register words 31 ≡ Int (pos rest.base)
+  pub size : length words ≡ REGISTERS
+  pub base : register words base_register ≡ Int (pos rest.base)
   pub first_value : register words 0 ≡ first
   pub second_value : register words 1 ≡ second
   pub loud : beat.quiet ≡ false

@@ -1,6 +1,9 @@
 -- How the sides of a loop end, and how they are combined.
 use Rattle.std.specs.Prelude.{◌≡◌, ℕ, ◌+◌, ℤ, pos, Bool, false, ⊤, List, [], ◌∷◌, ◌++◌, map, length}
 use Rattle.std.specs.Prelude.{Some, None}
+use Rattle.tp_value.specs.declared.limits.TheConstants.{REGISTERS}
+use Rattle.expr_lower.specs.Registers.{base_register}
+use Rattle.handler_gen.specs.Registers.{record_register}
 use Rattle.beat_count.specs.BeatState.{BeatState}
 use Rattle.frame_machine.specs.Splitting.{merged}
 use Rattle.stack_marks.specs.Causes.{Holds}
@@ -55,7 +58,7 @@ loop_side site values k state = record {
   stop = Done;
   ticks = state.fuel.ticks;
   output = state.output;
-  words = words_from 0 values ++ (24, Rec k) ∷ [];
+  words = words_from 0 values ++ (record_register, Rec k) ∷ [];
   slices = slices_of state.tables site.carries;
 }
 
@@ -65,9 +68,9 @@ pub record IsAtSide (site : LoopSite) (z k : ℕ) (side : SideName) (values : Li
     (state : State) : Type 0 where
   pub block : state.block ≡ side_label site.label
   pub at : state.at ≡ 0
-  pub size : length state.registers ≡ 32
-  pub base : register state.registers 31 ≡ Int (pos z)
-  pub rec : register state.registers 24 ≡ Rec k
+  pub size : length state.registers ≡ REGISTERS
+  pub base : register state.registers base_register ≡ Int (pos z)
+  pub rec : register state.registers record_register ≡ Rec k
   pub goal : state.goal ≡ goal.At k side (target_label site.label)
   pub free : state.pending ≡ None
   pub unmet : state.met ≡ None
@@ -88,7 +91,7 @@ ops_of accs = map (λ (a : ℕ × Op). a.1) accs
 
 -- the words of accumulators that are numbers, with the record of a side
 abbrev pub handed : List ℤ → ℕ → List (ℕ × Word)
-handed numbers k = words_from 0 (map (λ (n : ℤ). Int n) numbers) ++ (24, Rec k) ∷ []
+handed numbers k = words_from 0 (map (λ (n : ℤ). Int n) numbers) ++ (record_register, Rec k) ∷ []
 
 -- A rest and two sides of a loop: the sides hand over their accumulators and the rest's record, and
 -- the activation that was cut is on the rest's stack.
@@ -107,8 +110,8 @@ pub record Combines (code : Listing) (heartbeat : ℕ) (site : LoopSite) (lefts 
     (rest : RestState) (merged_state : State) : Type 0 where
   pub words : List Word
   pub beat : BeatState
-  pub size : length words ≡ 32
-  pub base : register words 31 ≡ Int (pos rest.base)
+  pub size : length words ≡ REGISTERS
+  pub base : register words base_register ≡ Int (pos rest.base)
   pub loud : beat.quiet ≡ false
   pub granted : beat.granted ≡ false
   pub comes : Reaches code heartbeat merged_state

@@ -1,6 +1,7 @@
 // The join of a pair of calls.
 
 ghost use Rattle.std.specs.Prelude.{◌≡◌, ℕ, ◌<◌, List, IfOk};
+ghost use Rattle.tp_value.specs.declared.limits.TheConstants.{MAX_BLOCKS};
 ghost use Rattle.tpal_syntax.specs.declared.blocks.CodeTable.{CodeTable};
 ghost use Rattle.tpal_syntax.specs.Listing.{Listing};
 ghost use Rattle.expr_lower.specs.Standing.{AreAt};
@@ -9,8 +10,10 @@ ghost use Rattle.handler_gen.specs.Sites.{IsCallSite, target_label};
 ghost use Rattle.join_gen.specs.Blocks as blocks;
 ghost use Rattle.join_gen.specs.CallJoins.{IsRoundMeeting, JoinsCalls};
 
+use expr_lower::BASE;
 use handler_gen::{
-    block_of, child_end_label, comb_label, joined_label, left_end_label, target_label,
+    OTHER_RECORD, RECORD, block_of, child_end_label, comb_label, joined_label, left_end_label,
+    target_label,
 };
 use std::alloc::Global;
 use tp_value::{Items, NoMemory};
@@ -18,12 +21,12 @@ use tpal_syntax::{Alu, Block, CallSite, CutKind, Instr, Note, Target, Term, Valu
 
 // The block where both sides meet.
 fn target_block(alloc: Global, site: &CallSite) -> Result<Block, NoMemory>
-    requires label { site.now.label < 65536 }
+    requires label { site.now.label < MAX_BLOCKS }
     ensures { IfOk result (λ block. block ≡ blocks.call_target_block site.now) }
 {
     let target = Target {
         comm: false,
-        renames: Items::new(vec![in alloc; (0, 1), (24, 25)]?),
+        renames: Items::new(vec![in alloc; (0, 1), (RECORD, OTHER_RECORD)]?),
         comb: comb_label(site.label),
         kind: CutKind::Call,
         carries: Items::new(Vec::new(alloc)),
@@ -40,49 +43,55 @@ fn target_block(alloc: Global, site: &CallSite) -> Result<Block, NoMemory>
 
 // The block where the child ends.
 fn child_end_block(alloc: Global, site: &CallSite) -> Result<Block, NoMemory>
-    requires label { site.now.label < 65536 }
+    requires label { site.now.label < MAX_BLOCKS }
     ensures { IfOk result (λ block. block ≡ blocks.child_end_block site.now) }
 {
     let mut body = Vec::new(alloc);
     body.push(Instr::Calc {
-        to: 31,
-        left: 31,
+        to: BASE,
+        left: BASE,
         alu: Alu::Sub,
         right: Value::Int(site.cells as i64),
     })?;
     body.push(Instr::Load {
-        to: 24,
-        base: 31,
+        to: RECORD,
+        base: BASE,
         off: site.rec,
     })?;
     let label = child_end_label(site.label);
-    block_of(alloc, label, Note::Plain, body, Term::Join(24))
+    block_of(alloc, label, Note::Plain, body, Term::Join(RECORD))
 }
 
 // The block where the left ends.
 fn left_end_block(alloc: Global, site: &CallSite) -> Result<Block, NoMemory>
-    requires label { site.now.label < 65536 }
+    requires label { site.now.label < MAX_BLOCKS }
     ensures { IfOk result (λ block. block ≡ blocks.left_end_block site.now) }
 {
     let record = Instr::Load {
-        to: 24,
-        base: 31,
+        to: RECORD,
+        base: BASE,
         off: 1,
     };
     let label = left_end_label(site.label);
     let body = vec![in alloc; record]?;
-    block_of(alloc, label, Note::Plain, body, Term::Join(24))
+    block_of(alloc, label, Note::Plain, body, Term::Join(RECORD))
 }
 
 // The blocks of the join of a pair of calls.
 fn join_blocks(alloc: Global, site: &CallSite) -> Result<Vec<Block>, NoMemory>
-    requires label { site.now.label < 65536 }
+    requires label { site.now.label < MAX_BLOCKS }
     ensures { IfOk result (λ v. v.items ≡ blocks.call_join_blocks site.now) }
 {
     let comb = comb_label(site.label);
     let mut all = Vec::new(alloc);
     all.push(target_block(alloc, site)?)?;
-    all.push(block_of(alloc, comb, Note::Plain, Vec::new(alloc), Term::Join(24))?)?;
+    all.push(block_of(
+        alloc,
+        comb,
+        Note::Plain,
+        Vec::new(alloc),
+        Term::Join(RECORD),
+    )?)?;
     all.push(child_end_block(alloc, site)?)?;
     all.push(left_end_block(alloc, site)?)?;
     Ok(all)

@@ -1,18 +1,23 @@
 // The join of a parallel loop.
 
 ghost use Rattle.std.specs.Prelude.{◌≡◌, ℕ, ◌≤◌, ◌++◌, ◌∷◌, [], ◌<◌, List, length, IfOk};
+ghost use Rattle.tp_value.specs.declared.limits.TheConstants.{MAX_BLOCKS, MAX_REDUCTIONS};
 ghost use Rattle.tpal_syntax.specs.declared.blocks.CodeTable.{CodeTable};
 ghost use Rattle.tpal_syntax.specs.Listing.{Listing};
 ghost use Rattle.expr_lower.specs.Standing.{AreAt};
 ghost use Rattle.handler_gen.specs.Sites.{IsLoopSite, target_label};
 ghost use Rattle.handler_gen.specs.Blocks.{renames_from};
 ghost use Rattle.handler_gen.specs.Fitting.{AreBlocksOf, HasLoopPlaces};
+ghost use Rattle.handler_gen.specs.Registers.{other_record, record_register};
 ghost use Rattle.join_gen.specs.Blocks as blocks;
 ghost use Rattle.join_gen.specs.LoopJoins.{IsRoundJoin, JoinsLoop};
 
-use handler_gen::{block_of, comb_label, over_label, side_label, target_label};
+use expr_lower::BASE;
+use handler_gen::{
+    OTHER_RECORD, RECORD, block_of, comb_label, over_label, side_label, target_label,
+};
 use std::alloc::Global;
-use tp_value::{Items, NoMemory, Op};
+use tp_value::{Items, MAX_REDUCTIONS, NoMemory, Op};
 use tpal_syntax::{Alu, Block, CutKind, Instr, LoopSite, Note, Target, Term, Value};
 
 /// The calculation that an operator is.
@@ -31,21 +36,22 @@ pub fn alu_of(op: Op) -> Alu
 // The registers that a side hands over, and those in which the right's are found: those of so many
 // accumulators, and that of the record.
 fn renames(alloc: Global, accs: &[(u16, Op)]) -> Result<Vec<(u8, u8)>, NoMemory>
-    requires few { length accs.now ≤ 8 }
-    ensures { IfOk result (λ v. v.items ≡ renames_from 0 accs.now ++ (24, 25) ∷ []) }
+    requires few { length accs.now ≤ MAX_REDUCTIONS }
+    ensures { IfOk result
+        (λ v. v.items ≡ renames_from 0 accs.now ++ (record_register, other_record) ∷ []) }
 {
     let mut all = Vec::new(alloc);
     for r in 0..accs.len() {
-        all.push((r as u8, 8 + r as u8))?;
+        all.push((r as u8, MAX_REDUCTIONS as u8 + r as u8))?;
     }
-    all.push((24, 25))?;
+    all.push((RECORD, OTHER_RECORD))?;
     Ok(all)
 }
 
 // The block where both sides meet.
 fn target_block(alloc: Global, site: &LoopSite) -> Result<Block, NoMemory>
-    requires label { site.now.label < 65536 }
-    requires few { length site.now.accs ≤ 8 }
+    requires label { site.now.label < MAX_BLOCKS }
+    requires few { length site.now.accs ≤ MAX_REDUCTIONS }
     ensures { IfOk result (λ block. block ≡ blocks.loop_target_block site.now) }
 {
     let target = Target {
@@ -67,8 +73,8 @@ fn target_block(alloc: Global, site: &LoopSite) -> Result<Block, NoMemory>
 
 // The block that combines the accumulators.
 fn comb_block(alloc: Global, site: &LoopSite) -> Result<Block, NoMemory>
-    requires label { site.now.label < 65536 }
-    requires few { length site.now.accs ≤ 8 }
+    requires label { site.now.label < MAX_BLOCKS }
+    requires few { length site.now.accs ≤ MAX_REDUCTIONS }
     ensures { IfOk result (λ block. block ≡ blocks.loop_comb_block site.now) }
 {
     let mut body = Vec::new(alloc);
@@ -78,22 +84,22 @@ fn comb_block(alloc: Global, site: &LoopSite) -> Result<Block, NoMemory>
             to: r as u8,
             left: r as u8,
             alu: alu_of(accs[r].1),
-            right: Value::Reg(8 + r as u8),
+            right: Value::Reg(MAX_REDUCTIONS as u8 + r as u8),
         })?;
         body.push(Instr::Store {
-            base: 31,
+            base: BASE,
             off: accs[r].0,
             value: Value::Reg(r as u8),
         })?;
     }
     let label = comb_label(site.label);
-    block_of(alloc, label, Note::Plain, body, Term::Join(24))
+    block_of(alloc, label, Note::Plain, body, Term::Join(RECORD))
 }
 
 // The block where a side ends.
 fn side_block(alloc: Global, site: &LoopSite) -> Result<Block, NoMemory>
-    requires label { site.now.label < 65536 }
-    requires few { length site.now.accs ≤ 8 }
+    requires label { site.now.label < MAX_BLOCKS }
+    requires few { length site.now.accs ≤ MAX_REDUCTIONS }
     ensures { IfOk result (λ block. block ≡ blocks.side_block site.now) }
 {
     let mut body = Vec::new(alloc);
@@ -101,18 +107,18 @@ fn side_block(alloc: Global, site: &LoopSite) -> Result<Block, NoMemory>
     for r in 0..accs.len() {
         body.push(Instr::Load {
             to: r as u8,
-            base: 31,
+            base: BASE,
             off: accs[r].0,
         })?;
     }
     let label = side_label(site.label);
-    block_of(alloc, label, Note::Plain, body, Term::Join(24))
+    block_of(alloc, label, Note::Plain, body, Term::Join(RECORD))
 }
 
 // The blocks of a loop's join.
 fn join_blocks(alloc: Global, site: &LoopSite) -> Result<Vec<Block>, NoMemory>
-    requires label { site.now.label < 65536 }
-    requires few { length site.now.accs ≤ 8 }
+    requires label { site.now.label < MAX_BLOCKS }
+    requires few { length site.now.accs ≤ MAX_REDUCTIONS }
     ensures { IfOk result (λ v. v.items ≡ blocks.loop_join_blocks site.now) }
 {
     let mut all = Vec::new(alloc);

@@ -8,68 +8,38 @@ use Rattle.block_lower.proofs.LoweredDeep.{deep_begun}
 use Rattle.block_lower.proofs.Sited.{site_fits}
 use Rattle.block_lower.proofs.lowering.Lowering.begin_deep.Goals as goal
 
-pub site_of-requires-clause-few_carries : goal.site_of-requires-clause-few_carries
-site_of-requires-clause-few_carries c =
-    let self = c.args.self.now in
-    (site_fits self.on self.scope c.args.round c.args.l.now c.requires.fits c.requires.room
-    c.requires.few_tables).few_carries
-
-pub site_of-requires-clause-depth : goal.site_of-requires-clause-depth
-site_of-requires-clause-depth c =
-    let self = c.args.self.now in
-    (site_fits self.on self.scope c.args.round c.args.l.now c.requires.fits c.requires.room
-    c.requires.few_tables).shallow
-
 pub cursor_cell-requires : goal.cursor_cell-requires
 cursor_cell-requires c =
     let self = c.args.self.now in
     (site_fits self.on self.scope c.args.round c.args.l.now c.requires.fits c.requires.room
     c.requires.few_tables).shallow
 
-pub site_of-requires-clause-cells : goal.site_of-requires-clause-cells
-site_of-requires-clause-cells c =
-    let self = c.args.self.now in
-    let s = site_fits self.on self.scope c.args.round c.args.l.now c.requires.fits c.requires.room
-    c.requires.few_tables in
-    omega (arith, s.cells, c.requires.room.few)
-
-pub bounds-requires-clause-cells : goal.bounds-requires-clause-cells
-bounds-requires-clause-cells c =
-    let self = c.args.self.now in
-    let s = site_fits self.on self.scope c.args.round c.args.l.now c.requires.fits c.requires.room
-    c.requires.few_tables in
-    omega (arith, s.cells, c.requires.room.few)
-
 pub push_begin-requires-clause-label : goal.push_begin-requires-clause-label
 push_begin-requires-clause-label c =
-    let label = ap (λ (q : LoopSite). q.label) c.in_ok-site.ensures in
-    omega (arith, label, c.requires.labels)
+    let label = ap (λ (q : LoopSite). q.label) c.in_ok-site.ensures.site in
+    omega (arith, label, c.in_ok-site.ensures.labels, c.requires.labels)
 
 pub push_begin-requires-clause-cells : goal.push_begin-requires-clause-cells
 push_begin-requires-clause-cells c =
-    let cells = ap (λ (q : LoopSite). q.cells) c.in_ok-site.ensures in
-    let on = c.in_ok-store.ensures.on ∙ c.in_ok-push_length.ensures.on
-    ∙ c.in_ok-push_some.ensures.on ∙ c.in_ok-bounds.ensures.on in
-    ap (λ o. o.size) on ∙ sym cells
+    let cells = ap (λ (q : LoopSite). q.cells) c.in_ok-site.ensures.site in
+    ap (λ o. o.size) (c.in_ok-store.ensures.on ∙ c.in_ok-site.ensures.on) ∙ sym cells
 
 pub push_deep_site-requires-clause-site : goal.push_deep_site-requires-clause-site
 push_deep_site-requires-clause-site c =
     let self = c.args.self.now in
     let s = site_fits self.on self.scope c.args.round c.args.l.now c.requires.fits c.requires.room
     c.requires.few_tables in
-    rw (c.in_ok-site.ensures, c.cursor_cell.ensures)
-    (s.right_deep _ (omega (arith, c.requires.labels)))
+    rw (c.in_ok-site.ensures.site, c.cursor_cell.ensures)
+    (s.right_deep _ (omega (arith, c.in_ok-site.ensures.labels, c.requires.labels)))
 
 pub push_deep_site-requires-clause-here : goal.push_deep_site-requires-clause-here
 push_deep_site-requires-clause-here c =
-    let label = ap (λ (q : LoopSite). q.label) c.in_ok-site.ensures in
+    let label = ap (λ (q : LoopSite). q.label) c.in_ok-site.ensures.site in
     let begun = c.in_ok-push_begin.ensures in
     omega (
       arith,
       label,
-      c.in_ok-bounds.ensures.labels,
-      c.in_ok-push_some.ensures.labels,
-      c.in_ok-push_length.ensures.labels,
+      c.in_ok-site.ensures.labels,
       c.in_ok-store.ensures.labels,
       begun.labels,
       ap length begun.fresh.traps,
@@ -78,7 +48,8 @@ push_deep_site-requires-clause-here c =
 pub push_deep_site-requires-clause-head : goal.push_deep_site-requires-clause-head
 push_deep_site-requires-clause-head c =
     let blocks = rw c.deref.ensures.value at c.site_blocks.ensures in
-    omega (arith, blocks)
+    let label = ap (λ (q : LoopSite). q.label) c.in_ok-site.ensures.site in
+    omega (arith, blocks, label, c.in_ok-site.ensures.labels)
 
 pub push_deep_site-requires-clause-carries : goal.push_deep_site-requires-clause-carries
 push_deep_site-requires-clause-carries c =
@@ -88,7 +59,7 @@ push_deep_site-requires-clause-carries c =
 
 pub returns-clause-head : goal.returns-clause-head
 returns-clause-head c =
-    let label = ap (λ (q : LoopSite). q.label) c.in_ok-site.ensures in
+    let label = ap (λ (q : LoopSite). q.label) c.in_ok-site.ensures.site in
     let begun = c.in_ok-push_begin.ensures in
     let round_it = c.in_ok-push_deep_site.ensures in
     let blocks = rw c.deref.ensures.value at c.site_blocks.ensures in
@@ -96,9 +67,7 @@ returns-clause-head c =
       arith,
       label,
       blocks,
-      c.in_ok-bounds.ensures.labels,
-      c.in_ok-push_some.ensures.labels,
-      c.in_ok-push_length.ensures.labels,
+      c.in_ok-site.ensures.labels,
       c.in_ok-store.ensures.labels,
       begun.labels,
       round_it.labels,
@@ -112,18 +81,16 @@ returns-clause-code c =
     let site = c.in_ok-site.site in
     let s = site_fits self.on self.scope c.args.round l c.requires.fits c.requires.room
     c.requires.few_tables in
-    let is = c.in_ok-site.ensures in
+    let begun = c.in_ok-site.ensures in
+    let is = begun.site in
     let label = ap (λ (q : LoopSite). q.label) is in
-    let bounds = c.in_ok-bounds.ensures in
-    let some = c.in_ok-push_some.ensures in
-    let measured = c.in_ok-push_length.ensures in
     let stored = c.in_ok-store.ensures in
-    let begun = c.in_ok-push_begin.ensures in
+    let pushed = c.in_ok-push_begin.ensures in
     let round_it = c.in_ok-push_deep_site.ensures in
-    let scope = begun.scope ∙ stored.scope ∙ measured.scope ∙ some.scope ∙ bounds.scope in
-    let on = begun.on ∙ stored.on ∙ measured.on ∙ some.on ∙ bounds.on in
+    let scope = pushed.scope ∙ stored.scope ∙ begun.scope in
+    let on = pushed.on ∙ stored.on ∙ begun.on in
     let check = c.next_label.result + c.trap_count.result + c.trap_count-2.result in
-    let head = site.label + c.site_blocks.result in
+    let head = check + 2 + c.site_blocks.result in
     let exit = head + 2 + c.added_by_body.result in
     let size = rw c.deref-2.ensures.value at c.added_by_body.ensures in
     let long = length self.scope.cells.items in
@@ -135,10 +102,8 @@ returns-clause-code c =
     subst (λ (n : ℕ). BeginsDeep self.on c.args.round self.scope l head (head + 2 + n) self.out
     c.push_deep_site.new.self.out) small
     (deep_begun self.on c.args.round self.scope l site check head exit self.out
-    c.bounds.new.self.out c.push_some.new.self.out c.push_length.new.self.out
-    c.store.new.self.out c.push_begin.new.self.out c.push_deep_site.new.self.out
-    here (rw here (s.right_deep _ (omega (arith, c.requires.labels, label))))
-    bounds.code some.code some.fresh
-    (omega (arith, bounds.labels, some.labels, ap length some.fresh.traps))
-    measured.code (stored.labels ∙ measured.labels) stored.pushed
-    (rw c.first_label.ensures at begun.code) (rw (on, scope) at round_it.code))
+    c.begin_par.new.self.out c.store.new.self.out c.push_begin.new.self.out
+    c.push_deep_site.new.self.out here
+    (rw here (s.right_deep _ (omega (arith, c.requires.labels, label, begun.labels))))
+    begun.code (omega (arith, begun.labels, stored.labels)) stored.pushed
+    (rw c.first_label.ensures at pushed.code) (rw (on, scope) at round_it.code))

@@ -17,62 +17,32 @@ value_cell-requires c =
     c.requires.few_tables in
     omega (arith, s.cells, c.requires.room.few, c.level-level.ensures)
 
-pub site_of-requires-clause-few_carries : goal.site_of-requires-clause-few_carries
-site_of-requires-clause-few_carries c =
-    let self = c.args.self.now in
-    (site_fits self.on self.scope c.args.round c.args.l.now c.requires.fits c.requires.room
-    c.requires.few_tables).few_carries
-
-pub site_of-requires-clause-depth : goal.site_of-requires-clause-depth
-site_of-requires-clause-depth c =
-    let self = c.args.self.now in
-    (site_fits self.on self.scope c.args.round c.args.l.now c.requires.fits c.requires.room
-    c.requires.few_tables).shallow
-
-pub site_of-requires-clause-cells : goal.site_of-requires-clause-cells
-site_of-requires-clause-cells c =
-    let self = c.args.self.now in
-    let s = site_fits self.on self.scope c.args.round c.args.l.now c.requires.fits c.requires.room
-    c.requires.few_tables in
-    omega (arith, s.cells, c.requires.room.few)
-
-pub bounds-requires-clause-cells : goal.bounds-requires-clause-cells
-bounds-requires-clause-cells c =
-    let self = c.args.self.now in
-    let s = site_fits self.on self.scope c.args.round c.args.l.now c.requires.fits c.requires.room
-    c.requires.few_tables in
-    omega (arith, s.cells, c.requires.room.few)
-
 pub push_begin-requires-clause-label : goal.push_begin-requires-clause-label
 push_begin-requires-clause-label c =
-    let label = ap (λ (q : LoopSite). q.label) c.in_ok-site.ensures in
-    omega (arith, label, c.requires.labels)
+    let label = ap (λ (q : LoopSite). q.label) c.in_ok-site.ensures.site in
+    omega (arith, label, c.in_ok-site.ensures.labels, c.requires.labels)
 
 pub push_begin-requires-clause-cells : goal.push_begin-requires-clause-cells
 push_begin-requires-clause-cells c =
-    let cells = ap (λ (q : LoopSite). q.cells) c.in_ok-site.ensures in
-    let on = c.in_ok-push_length.ensures.on ∙ c.in_ok-push_some.ensures.on
-    ∙ c.in_ok-bounds.ensures.on in
-    ap (λ o. o.size) on ∙ sym cells
+    let cells = ap (λ (q : LoopSite). q.cells) c.in_ok-site.ensures.site in
+    ap (λ o. o.size) c.in_ok-site.ensures.on ∙ sym cells
 
 pub push_site-requires-clause-site : goal.push_site-requires-clause-site
 push_site-requires-clause-site c =
     let self = c.args.self.now in
     let s = site_fits self.on self.scope c.args.round c.args.l.now c.requires.fits c.requires.room
     c.requires.few_tables in
-    rw (c.in_ok-site.ensures, c.value_cell.ensures, c.level-level.ensures)
-    (s.right _ (omega (arith, c.requires.labels)))
+    rw (c.in_ok-site.ensures.site, c.value_cell.ensures, c.level-level.ensures)
+    (s.right _ (omega (arith, c.in_ok-site.ensures.labels, c.requires.labels)))
 
 pub push_site-requires-clause-here : goal.push_site-requires-clause-here
 push_site-requires-clause-here c =
-    let label = ap (λ (q : LoopSite). q.label) c.in_ok-site.ensures in
+    let label = ap (λ (q : LoopSite). q.label) c.in_ok-site.ensures.site in
     let begun = c.in_ok-push_begin.ensures in
     omega (
       arith,
       label,
-      c.in_ok-bounds.ensures.labels,
-      c.in_ok-push_some.ensures.labels,
-      c.in_ok-push_length.ensures.labels,
+      c.in_ok-site.ensures.labels,
       begun.labels,
       ap length begun.fresh.traps,
     )
@@ -85,7 +55,7 @@ push_site-requires-clause-carries c =
 
 pub returns-clause-turns : goal.returns-clause-turns
 returns-clause-turns c =
-    let label = ap (λ (q : LoopSite). q.label) c.in_ok-site.ensures in
+    let label = ap (λ (q : LoopSite). q.label) c.in_ok-site.ensures.site in
     let begun = c.in_ok-push_begin.ensures in
     let round_it = c.in_ok-push_site.ensures in
     let size = rw c.deref-2.ensures.value at c.added_by_body-body.ensures in
@@ -97,9 +67,7 @@ returns-clause-turns c =
         label,
         size,
         blocks,
-        c.in_ok-bounds.ensures.labels,
-        c.in_ok-push_some.ensures.labels,
-        c.in_ok-push_length.ensures.labels,
+        c.in_ok-site.ensures.labels,
         begun.labels,
         round_it.labels,
         ap length round_it.fresh.traps,
@@ -114,16 +82,14 @@ returns-clause-code c =
     let site = c.in_ok-site.site in
     let s = site_fits self.on self.scope c.args.round l c.requires.fits c.requires.room
     c.requires.few_tables in
-    let is = c.in_ok-site.ensures in
+    let begun = c.in_ok-site.ensures in
+    let is = begun.site in
     let label = ap (λ (q : LoopSite). q.label) is in
-    let bounds = c.in_ok-bounds.ensures in
-    let some = c.in_ok-push_some.ensures in
-    let measured = c.in_ok-push_length.ensures in
-    let begun = c.in_ok-push_begin.ensures in
+    let pushed = c.in_ok-push_begin.ensures in
     let round_it = c.in_ok-push_site.ensures in
-    let scope = begun.scope ∙ measured.scope ∙ some.scope ∙ bounds.scope in
+    let scope = pushed.scope ∙ begun.scope in
     let check = c.next_label.result + c.trap_count.result + c.trap_count-2.result in
-    let first = site.label + c.site_blocks.result in
+    let first = check + 2 + c.site_blocks.result in
     let exit = first + c.added_by_body-body.result + c.added_by_body-body.result in
     let size = rw c.deref-2.ensures.value at c.added_by_body-body.ensures in
     let blocks = rw c.deref.ensures.value at c.site_blocks.ensures in
@@ -143,20 +109,15 @@ returns-clause-code c =
     subst (λ (n : ℕ). BeginsQuiet self.on c.args.round self.scope l turns (again + n) self.out
     c.push_site.new.self.out) small
     (quiet_begun self.on c.args.round self.scope l site turns check first exit self.out
-    c.bounds.new.self.out c.push_some.new.self.out c.push_length.new.self.out
-    c.push_begin.new.self.out c.push_site.new.self.out
-    here (rw here (s.right _ (omega (arith, c.requires.labels, label)))) c.over_label.ensures
-    bounds.code some.code some.fresh
-    (omega (arith, bounds.labels, some.labels, ap length some.fresh.traps))
-    measured.code measured.labels begun.code (rw scope at round_it.code)
+    c.begin_par.new.self.out c.push_begin.new.self.out c.push_site.new.self.out here
+    (rw here (s.right _ (omega (arith, c.requires.labels, label, begun.labels))))
+    c.over_label.ensures begun.code
+    (omega (arith, begun.labels)) pushed.code (rw scope at round_it.code)
     (omega (
       arith,
-      label,
       blocks,
-      bounds.labels,
-      some.labels,
-      measured.labels,
       begun.labels,
+      pushed.labels,
       round_it.labels,
       ap length round_it.fresh.traps,
     )))

@@ -1,0 +1,55 @@
+use Rattle.std.proofs.Common.{◌≡◌, ℕ, ◌+◌, length, ap, ◌∙◌, arith}
+use Rattle.block_lower.specs.Sites.{loop_site}
+use Rattle.block_lower.proofs.LoweredPars.{par_begun}
+use Rattle.block_lower.proofs.Sited.{site_fits}
+use Rattle.block_lower.proofs.lowering.Lowering.begin_par.Goals as goal
+
+pub site_of-requires-clause-few_carries : goal.site_of-requires-clause-few_carries
+site_of-requires-clause-few_carries c =
+    let self = c.args.self.now in
+    (site_fits self.on self.scope c.args.round c.args.l.now c.requires.fits c.requires.room
+    c.requires.few_tables).few_carries
+
+pub site_of-requires-clause-depth : goal.site_of-requires-clause-depth
+site_of-requires-clause-depth c =
+    let self = c.args.self.now in
+    (site_fits self.on self.scope c.args.round c.args.l.now c.requires.fits c.requires.room
+    c.requires.few_tables).shallow
+
+pub site_of-requires-clause-cells : goal.site_of-requires-clause-cells
+site_of-requires-clause-cells c =
+    let self = c.args.self.now in
+    let s = site_fits self.on self.scope c.args.round c.args.l.now c.requires.fits c.requires.room
+    c.requires.few_tables in
+    omega (arith, s.cells, c.requires.room.few)
+
+pub bounds-requires-clause-cells : goal.bounds-requires-clause-cells
+bounds-requires-clause-cells c =
+    let self = c.args.self.now in
+    let s = site_fits self.on self.scope c.args.round c.args.l.now c.requires.fits c.requires.room
+    c.requires.few_tables in
+    omega (arith, s.cells, c.requires.room.few)
+
+pub returns-clause-site : goal.returns-clause-site
+returns-clause-site c =
+    let self = c.args.self.now in
+    c.in_ok-site.ensures
+    ∙ ap (λ (k : ℕ). loop_site self.scope c.args.l.now self.on.size c.args.round.depth
+    (length self.scope.cells.items) c.args.cursor k)
+    (omega (
+      arith,
+      c.in_ok-bounds.ensures.labels,
+      c.in_ok-push_some.ensures.labels,
+      c.in_ok-push_length.ensures.labels,
+    ))
+
+pub returns-clause-code : goal.returns-clause-code
+returns-clause-code c =
+    let bounds = c.in_ok-bounds.ensures in
+    let some = c.in_ok-push_some.ensures in
+    par_begun c.args.self.now.scope c.args.l.now
+    (c.next_label.result + c.trap_count.result + c.trap_count-2.result) c.args.exit
+    c.args.self.now.out c.bounds.new.self.out c.push_some.new.self.out c.push_length.new.self.out
+    bounds.code some.code some.fresh
+    (omega (arith, bounds.labels, some.labels, ap length some.fresh.traps))
+    c.in_ok-push_length.ensures.code
