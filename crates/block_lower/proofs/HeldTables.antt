@@ -1,5 +1,6 @@
 -- What is held of a given table, where its cells are held whole.
-use Rattle.std.proofs.Common.{◌≡◌, ℕ, ◌+◌, ◌*◌, ◌<◌, Bool, true, false, cond, ◌&&◌, List, length, Some, None, refl, ap, ◌∙◌, arith, ltb-true, mul_comm}
+use Rattle.std.proofs.Common.{◌≡◌, ℕ, ◌+◌, ◌*◌, ◌<◌, Bool, true, false, cond, ◌&&◌, List, length}
+use Rattle.std.proofs.Common.{Some, None, refl, ap, ◌∙◌, arith, ltb-true, mul_comm}
 use Rattle.std.proofs.lemmas.Bool.{false≢true}
 use Rattle.std.specs.Prelude.{ℤ, pos, negsuc, nat_lt, slice_get}
 use Rattle.std.proofs.lemmas.Nat.{mul-add-lt}

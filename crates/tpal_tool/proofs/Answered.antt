@@ -13,17 +13,20 @@ use Rattle.loop_meaning.specs.Meaning.{meaning}
 use Rattle.table_text.specs.TablesText.{TablesOf, FirstTableFault}
 use Rattle.table_text.specs.declared.fault.TableFault.{TableFault}
 use Rattle.tpal_tool.specs.declared.status.Status.{Status}
-use Rattle.tpal_tool.specs.declared.status.Status.TheVariants.{Done, Trap, OutOfFuel, Refused, BadWords}
+use Rattle.tpal_tool.specs.declared.status.Status.TheVariants.{Done, Trap, OutOfFuel, Refused}
+use Rattle.tpal_tool.specs.declared.status.Status.TheVariants.{BadWords}
 use Rattle.tpal_tool.specs.Inputs.{first_missing}
 use Rattle.tpal_tool.specs.Lines.{bad_words_line, missing_line, tables_line, too_long_line}
-use Rattle.tpal_tool.specs.Owed.{RunOwes, faulty_tables, missing, ran, shown, Owes, bad_words, too_long, refused, compiled, tables_too_long, Finished}
+use Rattle.tpal_tool.specs.Owed.{RunOwes, faulty_tables, missing, ran, shown, Owes, bad_words}
+use Rattle.tpal_tool.specs.Owed.{too_long, refused, compiled, tables_too_long, Finished}
 use Rattle.tpal_tool.specs.Owed as owed
 use Rattle.tpal_tool.specs.Promises.{AsksFor, AsksForRun, IsRefusedWith}
 use Rattle.tpal_tool.specs.Sink.{Appended}
 use Rattle.tpal_tool.specs.Statuses.{number_of}
 use Rattle.tpal_tool.specs.Told.{told_source, told_tables}
 use Rattle.tpal_tool.specs.Verdict.{Refuses, Accepts}
-use Rattle.tpal_tool.specs.Words.{Options, Command, Run, Compile, program_name, run_options, tables_name}
+use Rattle.tpal_tool.specs.Words.{Options, Command, Run, Compile, program_name, run_options}
+use Rattle.tpal_tool.specs.Words.{tables_name}
 use Rattle.tpal_tool.proofs.Endings.{some_none, some_same, told_named}
 use Rattle.tpal_tool.proofs.TreeInputs.{missing_of_tree}
 use Rattle.loop_meaning.proofs.TreeMeanings.{meaning_of_tree}

@@ -1,5 +1,6 @@
 -- Texts appended one after the other, and the first bytes of a text.
-use Rattle.std.proofs.Common.{◌++◌, ℕ, List, [], Option, Some, None, refl, ap, sym, subst, ◌∙◌, append_assoc, append-nil}
+use Rattle.std.proofs.Common.{◌++◌, ℕ, List, [], Option, Some, None, refl, ap, sym, subst, ◌∙◌}
+use Rattle.std.proofs.Common.{append_assoc, append-nil}
 use Rattle.std.specs.Io.KnownBytes.{Appends}
 use Rattle.tpal_tool.specs.Sink.{Appended, PrefixAppended}
 

@@ -1,6 +1,8 @@
 -- How a call ends.
-use Rattle.std.proofs.Common.{◌≡◌, ℕ, suc, ◌<◌, ◌≤◌, List, [], length, refl, ap, sym, ◌∙◌, arith, subst, inl, inr}
-use Rattle.std.specs.Prelude.{Option, Some, None, Result, Ok, Err, IfOk, IfSome, IsSomeAnd, unwrap_or, replicate}
+use Rattle.std.proofs.Common.{◌≡◌, ℕ, suc, ◌<◌, ◌≤◌, List, [], length, refl, ap, sym, ◌∙◌, arith}
+use Rattle.std.proofs.Common.{subst, inl, inr}
+use Rattle.std.specs.Prelude.{Option, Some, None, Result, Ok, Err, IfOk, IfSome, IsSomeAnd}
+use Rattle.std.specs.Prelude.{unwrap_or, replicate}
 use Rattle.std.proofs.lemmas.List.{length-replicate}
 use Rattle.tp_value.specs.declared.limits.TheConstants.{MAX_SOURCE_BYTES, MAX_TABLES_BYTES}
 use Rattle.tp_value.specs.declared.values.Stop.{Stop}
@@ -12,7 +14,12 @@ use Rattle.sample_gen.specs.Texts.{sample_source, sample_tables}
 use Rattle.tpal_tool.specs.declared.status.Status.{Status}
 use Rattle.tpal_tool.specs.declared.status.Status.TheVariants.{Done, Trap, OutOfFuel, Refused}
 use Rattle.tpal_tool.specs.Lines.{too_long_line}
-use Rattle.tpal_tool.specs.Owed.{RunOwes, faulty_tables, missing, ran, shown, CompilesTo, Owes, Owed, bad_words, too_long, refused, compiled, tables_too_long, AreTexts, IsFinal, Finished, ReadFailed, program_failed, tables_failed, Ends, finished, read_failed, write_failed, no_memory, IsWritten, whole, failed, no_room, NamedRunOwes, long, fits}
+use Rattle.tpal_tool.specs.Owed.{RunOwes, faulty_tables, missing, ran, shown, CompilesTo, Owes}
+use Rattle.tpal_tool.specs.Owed.{Owed, bad_words, too_long, refused, compiled, tables_too_long}
+use Rattle.tpal_tool.specs.Owed.{AreTexts, IsFinal, Finished, ReadFailed, program_failed}
+use Rattle.tpal_tool.specs.Owed.{tables_failed, Ends, finished, read_failed, write_failed}
+use Rattle.tpal_tool.specs.Owed.{no_memory, IsWritten, whole, failed, no_room, NamedRunOwes, long}
+use Rattle.tpal_tool.specs.Owed.{fits}
 use Rattle.tpal_tool.specs.Owed as owed
 use Rattle.tpal_tool.specs.Shelf.{HasRisen}
 use Rattle.tpal_tool.specs.Told.{IsProgramOf, text_over, told_source, told_tables}

@@ -1,5 +1,7 @@
 -- The tables of a text have as many cells as they should, and numbers in range.
-use Rattle.std.proofs.Common.{◌≡◌, ℕ, ◌+◌, ◌*◌, ◌<◌, ◌≤◌, Bool, true, false, cond, ◌&&◌, List, [], ◌∷◌, map, Some, None, refl, sym, ◌∙◌, subst, arith, ltb-true, leb-true}
+use Rattle.std.proofs.Common.{◌≡◌, ℕ, ◌+◌, ◌*◌, ◌<◌, ◌≤◌, Bool, true, false, cond, ◌&&◌, List, []}
+use Rattle.std.proofs.Common.{◌∷◌, map, Some, None, refl, sym, ◌∙◌, subst, arith, ltb-true}
+use Rattle.std.proofs.Common.{leb-true}
 use Rattle.std.specs.Prelude.{ℤ, pos, negsuc, All, nat_le, ◌^◌}
 use Rattle.std.specs.List.{list_all}
 use Rattle.std.proofs.lemmas.Int.{ints}
@@ -8,7 +10,8 @@ use Rattle.std.proofs.lemmas.List.Elements.{All-nil, All-cons, All-push}
 use Rattle.tp_value.specs.declared.limits.TheConstants.{MAX_SIDE, MAX_TABLE_CELLS}
 use Rattle.tp_value.specs.declared.values.Table.{Table}
 use Rattle.table_text.specs.declared.fault.TableFault.TheVariants.{Cells, Form}
-use Rattle.table_text.specs.Token.{Token, tokens_of, is_run, is_number, is_64_bits, number_value, run_value, unsigned_part}
+use Rattle.table_text.specs.Token.{Token, tokens_of, is_run, is_number, is_64_bits, number_value}
+use Rattle.table_text.specs.Token.{run_value, unsigned_part}
 use Rattle.table_text.specs.Wanted.{size_misfit, cells_of}
 use Rattle.table_text.specs.TablesText as text
 use Rattle.table_text.specs.TablesText.{AreTables, no_table, table_more, TablesOf}

@@ -9,7 +9,9 @@ use Rattle.tpal_tool.specs.declared.refusal.Halt.{Halt}
 use Rattle.tpal_tool.specs.declared.refusal.Halt.TheVariants.{Refused, ReadFailed, NoMemory}
 use Rattle.tpal_tool.specs.declared.refusal.Refusal.{Refusal}
 use Rattle.tpal_tool.specs.declared.status.Status.{Status}
-use Rattle.tpal_tool.specs.Answering.{Halts, OwesRefusal, RefusesLength, RefusesMissing, RefusesSource, RefusesTables, RefusesTablesLength, status_with}
+use Rattle.tpal_tool.specs.Answering.{Halts, OwesRefusal, RefusesLength, RefusesMissing}
+use Rattle.tpal_tool.specs.Answering.{RefusesSource, RefusesTables, RefusesTablesLength}
+use Rattle.tpal_tool.specs.Answering.{status_with}
 use Rattle.tpal_tool.specs.Lines.{line_of}
 use Rattle.tpal_tool.specs.Owed.{NamedRunOwes, long, Owed, RunOwes, faulty_tables, missing}
 use Rattle.tpal_tool.specs.Told.{told_source}

@@ -1,9 +1,11 @@
 -- A text that is written piece by piece.
-use Rattle.std.proofs.Common.{◌≡◌, ◌++◌, ℕ, List, [], Option, length, refl, ap, subst, ◌∙◌, append_assoc, length-append, arith}
+use Rattle.std.proofs.Common.{◌≡◌, ◌++◌, ℕ, List, [], Option, length, refl, ap, subst, ◌∙◌}
+use Rattle.std.proofs.Common.{append_assoc, length-append, arith}
 use Rattle.tpal_tool.specs.Sink.{Appended, PrefixAppended}
 use Rattle.tpal_tool.specs.declared.sink.SinkFault.{SinkFault}
 use Rattle.tpal_tool.specs.declared.sink.SinkFault.TheVariants.{Failed, NoMemory}
-use Rattle.tpal_tool.proofs.Appending.{appended_nothing, appended_after, prefix_after, prefix_longer, prefix_nothing}
+use Rattle.tpal_tool.proofs.Appending.{appended_nothing, appended_after, prefix_after}
+use Rattle.tpal_tool.proofs.Appending.{prefix_longer, prefix_nothing}
 
 -- of the text all but the rest has been written
 pub record IsWrittenBut (first now : Option (List ℕ)) (rest text : List ℕ) : Type 0 where

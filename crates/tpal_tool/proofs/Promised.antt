@@ -10,13 +10,18 @@ use Rattle.tpal_tool.specs.declared.status.Status.{Status}
 use Rattle.tpal_tool.specs.declared.status.Status.TheVariants.{Done, Trap, OutOfFuel, NoMemory}
 use Rattle.tpal_tool.specs.Inputs.{first_missing}
 use Rattle.tpal_tool.specs.Lines as lines
-use Rattle.tpal_tool.specs.Owed.{Ends, IsFinal, Finished, finished, read_failed, write_failed, no_memory, program_failed, tables_failed}
-use Rattle.tpal_tool.specs.Promises.{HasCause, RefusesRightly, RunsOrCompiles, AsksFor, AsksForRun, MeetsNoFault}
+use Rattle.tpal_tool.specs.Owed.{Ends, IsFinal, Finished, finished, read_failed, write_failed}
+use Rattle.tpal_tool.specs.Owed.{no_memory, program_failed, tables_failed}
+use Rattle.tpal_tool.specs.Promises.{HasCause, RefusesRightly, RunsOrCompiles, AsksFor, AsksForRun}
+use Rattle.tpal_tool.specs.Promises.{MeetsNoFault}
 use Rattle.tpal_tool.specs.Sink.{Appended}
 use Rattle.tpal_tool.specs.Statuses.{number_of}
 use Rattle.tpal_tool.specs.Words.{Options, Command, Compile, program_name, tables_name}
 use Rattle.tpal_tool.proofs.Endings.{some_same, final-finished, not_final}
-use Rattle.tpal_tool.proofs.Answered.{ReadOneWay, bad_is, none_is_bad, finished-too_long, finished-refused, finished-tables_too_long, finished-run, finished-faulty, finished-missing, finished-ran, finished-compiled, finished-status}
+use Rattle.tpal_tool.proofs.Answered.{ReadOneWay, bad_is, none_is_bad, finished-too_long}
+use Rattle.tpal_tool.proofs.Answered.{finished-refused, finished-tables_too_long, finished-run}
+use Rattle.tpal_tool.proofs.Answered.{finished-faulty, finished-missing, finished-ran}
+use Rattle.tpal_tool.proofs.Answered.{finished-compiled, finished-status}
 
 module _ (wanted : Option Command) (told : List ℕ → Option (List ℕ)) (reads reads' : List ℕ → ℕ) (old new : Option (List ℕ)) (writes writes' : ℕ) (status : Status) where
   -- each way to end without the whole text has its cause

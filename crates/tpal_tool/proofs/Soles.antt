@@ -9,11 +9,13 @@ use Rattle.loop_lex.specs.declared.token.LexFault.TheVariants as lexing
 use Rattle.loop_lex.specs.Lexical as lexical
 use Rattle.loop_syntax.specs.declared.program.Program.{Program}
 use Rattle.loop_syntax.specs.Tree.{ProgramTree, program_of}
-use Rattle.loop_parse.specs.Text.{Reads, TextFault, Byte, Range, Form, Deep, FirstTextFault, byte, range, form, deep, IsOnlyFault}
+use Rattle.loop_parse.specs.Text.{Reads, TextFault, Byte, Range, Form, Deep, FirstTextFault, byte}
+use Rattle.loop_parse.specs.Text.{range, form, deep, IsOnlyFault}
 use Rattle.tpal_tool.specs.declared.refusal.SourceFault.{SourceFault}
 use Rattle.tpal_tool.specs.Lines.{blocks_line, fault_line, fault_of, parallel_line, rule_line}
 use Rattle.tpal_tool.specs.Reading.{ReadsAs}
-use Rattle.tpal_tool.specs.Verdict.{Refuses, faulty, broken, broken_parallel, too_many_blocks, RefusesOnly, AcceptsOnly}
+use Rattle.tpal_tool.specs.Verdict.{Refuses, faulty, broken, broken_parallel, too_many_blocks}
+use Rattle.tpal_tool.specs.Verdict.{RefusesOnly, AcceptsOnly}
 use Rattle.loop_rules.specs.Resolving.{IsFirstBroken}
 use Rattle.loop_rules.specs.Unbroken.{IsResolved}
 use Rattle.loop_rules.proofs.Firsts.{first-tree, resolved-tree, firsts_agree, not_both}
@@ -21,7 +23,7 @@ use Rattle.loop_check.specs.Checking as parallel
 use Rattle.loop_check.specs.Unbroken.{NoneBroken}
 use Rattle.loop_check.proofs.Firsts as parallels
 use Rattle.block_lower.specs.Count.{blocks_of_program}
-use Rattle.block_lower.proofs.TreeBlocks.{blocks_of_tree}
+use Rattle.block_lower.proofs.Counts.TreeBlocks.{blocks_of_tree}
 
 -- ---- faults of the lexer
 

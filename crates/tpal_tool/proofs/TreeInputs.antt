@@ -1,5 +1,6 @@
 -- The inputs that a program misses, by its tree alone.
-use Rattle.std.proofs.Common.{◌≡◌, ◌∷◌, [], ℕ, List, map, Option, Some, None, cond, refl, sym, ap, ◌∙◌}
+use Rattle.std.proofs.Common.{◌≡◌, ◌∷◌, [], ℕ, List, map, Option, Some, None, cond, refl, sym, ap}
+use Rattle.std.proofs.Common.{◌∙◌}
 use Rattle.tp_value.specs.declared.values.Table.{Table}
 use Rattle.loop_syntax.specs.declared.program.Program.{Program}
 use Rattle.loop_syntax.specs.declared.program.TableDecl.{TableDecl}

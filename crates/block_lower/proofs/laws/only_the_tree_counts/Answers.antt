@@ -1,4 +1,4 @@
-use Rattle.block_lower.proofs.TreeBlocks.{blocks_of_tree}
+use Rattle.block_lower.proofs.Counts.TreeBlocks.{blocks_of_tree}
 use Rattle.block_lower.proofs.laws.only_the_tree_counts.Goals as goal
 
 pub returns : goal.returns

@@ -1,4 +1,4 @@
-use Rattle.block_lower.proofs.WrittenPrograms.{owes_of}
+use Rattle.block_lower.proofs.Written.WrittenPrograms.{owes_of}
 use Rattle.block_lower.proofs.laws.program_owes.Goals as goal
 
 pub returns : goal.returns

@@ -1,4 +1,4 @@
-use Rattle.block_lower.proofs.FewBlocks.{few_blocks_of}
+use Rattle.block_lower.proofs.Counts.FewBlocks.{few_blocks_of}
 use Rattle.block_lower.proofs.laws.texts_have_few_blocks.Goals as goal
 
 pub returns : goal.returns

@@ -1,5 +1,5 @@
 use Rattle.std.proofs.Common.{refl}
-use Rattle.block_lower.proofs.Writing.{value_written}
+use Rattle.block_lower.proofs.Written.Writing.{value_written}
 use Rattle.block_lower.proofs.output.push_value.Goals as goal
 
 pub returns-clause-code : goal.returns-clause-code

@@ -1,9 +1,10 @@
 use Rattle.std.proofs.Common.{◌∙◌}
 use Rattle.std.proofs.Common.{take}
-use Rattle.block_lower.proofs.Stepping.{first_more}
-use Rattle.block_lower.proofs.WrittenPrograms.{declared_more}
+use Rattle.block_lower.proofs.Forms.Stepping.{first_more}
+use Rattle.block_lower.proofs.Written.WrittenPrograms.{declared_more}
 use Rattle.block_lower.proofs.program.code_tables.Goals as goal
-use Rattle.block_lower.proofs.program.code_tables.Goals.{in-Input+in_ok-name-in-Input+in_ok-push-in-Input, in-Made+in_ok-push-in-Made}
+use Rattle.block_lower.proofs.program.code_tables.Goals.{in-Input+in_ok-name-in-Input+in_ok-push-in-Input}
+use Rattle.block_lower.proofs.program.code_tables.Goals.{in-Made+in_ok-push-in-Made}
 
 pub loop-table-preserved : goal.loop-table-preserved
 loop-table-preserved c =

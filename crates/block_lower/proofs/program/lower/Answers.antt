@@ -4,10 +4,10 @@ use Rattle.tpal_syntax.specs.Conditions.{IsCode}
 use Rattle.tpal_syntax.specs.Listing.{Listing}
 use Rattle.block_lower.specs.Count.{blocks_of_program}
 use Rattle.block_lower.specs.Owing.{OwesMeaning}
-use Rattle.block_lower.proofs.Planning.{fewer_blocks}
-use Rattle.block_lower.proofs.Unbroken.{program_fits}
-use Rattle.block_lower.proofs.Wholes.{stand_whole}
-use Rattle.block_lower.proofs.WrittenPrograms.{owes_of}
+use Rattle.block_lower.proofs.Counts.Planning.{fewer_blocks}
+use Rattle.block_lower.proofs.Rules.Unbroken.{program_fits}
+use Rattle.block_lower.proofs.Counts.Wholes.{stand_whole}
+use Rattle.block_lower.proofs.Written.WrittenPrograms.{owes_of}
 use Rattle.block_lower.proofs.program.lower.Goals as goal
 
 pub program_blocks-requires-clause-fits : goal.program_blocks-requires-clause-fits

@@ -1,6 +1,6 @@
 use Rattle.std.proofs.Common.{◌≡◌, length, refl, ap, ◌∙◌, arith}
 use Rattle.block_lower.specs.Layout.{value_cell}
-use Rattle.block_lower.proofs.Keeping.{sees_declared}
+use Rattle.block_lower.proofs.Written.Keeping.{sees_declared}
 use Rattle.block_lower.proofs.scope.declare.Goals as goal
 
 pub returns-clause-sees : goal.returns-clause-sees

@@ -1,5 +1,5 @@
 use Rattle.std.proofs.Common.{refl}
-use Rattle.block_lower.proofs.Keeping.{sees_left}
+use Rattle.block_lower.proofs.Written.Keeping.{sees_left}
 use Rattle.block_lower.proofs.scope.leave.Goals as goal
 
 pub returns-clause-sees : goal.returns-clause-sees

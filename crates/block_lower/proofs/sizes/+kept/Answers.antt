@@ -1,5 +1,5 @@
 use Rattle.std.proofs.Common.{arith}
-use Rattle.block_lower.proofs.Adding.{kept_of_vec}
+use Rattle.block_lower.proofs.Counts.Adding.{kept_of_vec}
 use Rattle.block_lower.proofs.sizes.+kept.Goals as goal
 
 pub kept-returns-in-If : goal.kept-returns-in-If

@@ -6,7 +6,8 @@ use Rattle.loop_syntax.specs.declared.program.TableDecl.{TableDecl}
 use Rattle.loop_meaning.specs.State.{table_of}
 use Rattle.block_lower.specs.Owing.{AreHeld, IsWholeOf}
 use Rattle.tpal_tool.specs.Inputs.{is_given, without}
-use Rattle.tpal_tool.proofs.Declarations.{SoFar, at_first, input_left, behind_input, behind_made, at_last}
+use Rattle.tpal_tool.proofs.Declarations.{SoFar, at_first, input_left, behind_input, behind_made}
+use Rattle.tpal_tool.proofs.Declarations.{at_last}
 use Rattle.tpal_tool.proofs.DistinctNames.{inputs_apart}
 use Rattle.tpal_tool.proofs.inputs.hold_tables.Goals.{in-Input, in-Made}
 use Rattle.tpal_tool.proofs.inputs.hold_tables.Goals as goal

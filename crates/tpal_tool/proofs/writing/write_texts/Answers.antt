@@ -3,7 +3,8 @@ use Rattle.std.specs.Prelude.{◌≢◌, Err, Ok, OnErr, Result}
 use Rattle.tpal_tool.specs.declared.answer.Texts.{Texts}
 use Rattle.tpal_tool.specs.Answering.{whole_of}
 use Rattle.tpal_tool.specs.Sink.{Appended, PrefixAppended}
-use Rattle.tpal_tool.proofs.ThreeTexts.{on_err, some_back, some_bytes, some_front, second_begun, third_begun}
+use Rattle.tpal_tool.proofs.ThreeTexts.{on_err, some_back, some_bytes, some_front, second_begun}
+use Rattle.tpal_tool.proofs.ThreeTexts.{third_begun}
 use Rattle.tpal_tool.proofs.writing.write_texts.Goals as goal
 
 -- what more a failed call says

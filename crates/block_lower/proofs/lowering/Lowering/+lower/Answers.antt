@@ -1,4 +1,5 @@
-use Rattle.std.proofs.Common.{◌≡◌, ◌+◌, ◌≤◌, true, false, List, length, take, take_all, refl, ap, sym, subst, ◌∙◌, arith}
+use Rattle.std.proofs.Common.{◌≡◌, ◌+◌, ◌≤◌, true, false, List, length, take, take_all, refl, ap}
+use Rattle.std.proofs.Common.{sym, subst, ◌∙◌, arith}
 use Rattle.std.specs.List.{sum_by}
 use Rattle.std.proofs.lemmas.List.{length-append}
 use Rattle.std.proofs.lemmas.List.Sums.{sum_by_more, sum_by_more_le}
@@ -10,18 +11,24 @@ use Rattle.block_lower.specs.Count.{blocks}
 use Rattle.block_lower.specs.Lowering.{LowersAll, LowersOther}
 use Rattle.block_lower.specs.Names.{SeesAfter, names_after_list}
 use Rattle.block_lower.specs.Sizes.{added, declared, kept, kept_by_list}
-use Rattle.block_lower.proofs.Counting.{blocks_of_vec}
-use Rattle.block_lower.proofs.Adding.{added_of_vec, par_of_vec, second_of_vec, declared_of_vec, kept_of_vec}
-use Rattle.block_lower.proofs.Fitting.{low_of_vec}
-use Rattle.block_lower.proofs.Keeping.{sees_block, sees_body, sees_more}
-use Rattle.block_lower.proofs.Lowered.{none_written, more_written, branch_written, other_written, no_other_written, if_written, while_written, body_written}
-use Rattle.block_lower.proofs.FittingNow.{fits_declared, fits_first, fits_later, fits_loop, fits_next, fits_par, fits_second, fits_while, inside_later}
-use Rattle.block_lower.proofs.LoweredDeep.{deep_written}
-use Rattle.block_lower.proofs.LoweredLoops.{loop_written}
-use Rattle.block_lower.proofs.LoweredPars.{body_same, quiet_written}
-use Rattle.block_lower.proofs.Writing.{fresh_empty}
+use Rattle.block_lower.proofs.Counts.Counting.{blocks_of_vec}
+use Rattle.block_lower.proofs.Counts.Adding.{added_of_vec, par_of_vec, second_of_vec}
+use Rattle.block_lower.proofs.Counts.Adding.{declared_of_vec, kept_of_vec}
+use Rattle.block_lower.proofs.Written.Fitting.{low_of_vec}
+use Rattle.block_lower.proofs.Written.Keeping.{sees_block, sees_body, sees_more}
+use Rattle.block_lower.proofs.Written.Lowered.{none_written, more_written, branch_written}
+use Rattle.block_lower.proofs.Written.Lowered.{other_written, no_other_written, if_written}
+use Rattle.block_lower.proofs.Written.Lowered.{while_written, body_written}
+use Rattle.block_lower.proofs.Written.FittingNow.{fits_declared, fits_first, fits_later, fits_loop}
+use Rattle.block_lower.proofs.Written.FittingNow.{fits_next, fits_par, fits_second, fits_while}
+use Rattle.block_lower.proofs.Written.FittingNow.{inside_later}
+use Rattle.block_lower.proofs.Written.LoweredDeep.{deep_written}
+use Rattle.block_lower.proofs.Written.LoweredLoops.{loop_written}
+use Rattle.block_lower.proofs.Written.LoweredPars.{body_same, quiet_written}
+use Rattle.block_lower.proofs.Written.Writing.{fresh_empty}
 use Rattle.block_lower.specs.Quiet.{list_is_quiet}
-use Rattle.block_lower.proofs.Stepping.{on_ok, low_at, kept_at, room_within, first_more, no_items}
+use Rattle.block_lower.proofs.Forms.Stepping.{on_ok, low_at, kept_at, room_within, first_more}
+use Rattle.block_lower.proofs.Forms.Stepping.{no_items}
 use Rattle.block_lower.proofs.lowering.Lowering.+lower.Goals as goal
 
 -- ---- branches and bodies

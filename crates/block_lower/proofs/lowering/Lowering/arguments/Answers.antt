@@ -8,8 +8,8 @@ use Rattle.block_lower.specs.declared.output.Output.{Output}
 use Rattle.block_lower.specs.Code.{store}
 use Rattle.block_lower.specs.Lowering.{WritesArguments}
 use Rattle.block_lower.specs.Writing.{Pushes}
-use Rattle.block_lower.proofs.LoweredCalls.{none_stored, more_stored}
-use Rattle.block_lower.proofs.Stepping.{first_more}
+use Rattle.block_lower.proofs.Written.LoweredCalls.{none_stored, more_stored}
+use Rattle.block_lower.proofs.Forms.Stepping.{first_more}
 use Rattle.block_lower.proofs.lowering.Lowering.arguments.Goals as goal
 
 pub loop-i-init : goal.loop-i-init

@@ -4,8 +4,8 @@ use Rattle.block_lower.specs.Lowering.{BeginsDeep}
 use Rattle.block_lower.specs.Layout.{cursor_cell}
 use Rattle.block_lower.specs.Sites.{loop_site}
 use Rattle.block_lower.specs.Sizes.{added_by_list}
-use Rattle.block_lower.proofs.LoweredDeep.{deep_begun}
-use Rattle.block_lower.proofs.Sited.{site_fits}
+use Rattle.block_lower.proofs.Written.LoweredDeep.{deep_begun}
+use Rattle.block_lower.proofs.Written.Sited.{site_fits}
 use Rattle.block_lower.proofs.lowering.Lowering.begin_deep.Goals as goal
 
 pub cursor_cell-requires : goal.cursor_cell-requires

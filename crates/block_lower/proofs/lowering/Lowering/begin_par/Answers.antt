@@ -1,7 +1,7 @@
 use Rattle.std.proofs.Common.{◌≡◌, ℕ, ◌+◌, length, ap, ◌∙◌, arith}
 use Rattle.block_lower.specs.Sites.{loop_site}
-use Rattle.block_lower.proofs.LoweredPars.{par_begun}
-use Rattle.block_lower.proofs.Sited.{site_fits}
+use Rattle.block_lower.proofs.Written.LoweredPars.{par_begun}
+use Rattle.block_lower.proofs.Written.Sited.{site_fits}
 use Rattle.block_lower.proofs.lowering.Lowering.begin_par.Goals as goal
 
 pub site_of-requires-clause-few_carries : goal.site_of-requires-clause-few_carries

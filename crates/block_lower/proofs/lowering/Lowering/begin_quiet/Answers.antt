@@ -6,8 +6,8 @@ use Rattle.block_lower.specs.Lowering.{BeginsQuiet}
 use Rattle.block_lower.specs.Layout.{value_cell}
 use Rattle.block_lower.specs.Sites.{loop_site}
 use Rattle.block_lower.specs.Sizes.{added_by_list}
-use Rattle.block_lower.proofs.LoweredPars.{quiet_begun}
-use Rattle.block_lower.proofs.Sited.{site_fits}
+use Rattle.block_lower.proofs.Written.LoweredPars.{quiet_begun}
+use Rattle.block_lower.proofs.Written.Sited.{site_fits}
 use Rattle.block_lower.proofs.lowering.Lowering.begin_quiet.Goals as goal
 
 pub value_cell-requires : goal.value_cell-requires

@@ -1,4 +1,4 @@
-use Rattle.block_lower.proofs.Lowered.{below_written}
+use Rattle.block_lower.proofs.Written.Lowered.{below_written}
 use Rattle.block_lower.proofs.lowering.Lowering.below.Goals as goal
 
 pub returns-clause-code : goal.returns-clause-code

@@ -1,4 +1,4 @@
-use Rattle.block_lower.proofs.LoweredCalls.{both_arguments_written}
+use Rattle.block_lower.proofs.Written.LoweredCalls.{both_arguments_written}
 use Rattle.block_lower.proofs.lowering.Lowering.both_arguments.Goals as goal
 
 pub returns-clause-code : goal.returns-clause-code

@@ -1,4 +1,4 @@
-use Rattle.block_lower.proofs.LoweredLoops.{bounded_start_written}
+use Rattle.block_lower.proofs.Written.LoweredLoops.{bounded_start_written}
 use Rattle.block_lower.proofs.lowering.Lowering.bounded_start.Goals as goal
 
 pub returns-clause-code : goal.returns-clause-code

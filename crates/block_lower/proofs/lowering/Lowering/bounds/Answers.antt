@@ -1,5 +1,5 @@
 use Rattle.std.proofs.Common.{◌∙◌}
-use Rattle.block_lower.proofs.LoweredLoops.{bounds_written}
+use Rattle.block_lower.proofs.Written.LoweredLoops.{bounds_written}
 use Rattle.block_lower.proofs.lowering.Lowering.bounds.Goals as goal
 
 pub returns-clause-code : goal.returns-clause-code

@@ -2,7 +2,7 @@ use Rattle.std.proofs.Common.{◌≡◌, ℕ, suc, ◌+◌, sym, ap, ◌∙◌, 
 use Rattle.block_lower.specs.Bodies.{activation}
 use Rattle.block_lower.specs.Layout.{Activation}
 use Rattle.block_lower.specs.Pairs.{kept_from}
-use Rattle.block_lower.proofs.LoweredPairs.{more_kept}
+use Rattle.block_lower.proofs.Written.LoweredPairs.{more_kept}
 use Rattle.block_lower.proofs.lowering.Lowering.kept_arguments.Goals as goal
 
 pub loop-i-preserved : goal.loop-i-preserved

@@ -1,6 +1,6 @@
 use Rattle.std.proofs.Common.{◌≡◌, length, ◌∙◌, arith}
-use Rattle.block_lower.proofs.LoweredCalls.{IsTarget}
-use Rattle.block_lower.proofs.LoweredPairs.{both_written}
+use Rattle.block_lower.proofs.Written.LoweredCalls.{IsTarget}
+use Rattle.block_lower.proofs.Written.LoweredPairs.{both_written}
 use Rattle.block_lower.proofs.lowering.Lowering.lower_both.Goals as goal
 
 pub returns-clause-code : goal.returns-clause-code

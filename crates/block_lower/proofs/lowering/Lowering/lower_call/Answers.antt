@@ -1,5 +1,5 @@
 use Rattle.std.proofs.Common.{◌∙◌}
-use Rattle.block_lower.proofs.LoweredCalls.{call_statement_written}
+use Rattle.block_lower.proofs.Written.LoweredCalls.{call_statement_written}
 use Rattle.block_lower.proofs.lowering.Lowering.lower_call.Goals as goal
 
 pub returns-clause-code : goal.returns-clause-code

@@ -1,4 +1,4 @@
-use Rattle.block_lower.proofs.LoweredTables.{emit_written}
+use Rattle.block_lower.proofs.Written.LoweredTables.{emit_written}
 use Rattle.block_lower.proofs.lowering.Lowering.lower_emit.Goals as goal
 
 pub returns-clause-code : goal.returns-clause-code

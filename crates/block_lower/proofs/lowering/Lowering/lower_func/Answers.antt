@@ -1,6 +1,6 @@
 use Rattle.std.proofs.Common.{arith}
-use Rattle.block_lower.proofs.FittingNow.{fits_func, is_outermost}
-use Rattle.block_lower.proofs.WrittenFunctions.{func_written}
+use Rattle.block_lower.proofs.Written.FittingNow.{fits_func, is_outermost}
+use Rattle.block_lower.proofs.Written.WrittenFunctions.{func_written}
 use Rattle.block_lower.proofs.lowering.Lowering.lower_func.Goals as goal
 
 pub lower_list-requires-clause-fits : goal.lower_list-requires-clause-fits

@@ -4,10 +4,10 @@ use Rattle.loop_syntax.specs.declared.Func.{Func}
 use Rattle.block_lower.specs.declared.body.Body.{Body}
 use Rattle.block_lower.specs.Programs.{LowersFuncs, FuncIsSmall}
 use Rattle.block_lower.specs.Sizes.{added_by_func}
-use Rattle.block_lower.proofs.FittingNow.{func_fits_now}
-use Rattle.block_lower.proofs.Stepping.{first_more}
-use Rattle.block_lower.proofs.WrittenFunctions.{holds_at, func_room, no_funcs_written}
-use Rattle.block_lower.proofs.WrittenFunctions.{funcs_written, StandAlike}
+use Rattle.block_lower.proofs.Written.FittingNow.{func_fits_now}
+use Rattle.block_lower.proofs.Forms.Stepping.{first_more}
+use Rattle.block_lower.proofs.Written.WrittenFunctions.{holds_at, func_room, no_funcs_written}
+use Rattle.block_lower.proofs.Written.WrittenFunctions.{funcs_written, StandAlike}
 use Rattle.block_lower.proofs.lowering.Lowering.lower_funcs.Goals as goal
 
 pub loop-f-init : goal.loop-f-init

@@ -1,7 +1,7 @@
 use Rattle.std.proofs.Common.{◌≡◌, ◌+◌, [], take}
 use Rattle.block_lower.specs.Programs.{added_by_funcs, LowersFuncs}
 use Rattle.block_lower.specs.Writing.{next_label, IsFresh}
-use Rattle.block_lower.proofs.WrittenFunctions.{StandAlike}
+use Rattle.block_lower.proofs.Written.WrittenFunctions.{StandAlike}
 use Rattle.block_lower.proofs.lowering.Lowering.lower_funcs.Given as goal
 
 abbrev pub invariant-loop-f : goal.invariant-loop-f

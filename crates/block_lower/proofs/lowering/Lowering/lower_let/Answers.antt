@@ -1,5 +1,5 @@
 use Rattle.std.proofs.Common.{◌∙◌}
-use Rattle.block_lower.proofs.Lowered.{let_written}
+use Rattle.block_lower.proofs.Written.Lowered.{let_written}
 use Rattle.block_lower.proofs.lowering.Lowering.lower_let.Goals as goal
 
 pub returns-clause-sees : goal.returns-clause-sees

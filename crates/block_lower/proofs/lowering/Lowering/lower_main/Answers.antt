@@ -1,7 +1,7 @@
 use Rattle.std.proofs.Common.{[], ◌∙◌, arith}
-use Rattle.block_lower.proofs.FittingNow.{is_outermost}
-use Rattle.block_lower.proofs.WrittenTables.{low_of_fit}
-use Rattle.block_lower.proofs.WrittenPrograms.{main_fits_now, main_written, sees_after_main}
+use Rattle.block_lower.proofs.Written.FittingNow.{is_outermost}
+use Rattle.block_lower.proofs.Written.WrittenTables.{low_of_fit}
+use Rattle.block_lower.proofs.Written.WrittenPrograms.{main_fits_now, main_written, sees_after_main}
 use Rattle.block_lower.proofs.lowering.Lowering.lower_main.Goals as goal
 
 pub push_makes-requires-clause-low : goal.push_makes-requires-clause-low

@@ -1,4 +1,4 @@
-use Rattle.block_lower.proofs.Lowered.{print_written}
+use Rattle.block_lower.proofs.Written.Lowered.{print_written}
 use Rattle.block_lower.proofs.lowering.Lowering.lower_print.Goals as goal
 
 pub returns-clause-code : goal.returns-clause-code

@@ -1,4 +1,4 @@
-use Rattle.block_lower.proofs.Lowered.{set_written}
+use Rattle.block_lower.proofs.Written.Lowered.{set_written}
 use Rattle.block_lower.proofs.lowering.Lowering.lower_set.Goals as goal
 
 pub returns-clause-code : goal.returns-clause-code

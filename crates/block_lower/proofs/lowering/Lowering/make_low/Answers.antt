@@ -1,5 +1,5 @@
 use Rattle.std.proofs.Common.{refl, ◌∙◌}
-use Rattle.block_lower.proofs.WrittenTables.{made_written}
+use Rattle.block_lower.proofs.Written.WrittenTables.{made_written}
 use Rattle.block_lower.proofs.lowering.Lowering.make_low.Goals as goal
 
 pub returns-clause-code : goal.returns-clause-code

@@ -1,5 +1,5 @@
 use Rattle.std.proofs.Common.{sym, to_z-of_z}
-use Rattle.block_lower.proofs.Lowered.{literal_operand, computed_operand}
+use Rattle.block_lower.proofs.Written.Lowered.{literal_operand, computed_operand}
 use Rattle.block_lower.proofs.lowering.Lowering.operand.Goals as goal
 
 pub returns-in-Some-clause-code : goal.returns-in-Some-clause-code

@@ -1,6 +1,6 @@
 use Rattle.std.proofs.Common.{◌≡◌, ℕ, suc, ◌+◌, subst, ◌∙◌, arith}
 use Rattle.block_lower.specs.Lowering.{WritesPassed}
-use Rattle.block_lower.proofs.LoweredCalls.{more_passed}
+use Rattle.block_lower.proofs.Written.LoweredCalls.{more_passed}
 use Rattle.block_lower.proofs.lowering.Lowering.passed.Goals as goal
 
 pub loop-i-preserved : goal.loop-i-preserved

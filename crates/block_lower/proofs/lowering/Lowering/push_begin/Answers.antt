@@ -1,5 +1,5 @@
 use Rattle.std.proofs.Common.{arith}
-use Rattle.block_lower.proofs.LoweredPars.{begin_written}
+use Rattle.block_lower.proofs.Written.LoweredPars.{begin_written}
 use Rattle.block_lower.proofs.lowering.Lowering.push_begin.Goals as goal
 
 pub returns-clause-code : goal.returns-clause-code

@@ -1,4 +1,4 @@
-use Rattle.block_lower.proofs.LoweredPairs.{pair_appended}
+use Rattle.block_lower.proofs.Written.LoweredPairs.{pair_appended}
 use Rattle.block_lower.proofs.lowering.Lowering.push_call_handler.Goals as goal
 
 pub returns-clause-code : goal.returns-clause-code

@@ -1,7 +1,7 @@
 use Rattle.std.proofs.Common.{◌∷◌, [], sym, subst}
 use Rattle.loop_syntax.specs.declared.TableDecl.{TableDecl}
 use Rattle.block_lower.specs.Programs.{WritesMakes}
-use Rattle.block_lower.proofs.WrittenTables.{input_written}
+use Rattle.block_lower.proofs.Written.WrittenTables.{input_written}
 use Rattle.block_lower.proofs.lowering.Lowering.push_decl.Goals as goal
 
 pub returns-in-Input-clause-code : goal.returns-in-Input-clause-code

@@ -1,6 +1,6 @@
 use Rattle.std.proofs.Common.{length, ap, ◌∙◌, arith}
-use Rattle.block_lower.proofs.LoweredDeep.{deep_site_written}
-use Rattle.block_lower.proofs.Writing.{fresh_empty}
+use Rattle.block_lower.proofs.Written.LoweredDeep.{deep_site_written}
+use Rattle.block_lower.proofs.Written.Writing.{fresh_empty}
 use Rattle.block_lower.proofs.lowering.Lowering.push_deep_site.Goals as goal
 
 pub make_ready-requires : goal.make_ready-requires

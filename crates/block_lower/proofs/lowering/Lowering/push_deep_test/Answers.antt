@@ -1,4 +1,4 @@
-use Rattle.block_lower.proofs.LoweredCalls.{deep_test_written}
+use Rattle.block_lower.proofs.Written.LoweredCalls.{deep_test_written}
 use Rattle.block_lower.proofs.lowering.Lowering.push_deep_test.Goals as goal
 
 pub returns-clause-code : goal.returns-clause-code

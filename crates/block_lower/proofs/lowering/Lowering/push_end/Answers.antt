@@ -1,4 +1,4 @@
-use Rattle.block_lower.proofs.LoweredPars.{end_written}
+use Rattle.block_lower.proofs.Written.LoweredPars.{end_written}
 use Rattle.block_lower.proofs.lowering.Lowering.push_end.Goals as goal
 
 pub returns-clause-code : goal.returns-clause-code

@@ -1,4 +1,4 @@
-use Rattle.block_lower.proofs.LoweredCalls.{entry_written}
+use Rattle.block_lower.proofs.Written.LoweredCalls.{entry_written}
 use Rattle.block_lower.proofs.lowering.Lowering.push_entry.Goals as goal
 
 pub returns-clause-code : goal.returns-clause-code

@@ -1,5 +1,5 @@
 use Rattle.std.proofs.Common.{length, ap, ◌∙◌, arith}
-use Rattle.block_lower.proofs.LoweredPairs.{first_written}
+use Rattle.block_lower.proofs.Written.LoweredPairs.{first_written}
 use Rattle.block_lower.proofs.lowering.Lowering.push_first.Goals as goal
 
 pub returns-clause-code : goal.returns-clause-code

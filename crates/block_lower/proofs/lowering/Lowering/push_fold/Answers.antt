@@ -1,4 +1,4 @@
-use Rattle.block_lower.proofs.LoweredTables.{fold_written}
+use Rattle.block_lower.proofs.Written.LoweredTables.{fold_written}
 use Rattle.block_lower.proofs.lowering.Lowering.push_fold.Goals as goal
 
 pub returns-clause-code : goal.returns-clause-code

@@ -1,4 +1,4 @@
-use Rattle.block_lower.proofs.LoweredPars.{both_appended}
+use Rattle.block_lower.proofs.Written.LoweredPars.{both_appended}
 use Rattle.block_lower.proofs.lowering.Lowering.push_handler.Goals as goal
 
 pub returns-clause-code : goal.returns-clause-code

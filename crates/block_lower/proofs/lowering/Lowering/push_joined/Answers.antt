@@ -1,5 +1,5 @@
 use Rattle.std.proofs.Common.{◌∙◌}
-use Rattle.block_lower.proofs.LoweredPairs.{joined_written}
+use Rattle.block_lower.proofs.Written.LoweredPairs.{joined_written}
 use Rattle.block_lower.proofs.lowering.Lowering.push_joined.Goals as goal
 
 pub returns-clause-code : goal.returns-clause-code

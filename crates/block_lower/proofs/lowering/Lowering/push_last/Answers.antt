@@ -1,4 +1,4 @@
-use Rattle.block_lower.proofs.LoweredDeep.{last_written}
+use Rattle.block_lower.proofs.Written.LoweredDeep.{last_written}
 use Rattle.block_lower.proofs.lowering.Lowering.push_last.Goals as goal
 
 pub returns-clause-code : goal.returns-clause-code

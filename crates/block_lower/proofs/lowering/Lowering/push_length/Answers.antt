@@ -1,4 +1,4 @@
-use Rattle.block_lower.proofs.LoweredPars.{length_written}
+use Rattle.block_lower.proofs.Written.LoweredPars.{length_written}
 use Rattle.block_lower.proofs.lowering.Lowering.push_length.Goals as goal
 
 pub returns-clause-code : goal.returns-clause-code

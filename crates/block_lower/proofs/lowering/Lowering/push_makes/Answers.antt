@@ -5,9 +5,9 @@ use Rattle.loop_syntax.specs.declared.TableDecl.{TableDecl}
 use Rattle.block_lower.specs.Main.{table_name}
 use Rattle.block_lower.specs.Programs.{SeesTables, WritesMakes}
 use Rattle.block_lower.specs.Sizes.{added_by_decl}
-use Rattle.block_lower.proofs.Stepping.{first_more}
-use Rattle.block_lower.proofs.WrittenTables.{no_makes_written, makes_written, sees_no_table}
-use Rattle.block_lower.proofs.WrittenTables.{sees_next_table, room_at}
+use Rattle.block_lower.proofs.Forms.Stepping.{first_more}
+use Rattle.block_lower.proofs.Written.WrittenTables.{no_makes_written, makes_written, sees_no_table}
+use Rattle.block_lower.proofs.Written.WrittenTables.{sees_next_table, room_at}
 use Rattle.block_lower.proofs.lowering.Lowering.push_makes.Goals as goal
 
 pub loop-d-init : goal.loop-d-init

@@ -1,5 +1,5 @@
 use Rattle.std.proofs.Common.{length}
-use Rattle.block_lower.proofs.LoweredDeep.{next_written}
+use Rattle.block_lower.proofs.Written.LoweredDeep.{next_written}
 use Rattle.block_lower.proofs.lowering.Lowering.push_next.Goals as goal
 
 pub returns-clause-code : goal.returns-clause-code

@@ -1,4 +1,4 @@
-use Rattle.block_lower.proofs.LoweredPars.{over_written}
+use Rattle.block_lower.proofs.Written.LoweredPars.{over_written}
 use Rattle.block_lower.proofs.lowering.Lowering.push_over.Goals as goal
 
 pub returns-clause-code : goal.returns-clause-code

@@ -2,7 +2,7 @@ use Rattle.std.proofs.Common.{[], length, ap, sym, subst, ◌∙◌, arith}
 use Rattle.tpal_syntax.specs.declared.sites.CallSite.{CallSite}
 use Rattle.tpal_syntax.specs.Listing.{Listing}
 use Rattle.handler_gen.specs.Sites.{IsCallSite}
-use Rattle.block_lower.proofs.LoweredPairs.{pair_written, right_call_site}
+use Rattle.block_lower.proofs.Written.LoweredPairs.{pair_written, right_call_site}
 use Rattle.block_lower.proofs.lowering.Lowering.push_pair.Goals as goal
 
 abbrev no_code : Listing

@@ -1,4 +1,4 @@
-use Rattle.block_lower.proofs.LoweredPars.{prep_written}
+use Rattle.block_lower.proofs.Written.LoweredPars.{prep_written}
 use Rattle.block_lower.proofs.lowering.Lowering.push_prep.Goals as goal
 
 pub returns-clause-code : goal.returns-clause-code

@@ -3,7 +3,7 @@ use Rattle.expr_lower.specs.Bodies.{range_tests}
 use Rattle.expr_lower.specs.Scopes.{table_number}
 use Rattle.block_lower.specs.declared.output.Output.{Output}
 use Rattle.block_lower.specs.Writing.{next_label, Pushes}
-use Rattle.block_lower.proofs.LoweredTables.{put_pushed}
+use Rattle.block_lower.proofs.Written.LoweredTables.{put_pushed}
 use Rattle.block_lower.proofs.lowering.Lowering.push_put.Goals as goal
 
 pub returns-clause-code : goal.returns-clause-code

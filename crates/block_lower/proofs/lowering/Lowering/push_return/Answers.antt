@@ -1,4 +1,4 @@
-use Rattle.block_lower.proofs.WrittenFunctions.{return_written}
+use Rattle.block_lower.proofs.Written.WrittenFunctions.{return_written}
 use Rattle.block_lower.proofs.lowering.Lowering.push_return.Goals as goal
 
 pub returns-clause-code : goal.returns-clause-code

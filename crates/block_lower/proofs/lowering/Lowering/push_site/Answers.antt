@@ -1,5 +1,5 @@
 use Rattle.std.proofs.Common.{length, ap, ◌∙◌, arith}
-use Rattle.block_lower.proofs.LoweredPars.{site_written}
+use Rattle.block_lower.proofs.Written.LoweredPars.{site_written}
 use Rattle.block_lower.proofs.lowering.Lowering.push_site.Goals as goal
 
 pub returns-clause-code : goal.returns-clause-code

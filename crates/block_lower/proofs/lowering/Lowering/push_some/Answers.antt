@@ -1,4 +1,4 @@
-use Rattle.block_lower.proofs.LoweredLoops.{some_written}
+use Rattle.block_lower.proofs.Written.LoweredLoops.{some_written}
 use Rattle.block_lower.proofs.lowering.Lowering.push_some.Goals as goal
 
 pub returns-clause-code : goal.returns-clause-code

@@ -1,5 +1,5 @@
 use Rattle.std.proofs.Common.{◌∙◌}
-use Rattle.block_lower.proofs.LoweredTables.{put_kept_written}
+use Rattle.block_lower.proofs.Written.LoweredTables.{put_kept_written}
 use Rattle.block_lower.proofs.lowering.Lowering.put_kept.Goals as goal
 
 pub returns-clause-code : goal.returns-clause-code

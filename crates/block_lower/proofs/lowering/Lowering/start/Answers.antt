@@ -1,5 +1,5 @@
 use Rattle.std.proofs.Common.{to_z-of_z}
-use Rattle.block_lower.proofs.LoweredLoops.{start_written}
+use Rattle.block_lower.proofs.Written.LoweredLoops.{start_written}
 use Rattle.block_lower.proofs.lowering.Lowering.start.Goals as goal
 
 pub returns-clause-code : goal.returns-clause-code

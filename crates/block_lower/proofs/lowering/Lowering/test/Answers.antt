@@ -1,4 +1,4 @@
-use Rattle.block_lower.proofs.Lowered.{test_written}
+use Rattle.block_lower.proofs.Written.Lowered.{test_written}
 use Rattle.block_lower.proofs.lowering.Lowering.test.Goals as goal
 
 pub returns-clause-code : goal.returns-clause-code

@@ -1,0 +1,355 @@
+-- Behind the first function of a pair of calls: where no part was cut off the second call is made,
+-- and the left of a cut ends.
+use Rattle.std.proofs.Common.{◌≡◌, ℕ, ◌+◌, ◌-◌, ◌<◌, true, false, List, [], ◌∷◌, length, Some, Ok}
+use Rattle.std.proofs.Common.{refl, sym, ap, subst, ◌∙◌, arith}
+use Rattle.std.specs.Prelude.{ℤ, pos, filter, slice_set}
+use Rattle.std.specs.Ordering.{int_eq}
+use Rattle.std.proofs.lemmas.Bool.Decides.{Decides-int_eq}
+use Rattle.std.proofs.lemmas.List.{length-set}
+use Rattle.beat_count.specs.BeatState.{BeatState}
+use Rattle.stack_marks.specs.declared.mark.Mark.{Mark}
+use Rattle.stack_marks.specs.Stacks.{StackValue, popped, unmarked, with_word, word_at}
+use Rattle.loop_meaning.specs.InRange.{InRange}
+use Rattle.loop_meaning.specs.State as meaning
+use Rattle.tpal_syntax.specs.declared.instructions.Alu.TheVariants as alu
+use Rattle.tpal_syntax.specs.declared.instructions.Instr.{Instr}
+use Rattle.tpal_syntax.specs.declared.instructions.Instr.TheVariants as instr
+use Rattle.tpal_syntax.specs.declared.instructions.Term.{Term}
+use Rattle.tpal_syntax.specs.declared.instructions.Value.TheVariants as value
+use Rattle.tpal_syntax.specs.declared.words.Word.{Word}
+use Rattle.tpal_syntax.specs.declared.words.Word.TheVariants as word
+use Rattle.tpal_syntax.specs.Listing.{Listing}
+use Rattle.tpal_machine.specs.Effect as effect
+use Rattle.tpal_machine.specs.Effect.{is_marked_from}
+use Rattle.tpal_machine.specs.Reading.{register, with_register}
+use Rattle.tpal_machine.specs.State as machine
+use Rattle.tpal_machine.specs.Step.{advanced}
+use Rattle.tpal_machine.proofs.Kit.{Back, IsCalm, on_calc, on_sfree}
+use Rattle.expr_lower.specs.Standing.{Remains}
+use Rattle.expr_lower.proofs.Registers.{register_other, register_set}
+use Rattle.expr_lower.proofs.Standing.{behind, next}
+use Rattle.handler_gen.specs.CallCuts.{call_mark}
+use Rattle.handler_gen.specs.Sites.{left_end_label}
+use Rattle.handler_gen.proofs.Marks.{on_prmpop}
+use Rattle.expr_lower.specs.Registers.{base_register}
+use Rattle.handler_gen.proofs.Words.{word_other, word_same, word_there}
+use Rattle.block_lower.specs.Code.{call_exit, store, to}
+use Rattle.block_lower.specs.Layout.{Activation, kept_cell, kept_value, return_cell}
+use Rattle.block_lower.specs.Layout.{value_cell}
+use Rattle.block_lower.specs.Pairs.{second_call}
+use Rattle.block_lower.proofs.Scenes.Activations.{clear_above}
+use Rattle.block_lower.proofs.Forms.Arguments.{AreIn, are_in_same}
+use Rattle.block_lower.proofs.Forms.Called.{back_with, with_value}
+use Rattle.block_lower.proofs.Forms.Callees.{Returns}
+use Rattle.block_lower.proofs.Forms.Calls.{Keeping, also_back, base_less, callee, clear, kept_same}
+use Rattle.block_lower.proofs.Forms.Calls.{shows_back}
+use Rattle.block_lower.proofs.Scenes.Moves.{calm, opened}
+use Rattle.block_lower.proofs.CallPairs.PairPlaces.{Args, CutsOwed, KeptIn, PairAt, Waiting, Worlds}
+use Rattle.block_lower.proofs.CallPairs.PairPlaces.{kept}
+use Rattle.block_lower.proofs.CallPairs.PairPlaces.{next_in, first_call, scene_in}
+use Rattle.block_lower.proofs.CallPairs.PairPromises.{side_ends}
+use Rattle.block_lower.proofs.CallPairs.PairScenes.{clear_first}
+use Rattle.block_lower.proofs.CallPairs.PairSeconds.{CalledAt, FunctionOwed, calls_second}
+use Rattle.block_lower.proofs.Scenes.Pieces.{Apart, Host}
+use Rattle.block_lower.proofs.QuietPars.QuietEnds.{not_at, unmarked_is}
+use Rattle.block_lower.proofs.Scenes.Results.{fin, result, then}
+use Rattle.block_lower.proofs.Scenes.Scene.{Scene, Shows, ShowsIn}
+use Rattle.block_lower.proofs.Scenes.Showing.{shows_new}
+use Rattle.block_lower.proofs.Cuts.Sides.{Part}
+use Rattle.block_lower.proofs.Forms.Simple.{stores_in}
+
+-- the value of the first call
+pub record FirstValue : Type 0 where
+  pub value : ℤ
+  pub fits : InRange value
+
+module _ {code : Listing} {heartbeat z : ℕ} {act : Activation} (q : PairAt code heartbeat z act)
+  where
+    -- it is kept
+    abbrev pub kept_first : Keeping code heartbeat z act q.fuel q.S q.names FirstValue
+    kept_first = record {
+      Holds = λ a s. word_at s (pos (z + kept_cell act kept_value)) ≡ Some (word.Int a.value);
+      same = λ most a s t alike is. alike (z + kept_cell act kept_value) (omega (arith, most))
+          (omega (arith, q.fits)) ∙ is;
+    }
+
+    abbrev pub next_second : FirstValue → ℤ → meaning.State → meaning.Ran
+    next_second a u t = q.finish a.value u t
+
+    module _ (there : CalledAt code act q.p.funcs.items q.g.text.items q.second) where
+      -- what the second function owes where nothing was cut off
+      abbrev pub SecondOwed : Type 0
+      SecondOwed = FunctionOwed code heartbeat z act q.fuel q.S q.names q.lowest q.has_room q.low
+          FirstValue kept_first next_second q.k q.room q.code_is.return q.levels q.few
+          q.p.funcs.items q.g q.second there
+
+      module _ (owed : SecondOwed) (own : CutsOwed q) (most : ℕ) where
+        abbrev pub first_act : Activation
+        first_act = record act { most = most; size = q.first.size }
+
+        abbrev pub C : Scene code heartbeat (z + act.size)
+        C = scene_in q own
+
+        -- ---- the whole goes on
+
+        module _ (w : Waiting q) (names_in : List (List ℕ)) (st : meaning.State)
+            (state : machine.State) (v : ℤ) (beat : BeatState)
+            (shows : ShowsIn code heartbeat (z + act.size) first_act q.fuel C (Host w) names_in st
+            state)
+            (fits_v : InRange v) (is : register state.registers 0 ≡ word.Int v) where
+          abbrev place : ℕ
+          place = z + q.site.mark
+
+          -- the stack without the pair's mark
+          abbrev bare : StackValue
+          bare = unmarked state.stack (pos place)
+
+          abbrev there_again : machine.State
+          there_again = record state { beat = beat; block = q.code_is.between; at = 0 }
+
+          abbrev K : Back code heartbeat
+          K = q.S.owing w.world
+              (then (result (next_in q w.value v (back_with w.state.vars st))) q.k)
+
+          marks_are : bare.marks ≡ q.S.marks w.world
+          marks_are =
+              ap (filter (not_at place)) shows.marked
+              ∙ unmarked_is (q.S.marks w.world) (call_mark q.site z ∷ []) place
+              (clear_above (q.S.marks w.world) (z + value_cell q.S.lowest) place
+              (omega (arith, q.lowest, w.few, q.mark_is)) (q.S.below w.world)) gone
+            where
+              gone : filter (not_at place) (call_mark q.site z ∷ []) ≡ []
+              gone =
+                  let same : int_eq (pos place) (pos place) ≡ true =
+                  (Decides-int_eq (pos place) (pos place)).1 refl in
+                  rw same refl
+
+          kept_there : KeptIn q w bare
+          kept_there = kept_same code heartbeat z act q.fuel q.S q.names q.lowest q.has_room (Args q)
+              (kept q) (next_in q) q.k q.room q.code_is.between w state.stack bare refl
+              (λ a below. refl) shows.keeps
+
+          -- it shows the callee's state in the scene of a call that can't be cut
+          shows_bare : Shows code heartbeat (z + act.size) first_act q.fuel
+              (callee code heartbeat z act q.fuel q.S q.names q.lowest q.has_room (Args q) (kept q)
+              (next_in q) q.k q.room q.code_is.between) w names_in st state.registers bare
+              state.tables state.fuel state.output state.goal (state.pending, state.met)
+          shows_bare = record {
+            size = shows.size;
+            base = shows.base;
+            limit = shows.limit;
+            limited = shows.limited;
+            tall = omega arith;
+            ticks = shows.ticks;
+            within = shows.within;
+            begun = shows.begun;
+            printed = shows.printed;
+            ends = shows.ends;
+            free = shows.free;
+            unmet = shows.unmet;
+            marked = marks_are;
+            named = shows.named;
+            few = shows.few;
+            tabled = shows.tabled;
+            held = shows.held;
+            can = shows.can.0;
+            ranged = shows.ranged;
+            levels = shows.levels;
+            unmarked = subst
+                (λ (ms : List Mark). is_marked_from ms (z + act.size + q.first.size) ≡ false)
+                (sym marks_are)
+                (clear code heartbeat z act q.fuel q.S q.names q.lowest q.has_room (Args q) (kept q)
+                (next_in q) q.k q.room q.code_is.between w (z + act.size + q.first.size)
+                (omega arith));
+            top = shows.top;
+            low = shows.low;
+            room = shows.room;
+            vars = shows.vars;
+            keeps = kept_there;
+          }
+
+          -- ---- the caller's activation runs again
+
+          abbrev words : List Word
+          words = slice_set state.registers 31 (word.Int (pos z))
+
+          abbrev stack : StackValue
+          stack = popped bare q.first.size
+
+          many : length words ≡ 32
+          many = length-set state.registers 31 (word.Int (pos z)) ∙ shows.size
+
+          base : register words 31 ≡ word.Int (pos z)
+          base = register_set state.registers 31 (word.Int (pos z)) (omega (arith, shows.size))
+
+          value_there : register words 0 ≡ word.Int v
+          value_there =
+              register_other state.registers 31 0 (word.Int (pos z))
+              (λ (e : 0 ≡ 31). absurd (omega (arith, e))) ∙ is
+
+          shows_caller : Shows code heartbeat z act q.fuel q.S w.world q.names
+              (back_with w.state.vars st) words stack state.tables state.fuel state.output state.goal
+              (state.pending, state.met)
+          shows_caller =
+              shows_back code heartbeat z act q.fuel q.S q.names q.lowest q.has_room (Args q) (kept q)
+              (next_in q) q.k q.room q.code_is.between q.first w bare kept_there shows.top most
+              names_in st state.registers words state.tables state.fuel state.output state.goal
+              (state.pending, state.met) shows_bare many base
+
+          are_kept : AreIn stack z (kept_cell act) 0 w.value.kept_numbers
+          are_kept = also_back code heartbeat z act q.fuel q.S q.names q.lowest q.has_room (Args q)
+              (kept q) (next_in q) q.k q.room q.code_is.between q.first w bare kept_there shows.top
+
+          -- ---- its instructions
+
+          abbrev end : Term
+          end = to q.second.label
+
+          abbrev last : List Instr
+          last = second_call code act q.second.parameters q.second.size q.code_is.return
+
+          one : Remains code q.code_is.between 0
+              (call_exit q.first.size act.size
+              (instr.PrmPop base_register q.site.mark
+              ∷ store (kept_cell act kept_value) (value.Reg 0) ∷ last)) end
+          one = opened code q.code_is.between _ end q.code_is.after
+
+          two : Remains code q.code_is.between (0 + 1)
+              (instr.Calc base_register base_register alu.Sub (value.Int (pos act.size))
+              ∷ instr.PrmPop base_register q.site.mark
+              ∷ store (kept_cell act kept_value) (value.Reg 0) ∷ last) end
+          two = behind code q.code_is.between 0 _ _ end one
+
+          three : Remains code q.code_is.between (0 + 1 + 1)
+              (instr.PrmPop base_register q.site.mark
+              ∷ store (kept_cell act kept_value) (value.Reg 0) ∷ last) end
+          three = behind code q.code_is.between (0 + 1) _ _ end two
+
+          four : Remains code q.code_is.between (0 + 1 + 1 + 1)
+              (store (kept_cell act kept_value) (value.Reg 0) ∷ last) end
+          four = behind code q.code_is.between (0 + 1 + 1) _ _ end three
+
+          -- ---- its tasks
+
+          abbrev freed : machine.State
+          freed = effect.with_stack (advanced there_again) (popped state.stack q.first.size)
+
+          abbrev lowered : machine.State
+          lowered = with_register (advanced freed) 31 (word.Int (pos z))
+
+          abbrev unset : machine.State
+          unset = effect.with_stack (advanced lowered) stack
+
+          abbrev kept_stack : StackValue
+          kept_stack = with_word stack (pos (z + kept_cell act kept_value)) (word.Int v)
+
+          abbrev stored : machine.State
+          stored = effect.with_stack (advanced unset) kept_stack
+
+          inside : z + kept_cell act kept_value < stack.base + length stack.cells
+          inside = omega (arith, shows_caller.top, q.fits)
+
+          -- the second call, where the first one's value is kept
+          goes_second : K.Holds stored
+          goes_second =
+              calls_second code heartbeat z act q.fuel q.S q.names q.lowest q.has_room q.low
+              FirstValue
+              kept_first next_second q.k q.room q.code_is.return q.levels q.few q.p.funcs.items q.g
+              q.second there owed
+              (record {
+                world = w.world;
+                state = back_with w.state.vars st;
+                value = record { value = v; fits = fits_v };
+                named = w.named;
+                few = w.few;
+                tall = w.tall;
+              }) stored q.second.parameters w.value.kept_numbers w.value.kept_many refl q.eight q.fits
+              q.high
+              (shows_new code heartbeat z act q.fuel q.S w.world shows_caller
+              (kept_cell act kept_value) (word.Int v) (omega (arith, w.few)) q.lowest)
+              (are_in_same stack kept_stack z (kept_cell act) 0 w.value.kept_numbers
+              (λ j from below. word_other stack (z + kept_cell act kept_value) (z + kept_cell act j)
+              (word.Int v) (omega (arith, shows_caller.low))
+              (λ e. absurd (omega (arith, e, below, w.value.kept_many, q.eight)))) are_kept)
+              (word_same stack (z + kept_cell act kept_value) (word.Int v)
+              (omega (arith, shows_caller.low)) inside)
+              (behind code q.code_is.between (0 + 1 + 1 + 1) _ last end four)
+
+          clear_there : is_marked_from state.stack.marks
+              (state.stack.base + (length state.stack.cells - q.first.size)) ≡ false
+          clear_there =
+              let top : z + act.size ≡ state.stack.base + (length state.stack.cells - q.first.size) =
+              omega (arith, shows.top, shows.low) in
+              subst (λ (a : ℕ). is_marked_from state.stack.marks a ≡ false) top
+              (subst (λ (ms : List Mark). is_marked_from ms (z + act.size) ≡ false) (sym shows.marked)
+              (clear_first code heartbeat z act q.fuel q.S q.names q.lowest q.has_room (Args q)
+              (kept q) (next_in q) q.k q.room q.code_is.between q.site q.mark_is q.fits (first_call q)
+              q.modes
+              (Host w) (z + act.size) (omega arith)))
+
+          host_returns : K.Holds there_again
+          host_returns =
+              on_sfree code heartbeat K there_again q.first.size (next code there_again _ _ end one)
+              (omega (arith, shows.top, shows.low)) clear_there
+              (on_calc code heartbeat K freed 31 31 alu.Sub (value.Int (pos act.size))
+              (word.Int (pos z)) (next code freed _ _ end two)
+              (rw shows.base (ap (λ m. Ok (word.Int m)) (base_less z act.size q.low)))
+              (on_prmpop code heartbeat K lowered 31 q.site.mark (pos z) _
+              (next code lowered _ _ end three) base
+              (word_there (popped state.stack q.first.size) place
+              (omega (arith, shows_caller.low))
+              (omega (arith, shows_caller.top, q.mark_is, q.fits)))
+              (stores_in code heartbeat z act q.fuel K unset (kept_cell act kept_value) (value.Reg 0)
+              _
+              end four base shows_caller.low inside
+              (subst (λ (x : Word). K.Holds (effect.with_stack (advanced unset)
+              (with_word stack (pos (z + kept_cell act kept_value)) x))) (sym value_there)
+              goes_second))))
+
+        -- ---- both worlds
+
+        abbrev label_of : Worlds q → ℕ
+        label_of (Host w) = q.code_is.between
+        label_of (Apart p) = left_end_label q.site.label
+
+        module _ (calm_left : IsCalm code (left_end_label q.site.label)) where
+          calm_of : (i : Worlds q) → IsCalm code (label_of i)
+          calm_of (Host w) = calm code q.code_is.between _ (to q.second.label) q.code_is.after
+          calm_of (Apart p) = calm_left
+
+          held_of : (i : Worlds q) (s : StackValue) → C.kept i s
+              → word_at s (pos (z + act.size + return_cell)) ≡ Some (word.Label (label_of i))
+          held_of (Host w) s h = h.label
+          held_of (Apart p) s h = h.label
+
+          goes_of : (i : Worlds q) (names_in : List (List ℕ)) (st : meaning.State)
+              (state : machine.State) (v : ℤ) (beat : BeatState)
+              → ShowsIn code heartbeat (z + act.size) first_act q.fuel C i names_in st state
+              → InRange v → register state.registers 0 ≡ word.Int v
+              → (C.owing i (fin (with_value v st))).Holds
+              (record state { beat = beat; block = label_of i; at = 0 })
+          goes_of (Host w) names_in st state v beat shows fits_v is = λ given.
+              host_returns w names_in st state v beat shows fits_v is
+          goes_of (Apart p) names_in st state v beat shows fits_v is =
+              side_ends code heartbeat (λ (part : Part). part) p v st task
+              (q.joins.left_ends (z + act.size) p.rec p.which (word.Int v) task (record {
+                block = refl;
+                at = refl;
+                size = shows.size;
+                base = shows.base;
+                value = is;
+                goal = shows.ends;
+                free = shows.free;
+                unmet = shows.unmet;
+              }) shows.keeps.rec) shows.ticks shows.printed shows.begun fits_v
+            where
+              task : machine.State
+              task = record state { beat = beat; block = left_end_label q.site.label; at = 0 }
+
+          pub first_returns : Returns code heartbeat q.fuel (z + act.size) first_act C
+          first_returns = record {
+            label = label_of;
+            calm = calm_of;
+            held = held_of;
+            goes_on = goes_of;
+          }

@@ -1,0 +1,116 @@
+-- The sizes of statements, as a row and as a list; and how few values are kept.
+use Rattle.std.proofs.Common.{◌≡◌, ◌≤◌, ◌+◌, max, Bool, true, false, ◌&&◌, if◌then◌else◌, List, []}
+use Rattle.std.proofs.Common.{◌∷◌, length, refl, ap, sym, ◌∙◌, Vec, arith}
+use Rattle.std.specs.List.{sum_by}
+use Rattle.std.proofs.lemmas.List.{length-append}
+use Rattle.std.proofs.lemmas.List.Sums.{sum_by-cons}
+use Rattle.std.specs.declared.alloc.Global.{Global}
+use Rattle.loop_rules.specs.Declarations.{declared_in, declared_all}
+use Rattle.loop_syntax.specs.declared.Carry.{Carry}
+use Rattle.loop_syntax.specs.declared.Stmt.{Stmt, Row_of-Stmt, end_of-Stmt, more_of-Stmt}
+use Rattle.loop_syntax.specs.declared.Stmt.{items-the_row-Stmt, items_hidden-the_row-Stmt-0}
+use Rattle.loop_syntax.specs.declared.Stmt.TheBlock.{hidden-the_row-Stmt-0}
+use Rattle.loop_syntax.specs.declared.Stmt.TheVariants.{Let, Set, Put, If', While', Loop', Par'}
+use Rattle.loop_syntax.specs.declared.Stmt.TheVariants.{Fold, Call, Both, Print, Emit}
+use Rattle.loop_syntax.specs.declared.Expr.{Expr}
+use Rattle.loop_syntax.specs.declared.Expr.TheVariants.{Int, Var, Cell', Rows, Cols, Neg', Bin'}
+use Rattle.loop_syntax.specs.declared.TableDecl.{TableDecl}
+use Rattle.loop_syntax.specs.declared.TableDecl.TheVariants.{Input, Made}
+use Rattle.loop_rules.specs.Limits.{height}
+use Rattle.block_lower.specs.Layout.{kept_by_both}
+use Rattle.block_lower.specs.Quiet.{all_is_quiet, list_is_quiet}
+use Rattle.block_lower.specs.Sizes.{added, added_by_all, added_by_list, added_by_other}
+use Rattle.block_lower.specs.Sizes.{added_by_second, par_blocks, declared, is_low_at, kept}
+use Rattle.block_lower.specs.Sizes.{kept_by_all, kept_by_list, kept_by_decl, kept_by_decls}
+use Rattle.block_lower.proofs.Written.QuietRows.{quiet_of_vec}
+
+added_of_row : {m : _} (calls : Bool) (row : Row_of-Stmt m) → added_by_all calls row ≡ sum_by (added calls) (items-the_row-Stmt _ row)
+added_of_row calls end_of-Stmt = refl
+added_of_row calls (more_of-Stmt b rest) =
+    ap (λ n. added calls b + n) (added_of_row calls rest) ∙ sym (sum_by-cons (added calls) b (items-the_row-Stmt _ rest))
+
+pub added_of_vec : (calls : Bool) (body : Vec Stmt Global) → added_by_all calls (hidden-the_row-Stmt-0 body) ≡ sum_by (added calls) body.items
+added_of_vec calls body =
+    added_of_row calls (hidden-the_row-Stmt-0 body) ∙ ap (λ ss. sum_by (added calls) ss) (items_hidden-the_row-Stmt-0 body)
+
+second_of_row : {m : _} (calls : Bool) (row : Row_of-Stmt m) → added_by_other calls row ≡ added_by_second calls (items-the_row-Stmt _ row)
+second_of_row calls end_of-Stmt = refl
+second_of_row calls (more_of-Stmt b rest) =
+    ap (λ n. added calls b + n + 1) (added_of_row calls rest) ∙ ap (λ n. n + 1) (sym (sum_by-cons (added calls) b (items-the_row-Stmt _ rest)))
+
+pub second_of_vec : (calls : Bool) (body : Vec Stmt Global) → added_by_other calls (hidden-the_row-Stmt-0 body) ≡ added_by_second calls body.items
+second_of_vec calls body =
+    second_of_row calls (hidden-the_row-Stmt-0 body) ∙ ap (λ ss. added_by_second calls ss) (items_hidden-the_row-Stmt-0 body)
+
+pub par_of_vec : (calls : Bool) (carries : List Carry) (body : Vec Stmt Global)
+    → par_blocks (all_is_quiet calls (hidden-the_row-Stmt-0 body)) carries (added_by_all calls (hidden-the_row-Stmt-0 body) + 1)
+    ≡ par_blocks (list_is_quiet calls body.items) carries (added_by_list calls body.items + 1)
+par_of_vec calls carries body =
+    ap (λ (quiet : Bool). par_blocks quiet carries (added_by_all calls (hidden-the_row-Stmt-0 body) + 1)) (quiet_of_vec calls body)
+    ∙ ap (λ n. par_blocks (list_is_quiet calls body.items) carries (n + 1)) (added_of_vec calls body)
+
+declared_of_row : {m : _} (row : Row_of-Stmt m) → length (declared_all row) ≡ sum_by declared (items-the_row-Stmt _ row)
+declared_of_row end_of-Stmt = refl
+declared_of_row (more_of-Stmt b rest) =
+    length-append (declared_in b) (declared_all rest) ∙ ap (λ n. declared b + n) (declared_of_row rest) ∙ sym (sum_by-cons declared b (items-the_row-Stmt _ rest))
+
+pub declared_of_vec : (body : Vec Stmt Global) → length (declared_all (hidden-the_row-Stmt-0 body)) ≡ sum_by declared body.items
+declared_of_vec body = declared_of_row (hidden-the_row-Stmt-0 body) ∙ ap (λ ss. sum_by declared ss) (items_hidden-the_row-Stmt-0 body)
+
+kept_of_row : {m : _} (row : Row_of-Stmt m) → kept_by_all row ≡ kept_by_list (items-the_row-Stmt _ row)
+kept_of_row end_of-Stmt = refl
+kept_of_row (more_of-Stmt b rest) = ap (λ n. max (kept b) n) (kept_of_row rest)
+
+pub kept_of_vec : (body : Vec Stmt Global) → kept_by_all (hidden-the_row-Stmt-0 body) ≡ kept_by_list body.items
+kept_of_vec body = kept_of_row (hidden-the_row-Stmt-0 body) ∙ ap kept_by_list (items_hidden-the_row-Stmt-0 body)
+
+-- an expression has a node
+pub some_height : (e : Expr) → 1 ≤ height e
+some_height (Int n p) = omega arith
+some_height (Var x) = omega arith
+some_height (Cell' t p a q b) = omega arith
+some_height (Rows t) = omega arith
+some_height (Cols t) = omega arith
+some_height (Neg' p a place) = omega arith
+some_height (Bin' o place p a q b) = omega arith
+
+-- ---- few values are kept
+
+few_if : (b : Bool) → (if b then 0 else 2) ≤ kept_by_both
+few_if true = omega arith
+few_if false = omega arith
+
+mutual
+  few_kept : (s : Stmt) → kept s ≤ kept_by_both
+  few_kept (Let x e) = omega arith
+  few_kept (Set x e) = omega arith
+  few_kept (Put t a b e) = few_if (is_low_at 1 b && is_low_at 2 e)
+  few_kept (If' e p body q other) = omega (arith, few_kept_by_all body, few_kept_by_all other)
+  few_kept (While' e p body) = few_kept_by_all body
+  few_kept (Loop' x a b p body) = few_kept_by_all body
+  few_kept (Par' place x a b carry_place carries reduces p body) = few_kept_by_all body
+  few_kept (Fold x e) = omega arith
+  few_kept (Call x f) = omega arith
+  few_kept (Both x f y g) = omega arith
+  few_kept (Print place e) = omega arith
+  few_kept (Emit place t) = omega arith
+
+  few_kept_by_all : {m : _} (row : Row_of-Stmt m) → kept_by_all row ≤ kept_by_both
+  few_kept_by_all end_of-Stmt = omega arith
+  few_kept_by_all (more_of-Stmt b rest) = omega (arith, few_kept b, few_kept_by_all rest)
+
+pub few_kept_by_list : (body : List Stmt) → kept_by_list body ≤ kept_by_both
+few_kept_by_list [] = omega arith
+few_kept_by_list (s ∷ ss) = omega (arith, few_kept s, few_kept_by_list ss)
+
+few_if_one : (b : Bool) → (if b then 0 else 1) ≤ kept_by_both
+few_if_one true = omega arith
+few_if_one false = omega arith
+
+few_kept_by_decl : (d : TableDecl) → kept_by_decl d ≤ kept_by_both
+few_kept_by_decl (Input x) = omega arith
+few_kept_by_decl (Made x a b) = few_if_one (is_low_at 1 b)
+
+pub few_kept_by_decls : (ds : List TableDecl) → kept_by_decls ds ≤ kept_by_both
+few_kept_by_decls [] = omega arith
+few_kept_by_decls (d ∷ ds) = omega (arith, few_kept_by_decl d, few_kept_by_decls ds)
