@@ -1,5 +1,6 @@
 -- How a beat goes on.
-use Rattle.std.specs.Prelude.{ℕ, ◌+◌, ◌-◌, ◌^◌, min, Bool, true, false, not, ◌&&◌, if◌then◌else◌, nat_le}
+use Rattle.std.specs.Prelude.{ℕ, ◌+◌, ◌-◌, ◌^◌, min, Bool, true, false, not, ◌&&◌, if◌then◌else◌}
+use Rattle.std.specs.Prelude.{nat_le}
 use Rattle.beat_count.specs.BeatState.{BeatState}
 
 -- a beat that has counted nothing
@@ -12,13 +13,16 @@ counted beat = record beat { count = min (beat.count + 1) (2 ^ 64 - 1) }
 
 -- whether control that enters a promotion-ready block is diverted
 abbrev pub is_diverted : ℕ → Bool → Bool → BeatState → Bool
-is_diverted heartbeat marked allowed beat = not beat.quiet && (nat_le heartbeat beat.count && (marked && allowed))
+is_diverted heartbeat marked allowed beat =
+    not beat.quiet && (nat_le heartbeat beat.count && (marked && allowed))
 
--- the beat after such an entry: a quiet one speaks again, a diversion is granted a fork, and else nothing changes
+-- the beat after such an entry: a quiet one speaks again, a diversion is granted a fork, and else
+-- nothing changes
 abbrev pub entered : ℕ → Bool → Bool → BeatState → BeatState
 entered heartbeat marked allowed beat =
     if beat.quiet then record beat { quiet = false }
-    else (if is_diverted heartbeat marked allowed beat then record { count = 0; quiet = true; granted = true } else beat)
+    else (if is_diverted heartbeat marked allowed beat
+    then record { count = 0; quiet = true; granted = true } else beat)
 
 -- the beat once its grant is used
 abbrev pub taken : BeatState → BeatState

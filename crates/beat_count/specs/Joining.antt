@@ -5,7 +5,8 @@ use Rattle.tp_value.specs.declared.values.Stop.TheVariants.{Done, Trap, NoFuel}
 
 -- left's stop where it isn't done; else right's, where both together are within the limit
 abbrev pub joined_stop : Stop → ℕ → Stop → ℕ → ℕ → Stop
-joined_stop Done left_ticks right right_ticks limit = if nat_le (left_ticks + right_ticks) limit then right else NoFuel
+joined_stop Done left_ticks right right_ticks limit =
+    if nat_le (left_ticks + right_ticks) limit then right else NoFuel
 joined_stop (Trap kind place) left_ticks right right_ticks limit = Trap kind place
 joined_stop NoFuel left_ticks right right_ticks limit = NoFuel
 

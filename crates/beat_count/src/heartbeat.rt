@@ -20,9 +20,11 @@ impl Model for Beat {
 
     ghost Value = { BeatState };
 
-    ghost view = { λ beat. record { count = beat.count; quiet = beat.quiet; granted = beat.granted } };
+    ghost view = { λ beat.
+        record { count = beat.count; quiet = beat.quiet; granted = beat.granted } };
 
-    ghost inverse = { λ beat. record { count = beat.count; quiet = beat.quiet; granted = beat.granted } };
+    ghost inverse = { λ beat.
+        record { count = beat.count; quiet = beat.quiet; granted = beat.granted } };
 }
 
 impl Beat {

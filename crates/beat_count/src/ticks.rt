@@ -47,7 +47,8 @@ impl Fuel {
     /// exceeds it is counted, and no further one is.
     pub fn spend(&mut self) -> bool
         ensures answer { result ≡ is_tick_allowed self.old.limit self.old.ticks }
-        ensures after { self.new ≡ record self.old { ticks = ticked self.old.limit self.old.ticks } }
+        ensures after { self.new
+            ≡ record self.old { ticks = ticked self.old.limit self.old.ticks } }
     {
         if self.ticks <= self.limit {
             self.ticks += 1;

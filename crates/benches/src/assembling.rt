@@ -51,8 +51,8 @@ fn read_times(alloc: Global, text: &[u8], times: u32) -> Result<Option<usize>, A
     Ok(Some(count))
 }
 
-/// Prints how many blocks a text of so many has, read so many times; with 0 times it writes the text.
-/// bench/assemble.sh times it beside `wc -l` on the same text.
+/// Prints how many blocks a text of so many has, read so many times; with 0 times it writes the
+/// text. bench/assemble.sh times it beside `wc -l` on the same text.
 pub fn run(rt: &HostRuntime, blocks: u32, times: u32) -> io::Result<()> {
     let Ok(text) = text_of(rt.alloc(), blocks) else {
         return println!(rt; "no memory");

@@ -180,9 +180,9 @@ fn cost_of(alloc: Global, source: &[u8]) -> Option<Cost> {
     }
 }
 
-/// Prints how many instructions each program took and how many ticks it counted. The programs read no
-/// input, so what is printed is always the same: a change of a code's length shows here, whatever the
-/// machine that it runs on.
+/// Prints how many instructions each program took and how many ticks it counted. The programs read
+/// no input, so what is printed is always the same: a change of a code's length shows here,
+/// whatever the machine that it runs on.
 pub fn run(rt: &HostRuntime) -> io::Result<()> {
     for (name, source) in PROGRAMS {
         match cost_of(rt.alloc(), source.as_bytes()) {

@@ -69,8 +69,8 @@ fn read_times(alloc: Global, text: &[u8], times: u32) -> Result<usize, Failure> 
     Ok(count)
 }
 
-/// Prints how many tokens a main block of so many lines has, read so many times; with 0 times it writes
-/// the text. bench/parse.sh times it beside `wc -w` on the same text.
+/// Prints how many tokens a main block of so many lines has, read so many times; with 0 times it
+/// writes the text. bench/parse.sh times it beside `wc -w` on the same text.
 pub fn run(rt: &HostRuntime, lines: u32, times: u32) -> io::Result<()> {
     let Ok(text) = text_of(rt.alloc(), lines) else {
         return println!(rt; "no memory");

@@ -69,8 +69,8 @@ fn printed(alloc: Global, count: u32, times: u32) -> Result<Vec<u8>, NoMemory> {
     Ok(text)
 }
 
-/// Prints a code of so many blocks so many times, and writes its text once. bench/code_text.sh times it
-/// beside `wc -l` on the same text.
+/// Prints a code of so many blocks so many times, and writes its text once. bench/code_text.sh
+/// times it beside `wc -l` on the same text.
 pub fn run(rt: &HostRuntime, count: u32, times: u32) -> io::Result<()> {
     match printed(rt.alloc(), count, times) {
         Ok(text) => io::writer(rt).write_all(&text),

@@ -105,8 +105,9 @@ impl Lowering {
         Ok(())
     }
 
-    /// The begin of a `par` up to that test: the bounds, and whether it has an iteration. The cell of
-    /// the next one that isn't begun is told. Its site stands two labels behind the test's block.
+    /// The begin of a `par` up to that test: the bounds, and whether it has an iteration. The cell
+    /// of the next one that isn't begun is told. Its site stands two labels behind the test's
+    /// block.
     pub fn begin_par(
         &mut self,
         round: Round,

@@ -81,7 +81,9 @@ pub fn held(alloc: Global, on: &Compiled) -> Result<Option<Vec<Held>>, NoMemory>
         (λ all. AreNamed on.now.program.tables.items (given_to on.now.program.tables.items))) }
     ensures held { IfOk result
         (λ found. IfSome found
-        (λ all. AreHeld on.now.program.tables.items (given_to on.now.program.tables.items) all.items)) }
+        (λ all.
+        AreHeld on.now.program.tables.items (given_to on.now.program.tables.items)
+        all.items)) }
     ensures tables { IfOk result
         (λ found. IfSome found (λ all. length all.items ≡ length on.now.code.tables)) }
 {

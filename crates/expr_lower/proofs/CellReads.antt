@@ -1,5 +1,6 @@
 -- The instructions that read a cell.
-use Rattle.std.proofs.Common.{◌≡◌, ◌≢◌, ℕ, ◌+◌, ◌<◌, ◌≤◌, Bool, true, false, cond, List, [], ◌∷◌, ◌++◌, Some, Ok, refl, ap, sym, subst, ◌∙◌, arith, ltb-true}
+use Rattle.std.proofs.Common.{◌≡◌, ◌≢◌, ℕ, ◌+◌, ◌<◌, ◌≤◌, Bool, true, false, cond, List, [], ◌∷◌}
+use Rattle.std.proofs.Common.{◌++◌, Some, Ok, refl, ap, sym, subst, ◌∙◌, arith, ltb-true}
 use Rattle.std.specs.Prelude.{ℤ, pos, ◌&&◌, int_lt, int_le, slice_set, nat_lt, length}
 use Rattle.std.specs.Int.{int_min}
 use Rattle.beat_count.specs.BeatState.{BeatState}
@@ -34,14 +35,19 @@ use Rattle.tpal_machine.specs.Step.{stepped, advanced}
 use Rattle.tpal_machine.proofs.Kit.{Back, IsNext}
 use Rattle.tpal_machine.proofs.Steps.{step_of_instr}
 use Rattle.expr_lower.specs.declared.scope.Scope.{Scope}
-use Rattle.expr_lower.specs.Bodies.{trap_block, below_test, row_test, col_test, range_tests, cell_read}
+use Rattle.expr_lower.specs.Bodies.{trap_block, below_test, row_test, col_test, range_tests}
+use Rattle.expr_lower.specs.Bodies.{cell_read}
 use Rattle.expr_lower.specs.Holding.{Holds}
 use Rattle.expr_lower.specs.Leaving.{Keeps, moved, moved_to}
 use Rattle.expr_lower.specs.Scopes.{HasTable, table_number}
 use Rattle.expr_lower.specs.Standing.{Remains}
-use Rattle.expr_lower.proofs.Evaluating.{After, after_moved, calculates, tests, Evaluates, EvaluatesOnBoth, with_operand, with_second, holds_moved, holds_front, holds_back}
-use Rattle.expr_lower.proofs.Indexes.{and_false, lesser_below, both_positions, IsPosition, not_below_size, below_size}
-use Rattle.expr_lower.proofs.Registers.{register_set, register_other, kept_set, kept_counted, kept_twice, kept_wider}
+use Rattle.expr_lower.proofs.Evaluating.{After, after_moved, calculates, tests, Evaluates}
+use Rattle.expr_lower.proofs.Evaluating.{EvaluatesOnBoth, with_operand, with_second, holds_moved}
+use Rattle.expr_lower.proofs.Evaluating.{holds_front, holds_back}
+use Rattle.expr_lower.proofs.Indexes.{and_false, lesser_below, both_positions, IsPosition}
+use Rattle.expr_lower.proofs.Indexes.{not_below_size, below_size}
+use Rattle.expr_lower.proofs.Registers.{register_set, register_other, kept_set, kept_counted}
+use Rattle.expr_lower.proofs.Registers.{kept_twice, kept_wider}
 use Rattle.expr_lower.proofs.Standing.{next, behind, split}
 
 module _ (code : Listing) (heartbeat : ℕ) (K : Back code heartbeat) where

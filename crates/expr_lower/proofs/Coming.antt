@@ -1,5 +1,6 @@
 -- What a task comes to at the blocks of an expression.
-use Rattle.std.proofs.Common.{◌≡◌, ℕ, suc, ◌+◌, ◌≤◌, Bool, false, List, [], ◌++◌, None, length, drop, refl, ap, sym, subst, ◌∙◌, arith, append-nil}
+use Rattle.std.proofs.Common.{◌≡◌, ℕ, suc, ◌+◌, ◌≤◌, Bool, false, List, [], ◌++◌, None, length}
+use Rattle.std.proofs.Common.{drop, refl, ap, sym, subst, ◌∙◌, arith, append-nil}
 use Rattle.std.specs.Prelude.{ℤ}
 use Rattle.beat_count.specs.BeatState.{BeatState}
 use Rattle.tp_value.specs.declared.Place.{Place}

@@ -1,6 +1,7 @@
 -- Instructions that leave the number of an answer in a register, or trap where it is a trap: what they are
 -- over any predicate that goes backwards, and how those of two operands are put together.
-use Rattle.std.proofs.Common.{◌≡◌, ℕ, ◌+◌, Bool, true, false, List, [], ◌∷◌, ◌++◌, Some, Ok, refl, ap, ◌∙◌, arith}
+use Rattle.std.proofs.Common.{◌≡◌, ℕ, ◌+◌, Bool, true, false, List, [], ◌∷◌, ◌++◌, Some, Ok, refl}
+use Rattle.std.proofs.Common.{ap, ◌∙◌, arith}
 use Rattle.std.specs.Prelude.{ℤ, pos, slice_set}
 use Rattle.std.specs.List.{AllByRecursion}
 use Rattle.beat_count.specs.BeatState.{BeatState}

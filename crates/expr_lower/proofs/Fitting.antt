@@ -1,6 +1,8 @@
 -- The instructions of an expression are ones that a code may have: their registers, offsets, tables, labels
 -- and numbers are in range.
-use Rattle.std.proofs.Common.{◌≡◌, ℕ, zero, suc, ◌+◌, ◌<◌, ◌≤◌, Bool, true, false, cond, List, [], ◌∷◌, ◌++◌, Option, None, Some, Vec, length, bytes_eq, refl, ap, ◌∙◌, arith, lt-ltb, le-leb}
+use Rattle.std.proofs.Common.{◌≡◌, ℕ, zero, suc, ◌+◌, ◌<◌, ◌≤◌, Bool, true, false, cond, List, []}
+use Rattle.std.proofs.Common.{◌∷◌, ◌++◌, Option, None, Some, Vec, length, bytes_eq, refl, ap, ◌∙◌}
+use Rattle.std.proofs.Common.{arith, lt-ltb, le-leb}
 use Rattle.std.specs.Prelude.{ℤ, pos, negsuc, ◌&&◌, ◌||◌, nat_lt, ⊤}
 use Rattle.std.specs.List.{list_all, AllByRecursion}
 use Rattle.std.specs.declared.alloc.Global.{Global}
@@ -19,7 +21,8 @@ use Rattle.tpal_syntax.specs.declared.instructions.Instr.TheVariants as instr
 use Rattle.tpal_syntax.specs.declared.instructions.Value as operands
 use Rattle.tpal_syntax.specs.declared.instructions.Value.TheVariants as value
 use Rattle.expr_lower.specs.declared.scope.Scope.{Scope}
-use Rattle.expr_lower.specs.Bodies.{literal, can_trap, may_be_zero, trap_count, calculation, turned, division, operation, below_test, row_test, col_test, body_of}
+use Rattle.expr_lower.specs.Bodies.{literal, can_trap, may_be_zero, trap_count, calculation, turned}
+use Rattle.expr_lower.specs.Bodies.{division, operation, below_test, row_test, col_test, body_of}
 use Rattle.expr_lower.specs.Scopes.{IsIn, cell_in, number_in, has_table_in}
 use Rattle.expr_lower.proofs.Law.{Fits, fits}
 

@@ -1,5 +1,6 @@
 -- Indexes in and out of the range of a table.
-use Rattle.std.proofs.Common.{◌≡◌, ℕ, Bool, true, false, cond, refl, leb-true, leb-false, lt-ltb, le-ltb, arith}
+use Rattle.std.proofs.Common.{◌≡◌, ℕ, Bool, true, false, cond, refl, leb-true, leb-false, lt-ltb}
+use Rattle.std.proofs.Common.{le-ltb, arith}
 use Rattle.std.specs.Prelude.{ℤ, pos, negsuc, ◌&&◌, int_lt, int_le, nat_lt}
 use Rattle.std.specs.Int.{int_min}
 use Rattle.loop_meaning.specs.State.{is_below}

@@ -1,5 +1,6 @@
 -- The instructions of an expression evaluate it.
-use Rattle.std.proofs.Common.{◌≡◌, ℕ, suc, ◌+◌, ◌≤◌, Bool, true, false, cond, Ok, List, [], ◌∷◌, ◌++◌, max, refl, ap, subst, ◌∙◌, arith, lit≤}
+use Rattle.std.proofs.Common.{◌≡◌, ℕ, suc, ◌+◌, ◌≤◌, Bool, true, false, cond, Ok, List, [], ◌∷◌}
+use Rattle.std.proofs.Common.{◌++◌, max, refl, ap, subst, ◌∙◌, arith, lit≤}
 use Rattle.std.specs.Prelude.{ℤ, pos, negsuc, ◌-ℤ◌, ◌*ℤ◌, slice_set, length}
 use Rattle.std.proofs.lemmas.List.{length-append}
 use Rattle.std.proofs.Math.Nat.{le-max_left, le-max_right}
@@ -25,7 +26,8 @@ use Rattle.tpal_syntax.specs.Listing.{Listing}
 use Rattle.tpal_machine.specs.Reading.{table_at}
 use Rattle.tpal_machine.proofs.Kit.{Back, on_move, on_load}
 use Rattle.expr_lower.specs.declared.scope.Scope.{Scope}
-use Rattle.expr_lower.specs.Bodies.{trap_block, literal, can_trap, trap_count, traps_of, operation, body_of}
+use Rattle.expr_lower.specs.Bodies.{trap_block, literal, can_trap, trap_count, traps_of, operation}
+use Rattle.expr_lower.specs.Bodies.{body_of}
 use Rattle.expr_lower.specs.Scopes.{IsIn, offset_of, table_number}
 use Rattle.expr_lower.specs.Standing.{AreAt}
 use Rattle.expr_lower.proofs.CellReads.{on_rows, on_cols, cell_law}

@@ -1,6 +1,9 @@
 -- The instructions of operators.
-use Rattle.std.proofs.Common.{◌≡◌, ℕ, zero, suc, ◌+◌, ◌<◌, ◌≤◌, Bool, true, false, cond, List, [], ◌∷◌, ◌++◌, Option, None, Some, Result, Ok, Err, refl, ap, sym, subst, ◌∙◌, arith, ltb-true}
-use Rattle.std.specs.Prelude.{ℤ, pos, negsuc, ◌+ℤ◌, ◌-ℤ◌, ◌*ℤ◌, int_div, int_rem, int_lt, int_le, not, slice_set, nat_lt, length, ⊤}
+use Rattle.std.proofs.Common.{◌≡◌, ℕ, zero, suc, ◌+◌, ◌<◌, ◌≤◌, Bool, true, false, cond, List, []}
+use Rattle.std.proofs.Common.{◌∷◌, ◌++◌, Option, None, Some, Result, Ok, Err, refl, ap, sym, subst}
+use Rattle.std.proofs.Common.{◌∙◌, arith, ltb-true}
+use Rattle.std.specs.Prelude.{ℤ, pos, negsuc, ◌+ℤ◌, ◌-ℤ◌, ◌*ℤ◌, int_div, int_rem, int_lt, int_le}
+use Rattle.std.specs.Prelude.{not, slice_set, nat_lt, length, ⊤}
 use Rattle.std.specs.Ordering.{int_eq}
 use Rattle.std.proofs.lemmas.Bool.Decides.{Decides-int_eq}
 use Rattle.beat_count.specs.BeatState.{BeatState}
@@ -34,12 +37,16 @@ use Rattle.tpal_machine.specs.Reading.{register, operand, block_at}
 use Rattle.tpal_machine.specs.State.{State}
 use Rattle.tpal_machine.proofs.Kit.{Back, on_move}
 use Rattle.expr_lower.specs.declared.scope.Scope.{Scope}
-use Rattle.expr_lower.specs.Bodies.{trap_block, can_trap, may_be_zero, calculation, turned, division, operation}
+use Rattle.expr_lower.specs.Bodies.{trap_block, can_trap, may_be_zero, calculation, turned}
+use Rattle.expr_lower.specs.Bodies.{division, operation}
 use Rattle.expr_lower.specs.Holding.{Holds}
 use Rattle.expr_lower.specs.Leaving.{Keeps, moved}
 use Rattle.expr_lower.specs.Standing.{Remains, AreAt}
-use Rattle.expr_lower.proofs.Evaluating.{After, after_moved, calculates, tests, Evaluates, EvaluatesOn, with_second, holds_moved, holds_front, holds_back}
-use Rattle.expr_lower.proofs.Registers.{register_set, kept_set, kept_counted, kept_twice, kept_wider}
+use Rattle.expr_lower.proofs.Evaluating.{After, after_moved, calculates, tests, Evaluates}
+use Rattle.expr_lower.proofs.Evaluating.{EvaluatesOn, with_second, holds_moved, holds_front}
+use Rattle.expr_lower.proofs.Evaluating.{holds_back}
+use Rattle.expr_lower.proofs.Registers.{register_set, kept_set, kept_counted, kept_twice}
+use Rattle.expr_lower.proofs.Registers.{kept_wider}
 use Rattle.expr_lower.proofs.Standing.{next, behind, split}
 
 -- ---- numbers

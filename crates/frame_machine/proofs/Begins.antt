@@ -1,10 +1,13 @@
 -- Where the upper part begins: the variables round the loop, with units for those that it reduces.
-use Rattle.frame_machine.proofs.Bends.{Bend, Goes, Keeps, bent, keeps_assign, keeps_refl, keeps_trans, name_is}
+use Rattle.frame_machine.proofs.Bends.{Bend, Goes, Keeps, bent, keeps_assign, keeps_refl}
+use Rattle.frame_machine.proofs.Bends.{keeps_trans, name_is}
 use Rattle.frame_machine.proofs.Ranges.{Around, Cut, Over}
 use Rattle.frame_machine.specs.Bodies.{SameOp, Unreduced}
 use Rattle.frame_machine.specs.Joins.{combined, combined_by, names_of, units_for}
-use Rattle.frame_machine.specs.Lawful.{Callable, Distinct, DistinctTargets, FixedIn, Lawful, RowsFixed, modes_in}
-use Rattle.frame_machine.specs.Modes.{AllOfMode, Closed, Fixed, Mode, Modes, Named, OwnCell, OwnRow, Whole, demoted, inner_modes}
+use Rattle.frame_machine.specs.Lawful.{Callable, Distinct, DistinctTargets, FixedIn, Lawful}
+use Rattle.frame_machine.specs.Lawful.{RowsFixed, modes_in}
+use Rattle.frame_machine.specs.Modes.{AllOfMode, Closed, Fixed, Mode, Modes, Named, OwnCell, OwnRow}
+use Rattle.frame_machine.specs.Modes.{Whole, demoted, inner_modes}
 use Rattle.loop_meaning.specs.Frames.{with_accs}
 use Rattle.loop_meaning.specs.State.{assign, lookup}
 use Rattle.loop_meaning.specs.declared.value.Variable.{Variable}
@@ -15,7 +18,9 @@ use Rattle.loop_syntax.specs.declared.Program.{Program}
 use Rattle.loop_syntax.specs.declared.Reduce.{Reduce}
 use Rattle.reduce_ops.specs.Laws.{combine-assoc}
 use Rattle.reduce_ops.specs.Reduction.{combine, unit}
-use Rattle.std.proofs.Common.{Bool, List, None, Option, Some, [], ap, arith, bytes_eq, cond, false, inl, inr, length, refl, subst, suc, sym, true, ℕ, ℤ, ◌||◌, ◌∙◌, ◌∷◌, ◌≡◌}
+use Rattle.std.proofs.Common.{Bool, List, None, Option, Some, [], ap, arith, bytes_eq, cond, false}
+use Rattle.std.proofs.Common.{inl, inr, length, refl, subst, suc, sym, true, ℕ, ℤ, ◌||◌, ◌∙◌, ◌∷◌}
+use Rattle.std.proofs.Common.{◌≡◌}
 use Rattle.std.proofs.lemmas.Slice.Eq.{bytes_eq-Decides}
 use Rattle.std.specs.Prelude.{⊤}
 use Rattle.tp_value.specs.declared.Op.{Op}

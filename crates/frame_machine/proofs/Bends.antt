@@ -6,7 +6,8 @@ use Rattle.loop_meaning.specs.declared.value.Variable.{Variable}
 use Rattle.loop_rules.specs.Names.{operator_of}
 use Rattle.loop_syntax.specs.declared.Reduce.{Reduce}
 use Rattle.reduce_ops.specs.Reduction.{combine}
-use Rattle.std.proofs.Common.{Bool, List, Some, [], ap, arith, bytes_eq, cond, false, length, pos, refl, subst, suc, sym, take, true, zero, ℕ, ℤ, ◌∙◌, ◌∷◌, ◌≡◌}
+use Rattle.std.proofs.Common.{Bool, List, Some, [], ap, arith, bytes_eq, cond, false, length, pos}
+use Rattle.std.proofs.Common.{refl, subst, suc, sym, take, true, zero, ℕ, ℤ, ◌∙◌, ◌∷◌, ◌≡◌}
 use Rattle.std.proofs.lemmas.Slice.Eq.{bytes_eq-Decides}
 use Rattle.std.specs.Prelude.{⊤}
 use Rattle.tp_value.specs.declared.Op.{Op}

@@ -1,6 +1,7 @@
 -- The parts of a frame that fits its source fit it too, so each may be cut again.
 use Rattle.frame_machine.proofs.Ranges.{low, middle, up}
-use Rattle.frame_machine.specs.Fitting.{Begun, BegunBoth, BegunPar, Fits, RangeFits, numbers_of, operators_of}
+use Rattle.frame_machine.specs.Fitting.{Begun, BegunBoth, BegunPar, Fits, RangeFits, numbers_of}
+use Rattle.frame_machine.specs.Fitting.{operators_of}
 use Rattle.frame_machine.specs.Splitting.{cut_of, half_up, parts_of, ranges_at, with_units}
 use Rattle.loop_meaning.specs.InRange.{InRange}
 use Rattle.loop_meaning.specs.declared.frame.Frame.{Frame}
@@ -8,7 +9,9 @@ use Rattle.loop_meaning.specs.declared.frame.Frame.TheVariants.{Pair, Range}
 use Rattle.loop_syntax.specs.declared.ParLoop.{ParLoop}
 use Rattle.reduce_ops.specs.Laws.{unit_fits}
 use Rattle.reduce_ops.specs.Reduction.{unit}
-use Rattle.std.proofs.Common.{All, Bool, List, None, Option, Some, [], ap, arith, false, negsuc, pos, refl, subst, suc, sym, true, zero, ℤ, ◌-ℤ◌, ◌<ℤ◌, ◌∙◌, ◌∷◌, ◌≡◌, ◌≤ℤ◌}
+use Rattle.std.proofs.Common.{All, Bool, List, None, Option, Some, [], ap, arith, false, negsuc}
+use Rattle.std.proofs.Common.{pos, refl, subst, suc, sym, true, zero, ℤ, ◌-ℤ◌, ◌<ℤ◌, ◌∙◌, ◌∷◌, ◌≡◌}
+use Rattle.std.proofs.Common.{◌≤ℤ◌}
 use Rattle.std.proofs.lemmas.Int.{by_lt_z, ints}
 use Rattle.std.proofs.lemmas.List.Elements.{All-cons, All-nil}
 use Rattle.std.specs.Prelude.{int_le}

@@ -1,9 +1,11 @@
 -- Runs with more ticks before them, as far as the fuel goes, and how two parts of a run are joined.
 use Rattle.beat_count.specs.Joining.{joined_stop, joined_ticks}
-use Rattle.loop_meaning.proofs.Runs.{after_alike, after_done, after_stopped, alike_back, alike_refl, alike_trans}
+use Rattle.loop_meaning.proofs.Runs.{after_alike, after_done, after_stopped, alike_back, alike_refl}
+use Rattle.loop_meaning.proofs.Runs.{alike_trans}
 use Rattle.loop_meaning.specs.Ends.{EndAlike, Ends}
 use Rattle.loop_meaning.specs.State.{Ran, State, after, done, out_of_fuel, tick}
-use Rattle.std.proofs.Common.{ap, arith, false, nat_le, nat_lt, refl, subst, sym, true, ℕ, ◌+◌, ◌<◌, ◌∙◌, ◌≡◌, ◌≤◌}
+use Rattle.std.proofs.Common.{ap, arith, false, nat_le, nat_lt, refl, subst, sym, true, ℕ, ◌+◌, ◌<◌}
+use Rattle.std.proofs.Common.{◌∙◌, ◌≡◌, ◌≤◌}
 use Rattle.std.proofs.lemmas.Bool.Decides.{nat_tests}
 use Rattle.tp_value.specs.declared.Place.{Place}
 use Rattle.tp_value.specs.declared.Stop.{Stop}

@@ -1,7 +1,9 @@
 -- The law of a range that is cut, over frames, and of what each part touches.
 use Rattle.frame_machine.proofs.Begins.{accs_around, lawful_reduced, names_kept, ops_all}
-use Rattle.frame_machine.proofs.Framing.{accs_in, accs_merged, iterations_join_from, round_around, units_are}
-use Rattle.frame_machine.proofs.Joining.{low_done, lower_kept, lower_kept_from, up_done, upper_kept_from}
+use Rattle.frame_machine.proofs.Framing.{accs_in, accs_merged, iterations_join_from, round_around}
+use Rattle.frame_machine.proofs.Framing.{units_are}
+use Rattle.frame_machine.proofs.Joining.{low_done, lower_kept, lower_kept_from, up_done}
+use Rattle.frame_machine.proofs.Joining.{upper_kept_from}
 use Rattle.frame_machine.proofs.Numbers.{gap_back}
 use Rattle.frame_machine.proofs.Ranges.{Around, middle}
 use Rattle.frame_machine.specs.Fitting.{RangeFits}
@@ -19,7 +21,8 @@ use Rattle.loop_meaning.specs.declared.frame.Frame.TheVariants.{Range}
 use Rattle.loop_meaning.specs.declared.value.Variable.{Variable}
 use Rattle.loop_syntax.specs.declared.ParLoop.{ParLoop}
 use Rattle.loop_syntax.specs.declared.Program.{Program}
-use Rattle.std.proofs.Common.{List, [], ap, arith, pos, subst, sym, ℕ, ℤ, ◌+ℤ◌, ◌+◌, ◌-◌, ◌∙◌, ◌∷◌, ◌≡◌, ◌≤ℤ◌, ◌≤◌}
+use Rattle.std.proofs.Common.{List, [], ap, arith, pos, subst, sym, ℕ, ℤ, ◌+ℤ◌, ◌+◌, ◌-◌, ◌∙◌, ◌∷◌}
+use Rattle.std.proofs.Common.{◌≡◌, ◌≤ℤ◌, ◌≤◌}
 use Rattle.std.proofs.lemmas.Int.{ints}
 use Rattle.std.specs.Int.{int_gap}
 use Rattle.tp_value.specs.declared.Op.{Op}

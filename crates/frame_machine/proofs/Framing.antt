@@ -1,5 +1,6 @@
 -- A range of a `par` that is cut, as frames.
-use Rattle.frame_machine.proofs.Begins.{At, NoneFixed, Ops, UnitAt, Units, accs_around, at_lookup, lawful_reduced, units_accs}
+use Rattle.frame_machine.proofs.Begins.{At, NoneFixed, Ops, UnitAt, Units, accs_around, at_lookup}
+use Rattle.frame_machine.proofs.Begins.{lawful_reduced, units_accs}
 use Rattle.frame_machine.proofs.Bends.{Keeps, keeps_refl, keeps_trans, name_is}
 use Rattle.frame_machine.proofs.Joining.{joins_alike, joins_from}
 use Rattle.frame_machine.proofs.Moving.{within}
@@ -9,8 +10,10 @@ use Rattle.frame_machine.specs.Bodies.{Unreduced}
 use Rattle.frame_machine.specs.Fitting.{numbers_of, operators_of}
 use Rattle.frame_machine.specs.FrameLaws.{ops_of}
 use Rattle.frame_machine.specs.Iterating.{LoopInRange, iterations_in}
-use Rattle.frame_machine.specs.Joins.{Joins, SameRound, combined, combined_by, names_of, units_for, upper_start}
-use Rattle.frame_machine.specs.Lawful.{Distinct, DistinctTargets, FixedIn, Lawful, TargetsIn, modes_in}
+use Rattle.frame_machine.specs.Joins.{Joins, SameRound, combined, combined_by, names_of, units_for}
+use Rattle.frame_machine.specs.Joins.{upper_start}
+use Rattle.frame_machine.specs.Lawful.{Distinct, DistinctTargets, FixedIn, Lawful, TargetsIn}
+use Rattle.frame_machine.specs.Lawful.{modes_in}
 use Rattle.frame_machine.specs.Modes.{Modes}
 use Rattle.frame_machine.specs.Parts.{AgreeOn, From, Seen, Written}
 use Rattle.frame_machine.specs.Splitting.{merged, with_units}
@@ -25,7 +28,9 @@ use Rattle.loop_syntax.specs.declared.ParLoop.{ParLoop}
 use Rattle.loop_syntax.specs.declared.Program.{Program}
 use Rattle.loop_syntax.specs.declared.Reduce.{Reduce}
 use Rattle.reduce_ops.specs.Reduction.{combine, unit}
-use Rattle.std.proofs.Common.{All, Bool, List, None, Option, Some, [], ap, arith, bytes_eq, cond, false, inl, inr, length, map, pos, refl, subst, suc, sym, true, ℕ, ℤ, ◌+ℤ◌, ◌+◌, ◌||◌, ◌∙◌, ◌∷◌, ◌≡◌, ◌≤◌}
+use Rattle.std.proofs.Common.{All, Bool, List, None, Option, Some, [], ap, arith, bytes_eq, cond}
+use Rattle.std.proofs.Common.{false, inl, inr, length, map, pos, refl, subst, suc, sym, true, ℕ, ℤ}
+use Rattle.std.proofs.Common.{◌+ℤ◌, ◌+◌, ◌||◌, ◌∙◌, ◌∷◌, ◌≡◌, ◌≤◌}
 use Rattle.std.proofs.lemmas.Int.{ints}
 use Rattle.std.proofs.lemmas.List.Elements.{All-cons, All-head, All-nil, All-tail}
 use Rattle.std.proofs.lemmas.Slice.Eq.{bytes_eq-Decides}

@@ -1,5 +1,6 @@
 -- Runs that read and write only the cells that are theirs, change no variable that is fixed, and show nothing.
-use Rattle.frame_machine.proofs.Bends.{Keeps, keeps_declare, keeps_length, keeps_refl, keeps_take, keeps_trans, keeps_weaken, name_is}
+use Rattle.frame_machine.proofs.Bends.{Keeps, keeps_declare, keeps_length, keeps_refl, keeps_take}
+use Rattle.frame_machine.proofs.Bends.{keeps_trans, keeps_weaken, name_is}
 use Rattle.frame_machine.proofs.Following.{no_done, trap_done}
 use Rattle.frame_machine.proofs.Tables.{agree_refl, agree_trans, table_other, table_written}
 use Rattle.frame_machine.proofs.Values.{notes_append}
@@ -7,14 +8,19 @@ use Rattle.frame_machine.specs.Parts.{AgreeAt, AgreeOn, Cells, NotesKeep, Outsid
 use Rattle.loop_meaning.proofs.Ticks.{tick_allowed, tick_refused}
 use Rattle.loop_meaning.specs.Calls.{enter}
 use Rattle.loop_meaning.specs.Expressions.{eval}
-use Rattle.loop_meaning.specs.State.{Note, Ran, State, after, cell_number, declare, done, go_on, has_cell, is_below, leave_block, noted, table_of, tick, with_cell, write_cell}
-use Rattle.loop_meaning.specs.Statements.{Called, block, choose, given, given_answer, iterate, iteration, put_cell, turns, unless_wide, with_call}
+use Rattle.loop_meaning.specs.State.{Note, Ran, State, after, cell_number, declare, done, go_on}
+use Rattle.loop_meaning.specs.State.{has_cell, is_below, leave_block, noted, table_of, tick}
+use Rattle.loop_meaning.specs.State.{with_cell, write_cell}
+use Rattle.loop_meaning.specs.Statements.{Called, block, choose, given, given_answer, iterate}
+use Rattle.loop_meaning.specs.Statements.{iteration, put_cell, turns, unless_wide, with_call}
 use Rattle.loop_meaning.specs.declared.value.Answer.{Answer}
 use Rattle.loop_meaning.specs.declared.value.Answer.TheVariants.{Number, Traps}
 use Rattle.loop_meaning.specs.declared.value.Variable.{Variable}
 use Rattle.loop_syntax.specs.declared.Expr.{Expr}
 use Rattle.loop_syntax.specs.declared.Name.{Name}
-use Rattle.std.proofs.Common.{Bool, List, [], ap, arith, bytes_eq, false, length, nat_lt, negsuc, pos, refl, subst, suc, sym, take, true, unsigned_abs, zero, ℕ, ℤ, ⊎_elim, ◌&&◌, ◌*◌, ◌+ℤ◌, ◌+◌, ◌<◌, ◌∙◌, ◌≡◌, ◌≤◌}
+use Rattle.std.proofs.Common.{Bool, List, [], ap, arith, bytes_eq, false, length, nat_lt, negsuc}
+use Rattle.std.proofs.Common.{pos, refl, subst, suc, sym, take, true, unsigned_abs, zero, ℕ, ℤ}
+use Rattle.std.proofs.Common.{⊎_elim, ◌&&◌, ◌*◌, ◌+ℤ◌, ◌+◌, ◌<◌, ◌∙◌, ◌≡◌, ◌≤◌}
 use Rattle.std.proofs.lemmas.Bool.{cases_eq, cases_lt}
 use Rattle.std.proofs.lemmas.Bool.Decides.{nat_tests}
 use Rattle.std.proofs.lemmas.List.{get_or-set_other, length-set}

@@ -1,17 +1,26 @@
 -- The statements of a body, and the functions that it calls, touch only the cells that are theirs.
 use Rattle.frame_machine.proofs.Bends.{Keeps, keeps_assign, keeps_declare, keeps_trans}
-use Rattle.frame_machine.proofs.Guarding.{Guards, Kept, KeptCall, kept_after, kept_block, kept_choose, kept_done, kept_given, kept_iterate, kept_noted, kept_put, kept_turns, kept_vars, kept_weaken, kept_wide, kept_with_call}
-use Rattle.frame_machine.proofs.Owning.{Clear, Owns, demoted_all, demoted_owns, demoted_whole, inner_all, inner_clear, inner_owns, modes_and, owns_assign, owns_declare, owns_survives}
+use Rattle.frame_machine.proofs.Guarding.{Guards, Kept, KeptCall, kept_after, kept_block}
+use Rattle.frame_machine.proofs.Guarding.{kept_choose, kept_done, kept_given, kept_iterate}
+use Rattle.frame_machine.proofs.Guarding.{kept_noted, kept_put, kept_turns, kept_vars, kept_weaken}
+use Rattle.frame_machine.proofs.Guarding.{kept_wide, kept_with_call}
+use Rattle.frame_machine.proofs.Owning.{Clear, Owns, demoted_all, demoted_owns, demoted_whole}
+use Rattle.frame_machine.proofs.Owning.{inner_all, inner_clear, inner_owns, modes_and, owns_assign}
+use Rattle.frame_machine.proofs.Owning.{owns_declare, owns_survives}
 use Rattle.frame_machine.proofs.Tables.{agree_refl}
 use Rattle.frame_machine.proofs.Values.{eval_keeps, notes_append, write_owned}
-use Rattle.frame_machine.specs.Bodies.{AllKeep, AllRead, AndVar, FuncKeeps, FuncsKeep, KeepsTo, ListKeeps, MayCarry, MayRead, NoVariable}
+use Rattle.frame_machine.specs.Bodies.{AllKeep, AllRead, AndVar, FuncKeeps, FuncsKeep, KeepsTo}
+use Rattle.frame_machine.specs.Bodies.{ListKeeps, MayCarry, MayRead, NoVariable}
 use Rattle.frame_machine.specs.Modes.{AllOfModes, Modes, demoted, inner_modes}
 use Rattle.frame_machine.specs.Parts.{Cells, NotesKeep, Outside}
 use Rattle.loop_meaning.proofs.Ticks.{tick_allowed, tick_refused}
 use Rattle.loop_meaning.specs.Calls.{bound, call_at, call_on, enter, no_value}
 use Rattle.loop_meaning.specs.Expressions.{eval}
-use Rattle.loop_meaning.specs.State.{Chance, Note, Ran, State, after, assign, declare, done, noted, tick, trapped}
-use Rattle.loop_meaning.specs.Statements.{Called, Setting, block, folded, given, given_all, given_two, iterate, put_cell, run, run_all, run_list, set_var, too_wide, two_calls, with_call}
+use Rattle.loop_meaning.specs.State.{Chance, Note, Ran, State, after, assign, declare, done, noted}
+use Rattle.loop_meaning.specs.State.{tick, trapped}
+use Rattle.loop_meaning.specs.Statements.{Called, Setting, block, folded, given, given_all}
+use Rattle.loop_meaning.specs.Statements.{given_two, iterate, put_cell, run, run_all, run_list}
+use Rattle.loop_meaning.specs.Statements.{set_var, too_wide, two_calls, with_call}
 use Rattle.loop_meaning.specs.declared.value.Answer.TheVariants.{Number}
 use Rattle.loop_meaning.specs.declared.value.Variable.{Variable}
 use Rattle.loop_rules.specs.Names.{func_of, operator_of}
@@ -20,8 +29,10 @@ use Rattle.loop_syntax.specs.declared.Expr.{Expr}
 use Rattle.loop_syntax.specs.declared.Func.{Func}
 use Rattle.loop_syntax.specs.declared.Reduce.{Reduce}
 use Rattle.loop_syntax.specs.declared.Stmt.{Row_of-Stmt, Stmt, end_of-Stmt, more_of-Stmt}
-use Rattle.loop_syntax.specs.declared.Stmt.TheVariants.{Both, Call, Emit, Fold, If', Let, Loop', Par', Print, Put, Set, While'}
-use Rattle.std.proofs.Common.{Bool, List, None, Option, Some, [], false, inl, inr, length, nat_lt, refl, subst, suc, sym, true, zero, ℕ, ℤ, ◌+◌, ◌∷◌, ◌≡◌}
+use Rattle.loop_syntax.specs.declared.Stmt.TheVariants.{Both, Call, Emit, Fold, If', Let, Loop'}
+use Rattle.loop_syntax.specs.declared.Stmt.TheVariants.{Par', Print, Put, Set, While'}
+use Rattle.std.proofs.Common.{Bool, List, None, Option, Some, [], false, inl, inr, length, nat_lt}
+use Rattle.std.proofs.Common.{refl, subst, suc, sym, true, zero, ℕ, ℤ, ◌+◌, ◌∷◌, ◌≡◌}
 use Rattle.std.specs.Int.{int_gap}
 use Rattle.std.specs.Prelude.{⊤}
 use Rattle.tp_value.specs.declared.Op.{Op}

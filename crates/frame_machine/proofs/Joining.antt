@@ -1,11 +1,14 @@
 -- The law of a loop that is cut: its lower part, then its upper part from units, merged, is the loop.
 use Rattle.beat_count.specs.Joining.{joined_stop}
-use Rattle.frame_machine.proofs.Begins.{At, Units, UnitsRight, at_lookup, begins_bent, bend_of, bent_combined, goes_bend, lawful_cut, lawful_round, names_kept}
+use Rattle.frame_machine.proofs.Begins.{At, Units, UnitsRight, at_lookup, begins_bent, bend_of}
+use Rattle.frame_machine.proofs.Begins.{bent_combined, goes_bend, lawful_cut, lawful_round}
+use Rattle.frame_machine.proofs.Begins.{names_kept}
 use Rattle.frame_machine.proofs.Bends.{Bend, Goes, bent, keeps_refl}
 use Rattle.frame_machine.proofs.Following.{Joined, no_done, trap_done}
 use Rattle.frame_machine.proofs.Guarding.{Kept}
 use Rattle.frame_machine.proofs.Moving.{Near}
-use Rattle.frame_machine.proofs.Ranges.{Around, Begins, Cut, low, lower_guards, range_joined, range_lower, up, upper_guards, whole}
+use Rattle.frame_machine.proofs.Ranges.{Around, Begins, Cut, low, lower_guards, range_joined}
+use Rattle.frame_machine.proofs.Ranges.{range_lower, up, upper_guards, whole}
 use Rattle.frame_machine.specs.Iterating.{iterations_in}
 use Rattle.frame_machine.specs.Joins.{Joins, combined, names_of}
 use Rattle.frame_machine.specs.Lawful.{Callable, Distinct, FixedIn, Lawful, modes_in}
@@ -17,7 +20,8 @@ use Rattle.loop_meaning.specs.declared.value.Variable.{Variable}
 use Rattle.loop_syntax.specs.declared.ParLoop.{ParLoop}
 use Rattle.loop_syntax.specs.declared.Program.{Program}
 use Rattle.loop_syntax.specs.declared.Reduce.{Reduce}
-use Rattle.std.proofs.Common.{Bool, List, [], arith, false, nat_le, pos, refl, subst, sym, true, ℕ, ℤ, ◌+ℤ◌, ◌+◌, ◌∙◌, ◌≡◌, ◌≤ℤ◌, ◌≤◌}
+use Rattle.std.proofs.Common.{Bool, List, [], arith, false, nat_le, pos, refl, subst, sym, true, ℕ}
+use Rattle.std.proofs.Common.{ℤ, ◌+ℤ◌, ◌+◌, ◌∙◌, ◌≡◌, ◌≤ℤ◌, ◌≤◌}
 use Rattle.std.proofs.lemmas.Bool.Decides.{nat_tests}
 use Rattle.std.proofs.lemmas.Int.{ints}
 use Rattle.tp_value.specs.declared.Stop.{Stop}

@@ -15,7 +15,8 @@ use Rattle.loop_rules.specs.Names.{is_in, operator_of}
 use Rattle.loop_syntax.specs.declared.ParLoop.{ParLoop}
 use Rattle.loop_syntax.specs.declared.Program.{Program}
 use Rattle.loop_syntax.specs.declared.Reduce.{Reduce}
-use Rattle.std.proofs.Common.{Bool, List, None, [], ap, bytes_eq, false, inl, pos, refl, sym, true, ℕ, ℤ, ◌+ℤ◌, ◌∙◌, ◌∷◌, ◌≡◌, ◌≤ℤ◌}
+use Rattle.std.proofs.Common.{Bool, List, None, [], ap, bytes_eq, false, inl, pos, refl, sym, true}
+use Rattle.std.proofs.Common.{ℕ, ℤ, ◌+ℤ◌, ◌∙◌, ◌∷◌, ◌≡◌, ◌≤ℤ◌}
 use Rattle.tp_value.specs.declared.Stop.TheVariants.{Done}
 
 lookup_absent : (vs : List Variable) (x : List ℕ) → is_in (names_of vs) x ≡ false → lookup vs x ≡ pos 0

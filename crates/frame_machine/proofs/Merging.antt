@@ -1,5 +1,6 @@
 -- Lists of accumulators, merged place by place.
-use Rattle.std.proofs.Common.{◌≡◌, ◌+◌, ◌<◌, ℕ, suc, ℤ, List, [], ◌∷◌, ◌++◌, drop, drop-cons, length, get_or, refl, sym, ap, ◌∙◌, append_assoc, arith}
+use Rattle.std.proofs.Common.{◌≡◌, ◌+◌, ◌<◌, ℕ, suc, ℤ, List, [], ◌∷◌, ◌++◌, drop, drop-cons}
+use Rattle.std.proofs.Common.{length, get_or, refl, sym, ap, ◌∙◌, append_assoc, arith}
 use Rattle.tp_value.specs.declared.Op.{Op}
 use Rattle.reduce_ops.specs.Reduction.{combine}
 use Rattle.frame_machine.specs.Splitting.{merged}

@@ -1,26 +1,38 @@
 -- Statements of a body do the same in an upper part and in the whole.
-use Rattle.frame_machine.proofs.Bends.{Bend, Goes, Keeps, bent, bent_assign, bent_declare, bent_fold, keeps_assign, keeps_declare, keeps_refl, keeps_trans}
+use Rattle.frame_machine.proofs.Bends.{Bend, Goes, Keeps, bent, bent_assign, bent_declare}
+use Rattle.frame_machine.proofs.Bends.{bent_fold, keeps_assign, keeps_declare, keeps_refl}
+use Rattle.frame_machine.proofs.Bends.{keeps_trans}
 use Rattle.frame_machine.proofs.Following.{Follows, Later, follows_alike, later_alike}
-use Rattle.frame_machine.proofs.Moving.{Agrees, AllAgree, Moves, Near, NearCall, moves_block, moves_choose, moves_done, moves_given, moves_given_all, moves_iterate, moves_noted, moves_pure, moves_seq, moves_trap, moves_turns, moves_two, moves_weaken, moves_with_call}
-use Rattle.frame_machine.proofs.Owning.{Clear, Owns, inner_all, inner_clear, inner_owns, modes_and, owns_assign, owns_declare, owns_survives}
+use Rattle.frame_machine.proofs.Moving.{Agrees, AllAgree, Moves, Near, NearCall, moves_block}
+use Rattle.frame_machine.proofs.Moving.{moves_choose, moves_done, moves_given, moves_given_all}
+use Rattle.frame_machine.proofs.Moving.{moves_iterate, moves_noted, moves_pure, moves_seq}
+use Rattle.frame_machine.proofs.Moving.{moves_trap, moves_turns, moves_two, moves_weaken}
+use Rattle.frame_machine.proofs.Moving.{moves_with_call}
+use Rattle.frame_machine.proofs.Owning.{Clear, Owns, inner_all, inner_clear, inner_owns, modes_and}
+use Rattle.frame_machine.proofs.Owning.{owns_assign, owns_declare, owns_survives}
 use Rattle.frame_machine.proofs.Tables.{agree_has, agree_write}
 use Rattle.frame_machine.proofs.Values.{eval_same}
-use Rattle.frame_machine.specs.Bodies.{AllKeep, AllRead, AndVar, FoldsBy, KeepsTo, ListKeeps, MayAssign, MayDeclare, MayRead}
+use Rattle.frame_machine.specs.Bodies.{AllKeep, AllRead, AndVar, FoldsBy, KeepsTo, ListKeeps}
+use Rattle.frame_machine.specs.Bodies.{MayAssign, MayDeclare, MayRead}
 use Rattle.frame_machine.specs.Modes.{AllOfModes, Modes, inner_modes}
 use Rattle.frame_machine.specs.Parts.{Cells}
 use Rattle.loop_meaning.proofs.Runs.{alike_refl}
 use Rattle.loop_meaning.specs.Ends.{EndAlike}
 use Rattle.loop_meaning.specs.Expressions.{eval}
-use Rattle.loop_meaning.specs.State.{Chance, Note, Ran, State, Writes, assign, declare, done, has_cell, noted, table_of, trapped, write_cell}
-use Rattle.loop_meaning.specs.Statements.{Called, Setting, folded, put_cell, run, run_all, run_list, too_wide, unless_wide}
+use Rattle.loop_meaning.specs.State.{Chance, Note, Ran, State, Writes, assign, declare, done}
+use Rattle.loop_meaning.specs.State.{has_cell, noted, table_of, trapped, write_cell}
+use Rattle.loop_meaning.specs.Statements.{Called, Setting, folded, put_cell, run, run_all, run_list}
+use Rattle.loop_meaning.specs.Statements.{too_wide, unless_wide}
 use Rattle.loop_meaning.specs.declared.value.Variable.{Variable}
 use Rattle.loop_rules.specs.Names.{operator_of}
 use Rattle.loop_syntax.specs.declared.Expr.{Expr}
 use Rattle.loop_syntax.specs.declared.Name.{Name}
 use Rattle.loop_syntax.specs.declared.Reduce.{Reduce}
 use Rattle.loop_syntax.specs.declared.Stmt.{Row_of-Stmt, Stmt, end_of-Stmt, more_of-Stmt}
-use Rattle.loop_syntax.specs.declared.Stmt.TheVariants.{Both, Call, Emit, Fold, If', Let, Loop', Par', Print, Put, Set, While'}
-use Rattle.std.proofs.Common.{Bool, List, None, Option, Some, [], ap, false, inl, inr, refl, subst, sym, true, ℕ, ℤ, ◌+◌, ◌∙◌, ◌∷◌, ◌≡◌}
+use Rattle.loop_syntax.specs.declared.Stmt.TheVariants.{Both, Call, Emit, Fold, If', Let, Loop'}
+use Rattle.loop_syntax.specs.declared.Stmt.TheVariants.{Par', Print, Put, Set, While'}
+use Rattle.std.proofs.Common.{Bool, List, None, Option, Some, [], ap, false, inl, inr, refl, subst}
+use Rattle.std.proofs.Common.{sym, true, ℕ, ℤ, ◌+◌, ◌∙◌, ◌∷◌, ◌≡◌}
 use Rattle.std.specs.Int.{int_gap}
 use Rattle.std.specs.Prelude.{⊤}
 use Rattle.tp_value.specs.declared.Op.{Op}

@@ -1,18 +1,27 @@
 -- Runs that do the same from a state of an upper part and from the state of the whole: more ticks before, more in the accumulators, and other tables that agree on the cells that may be seen.
-use Rattle.frame_machine.proofs.Bends.{Bend, Keeps, Plain, bent, bent_declare, bent_length, bent_take, keeps_declare, keeps_length, keeps_refl, keeps_take, keeps_trans, keeps_weaken}
-use Rattle.frame_machine.proofs.Following.{Follows, Later, after_alike_at, done_first, follows_after, follows_alike, follows_tick, later_after, later_alike, later_tick, no_done, tick_no, tick_yes, trap_done}
+use Rattle.frame_machine.proofs.Bends.{Bend, Keeps, Plain, bent, bent_declare, bent_length}
+use Rattle.frame_machine.proofs.Bends.{bent_take, keeps_declare, keeps_length, keeps_refl}
+use Rattle.frame_machine.proofs.Bends.{keeps_take, keeps_trans, keeps_weaken}
+use Rattle.frame_machine.proofs.Following.{Follows, Later, after_alike_at, done_first}
+use Rattle.frame_machine.proofs.Following.{follows_after, follows_alike, follows_tick, later_after}
+use Rattle.frame_machine.proofs.Following.{later_alike, later_tick, no_done, tick_no, tick_yes}
+use Rattle.frame_machine.proofs.Following.{trap_done}
 use Rattle.frame_machine.specs.Parts.{AgreeOn, Cells}
-use Rattle.loop_meaning.proofs.Runs.{after_done, after_stopped, alike_refl, given_number, given_trap}
+use Rattle.loop_meaning.proofs.Runs.{after_done, after_stopped, alike_refl, given_number}
+use Rattle.loop_meaning.proofs.Runs.{given_trap}
 use Rattle.loop_meaning.specs.Calls.{enter}
 use Rattle.loop_meaning.specs.Ends.{EndAlike}
 use Rattle.loop_meaning.specs.Expressions.{eval}
-use Rattle.loop_meaning.specs.State.{Note, Ran, State, after, declare, done, leave_block, noted, out_of_fuel, tick, trapped}
-use Rattle.loop_meaning.specs.Statements.{Called, block, choose, given, given_all, given_two, iterate, iteration, turns, with_call}
+use Rattle.loop_meaning.specs.State.{Note, Ran, State, after, declare, done, leave_block, noted}
+use Rattle.loop_meaning.specs.State.{out_of_fuel, tick, trapped}
+use Rattle.loop_meaning.specs.Statements.{Called, block, choose, given, given_all, given_two}
+use Rattle.loop_meaning.specs.Statements.{iterate, iteration, turns, with_call}
 use Rattle.loop_meaning.specs.declared.value.Answer.{Answer}
 use Rattle.loop_meaning.specs.declared.value.Answer.TheVariants.{Number, Traps}
 use Rattle.loop_meaning.specs.declared.value.Variable.{Variable}
 use Rattle.loop_syntax.specs.declared.Expr.{Expr}
-use Rattle.std.proofs.Common.{List, [], ap, arith, length, negsuc, pos, refl, subst, suc, sym, take, zero, ℕ, ℤ, ◌++◌, ◌+ℤ◌, ◌+◌, ◌<◌, ◌∙◌, ◌∷◌, ◌≡◌, ◌≤◌}
+use Rattle.std.proofs.Common.{List, [], ap, arith, length, negsuc, pos, refl, subst, suc, sym, take}
+use Rattle.std.proofs.Common.{zero, ℕ, ℤ, ◌++◌, ◌+ℤ◌, ◌+◌, ◌<◌, ◌∙◌, ◌∷◌, ◌≡◌, ◌≤◌}
 use Rattle.std.specs.Prelude.{⊤}
 use Rattle.tp_value.specs.declared.Place.{Place}
 use Rattle.tp_value.specs.declared.Stop.{Stop}

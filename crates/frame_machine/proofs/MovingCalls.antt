@@ -1,8 +1,10 @@
 -- So do the calls in it: functions read only whole tables and write none.
 use Rattle.frame_machine.proofs.Bends.{bent_straight, goes_straight, straight}
-use Rattle.frame_machine.proofs.Following.{Follows, done_first, follows_after, follows_alike, follows_tick, later_after, later_alike, later_tick}
+use Rattle.frame_machine.proofs.Following.{Follows, done_first, follows_after, follows_alike}
+use Rattle.frame_machine.proofs.Following.{follows_tick, later_after, later_alike, later_tick}
 use Rattle.frame_machine.proofs.Moves.{agrees, moves_list}
-use Rattle.frame_machine.proofs.Moving.{Base, Moves, Near, NearCall, moves_done, moves_given, moves_noted, moves_seq}
+use Rattle.frame_machine.proofs.Moving.{Base, Moves, Near, NearCall, moves_done, moves_given}
+use Rattle.frame_machine.proofs.Moving.{moves_noted, moves_seq}
 use Rattle.frame_machine.proofs.Owning.{Clear, Owns, demoted_all, demoted_owns, demoted_whole}
 use Rattle.frame_machine.specs.Bodies.{FuncKeeps, FuncsKeep}
 use Rattle.frame_machine.specs.Modes.{Modes, demoted}
@@ -15,7 +17,8 @@ use Rattle.loop_meaning.specs.State.{Note, Ran, State, after, done, go_on, noted
 use Rattle.loop_meaning.specs.Statements.{Called, given, run_list}
 use Rattle.loop_rules.specs.Names.{func_of}
 use Rattle.loop_syntax.specs.declared.Func.{Func}
-use Rattle.std.proofs.Common.{Bool, List, None, Option, Some, [], ap, arith, false, nat_lt, refl, suc, sym, true, zero, ℕ, ℤ, ◌+◌, ◌∙◌, ◌≡◌, ◌≤◌}
+use Rattle.std.proofs.Common.{Bool, List, None, Option, Some, [], ap, arith, false, nat_lt, refl}
+use Rattle.std.proofs.Common.{suc, sym, true, zero, ℕ, ℤ, ◌+◌, ◌∙◌, ◌≡◌, ◌≤◌}
 use Rattle.tp_value.specs.declared.Place.{Place}
 use Rattle.tp_value.specs.declared.Stop.{Stop}
 use Rattle.tp_value.specs.declared.Stop.TheVariants.{Done, NoFuel, Trap}

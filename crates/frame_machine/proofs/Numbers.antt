@@ -16,7 +16,8 @@ use Rattle.loop_syntax.specs.declared.Reduce.{Reduce}
 use Rattle.loop_syntax.specs.declared.Stmt.{Stmt}
 use Rattle.loop_syntax.specs.declared.Stmt.TheVariants.{Loop}
 use Rattle.reduce_ops.specs.Laws.{combine-unit_right}
-use Rattle.std.proofs.Common.{All, Bool, List, [], arith, bytes_eq, cond, false, negsuc, pos, refl, subst, true, ℕ, ℤ, ◌+ℤ◌, ◌-◌, ◌∷◌, ◌≡◌, ◌≤ℤ◌, ◌≤◌}
+use Rattle.std.proofs.Common.{All, Bool, List, [], arith, bytes_eq, cond, false, negsuc, pos, refl}
+use Rattle.std.proofs.Common.{subst, true, ℕ, ℤ, ◌+ℤ◌, ◌-◌, ◌∷◌, ◌≡◌, ◌≤ℤ◌, ◌≤◌}
 use Rattle.std.proofs.lemmas.Int.{ints}
 use Rattle.std.proofs.lemmas.List.Elements.{All-cons, All-head, All-nil, All-tail}
 use Rattle.std.specs.Int.{int_gap}

@@ -1,12 +1,14 @@
 -- The cells that a mode gives at some values of the variables, and what keeps them.
 use Rattle.frame_machine.proofs.Bends.{Keeps, keeps_lookup, lookup_declare, lookup_other, name_is}
 use Rattle.frame_machine.specs.Bodies.{AndVar, MayCarry}
-use Rattle.frame_machine.specs.Modes.{AllOfLine, AllOfMode, AllOfModes, Closed, Fixed, Line, Mode, Modes, Named, OwnCell, OwnRow, Whole, demoted, inner_modes}
+use Rattle.frame_machine.specs.Modes.{AllOfLine, AllOfMode, AllOfModes, Closed, Fixed, Line, Mode}
+use Rattle.frame_machine.specs.Modes.{Modes, Named, OwnCell, OwnRow, Whole, demoted, inner_modes}
 use Rattle.frame_machine.specs.Parts.{Cells, line_value}
 use Rattle.loop_meaning.specs.State.{assign, declare, lookup}
 use Rattle.loop_meaning.specs.declared.value.Variable.{Variable}
 use Rattle.loop_syntax.specs.declared.Carry.{Carry}
-use Rattle.std.proofs.Common.{Bool, List, [], bytes_eq, cond, false, inl, length, refl, subst, sym, true, ℕ, ℤ, ◌∷◌, ◌≡◌}
+use Rattle.std.proofs.Common.{Bool, List, [], bytes_eq, cond, false, inl, length, refl, subst, sym}
+use Rattle.std.proofs.Common.{true, ℕ, ℤ, ◌∷◌, ◌≡◌}
 use Rattle.std.specs.Prelude.{⊤}
 use Rattle.loop_syntax.specs.declared.RowAt.TheVariants as row
 use Rattle.loop_syntax.specs.declared.Carry.TheVariants as carry

@@ -1,5 +1,6 @@
 -- The iterations of a range that is cut: what each part touches, and that both joined are the whole.
-use Rattle.frame_machine.proofs.Bends.{Bend, Goes, Keeps, bent, keeps_lookup, keeps_trans, lookup_declare}
+use Rattle.frame_machine.proofs.Bends.{Bend, Goes, Keeps, bent, keeps_lookup, keeps_trans}
+use Rattle.frame_machine.proofs.Bends.{lookup_declare}
 use Rattle.frame_machine.proofs.Following.{Joined, after_assoc, after_goes, joined_from}
 use Rattle.frame_machine.proofs.Guarding.{Guards, kept_iterate}
 use Rattle.frame_machine.proofs.Guards.{Owned, kept_call, kept_list}
@@ -10,8 +11,10 @@ use Rattle.frame_machine.proofs.Owning.{Clear, Owns, OwnsAt}
 use Rattle.frame_machine.proofs.Tables.{agree_trans}
 use Rattle.frame_machine.specs.Bodies.{FuncsKeep, ListKeeps, Unreduced}
 use Rattle.frame_machine.specs.Joins.{names_of}
-use Rattle.frame_machine.specs.Modes.{AllOfLine, AllOfModes, Closed, Fixed, Line, Mode, Modes, Named, OwnCell, OwnRow, Whole}
-use Rattle.frame_machine.specs.Parts.{AgreeOn, Below, From, NotesKeep, Outside, Seen, SeenAt, Written, WrittenAt, line_value}
+use Rattle.frame_machine.specs.Modes.{AllOfLine, AllOfModes, Closed, Fixed, Line, Mode, Modes}
+use Rattle.frame_machine.specs.Modes.{Named, OwnCell, OwnRow, Whole}
+use Rattle.frame_machine.specs.Parts.{AgreeOn, Below, From, NotesKeep, Outside, Seen, SeenAt}
+use Rattle.frame_machine.specs.Parts.{Written, WrittenAt, line_value}
 use Rattle.loop_meaning.proofs.Runs.{after_alike, alike_back, alike_refl, alike_trans}
 use Rattle.loop_meaning.specs.Calls.{call_at}
 use Rattle.loop_meaning.specs.Ends.{EndAlike}
@@ -22,7 +25,9 @@ use Rattle.loop_rules.specs.Names.{is_in}
 use Rattle.loop_syntax.specs.declared.Func.{Func}
 use Rattle.loop_syntax.specs.declared.Reduce.{Reduce}
 use Rattle.loop_syntax.specs.declared.Stmt.{Stmt}
-use Rattle.std.proofs.Common.{Bool, List, [], ap, arith, bytes_eq, cond, false, length, pos, refl, subst, suc, sym, true, zero, ℕ, ℤ, ◌+ℤ◌, ◌+◌, ◌∙◌, ◌∷◌, ◌≡◌, ◌≤ℤ◌, ◌≤◌}
+use Rattle.std.proofs.Common.{Bool, List, [], ap, arith, bytes_eq, cond, false, length, pos, refl}
+use Rattle.std.proofs.Common.{subst, suc, sym, true, zero, ℕ, ℤ, ◌+ℤ◌, ◌+◌, ◌∙◌, ◌∷◌, ◌≡◌, ◌≤ℤ◌}
+use Rattle.std.proofs.Common.{◌≤◌}
 use Rattle.std.proofs.lemmas.Int.{ints}
 use Rattle.std.proofs.lemmas.List.{append-nil}
 use Rattle.std.proofs.lemmas.Slice.Eq.{bytes_eq-Decides}

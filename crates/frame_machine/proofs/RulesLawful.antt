@@ -1,5 +1,6 @@
 -- Each `par` of a program that breaks no rule may be cut in two.
-use Rattle.std.proofs.Common.{◌≡◌, ℕ, List, [], ◌∷◌, ◌++◌, Option, Some, None, refl, sym, ap, subst, ◌∙◌, inl, Bool, true, false, Contains}
+use Rattle.std.proofs.Common.{◌≡◌, ℕ, List, [], ◌∷◌, ◌++◌, Option, Some, None, refl, sym, ap, subst}
+use Rattle.std.proofs.Common.{◌∙◌, inl, Bool, true, false, Contains}
 use Rattle.tp_value.specs.declared.Place.{Place}
 use Rattle.loop_syntax.specs.declared.Name.{Name}
 use Rattle.loop_syntax.specs.declared.Carry.{Carry}
@@ -14,7 +15,9 @@ use Rattle.loop_rules.specs.Carries.{carries}
 use Rattle.loop_rules.specs.Keeps.{carry_word}
 use Rattle.loop_rules.specs.Names.{is_in, func_of, texts}
 use Rattle.loop_rules.specs.Reductions.{any_loop}
-use Rattle.loop_rules.specs.Sites.{Loop, Act, Calls, Declares, Parallel, Spot, Site, in_carries, in_func, in_list, in_par, in_params, in_whole, site, sites, func_spot, spot_of_list, the_loop, top, tables_of}
+use Rattle.loop_rules.specs.Sites.{Loop, Act, Calls, Declares, Parallel, Spot, Site, in_carries}
+use Rattle.loop_rules.specs.Sites.{in_func, in_list, in_par, in_params, in_whole, site, sites}
+use Rattle.loop_rules.specs.Sites.{func_spot, spot_of_list, the_loop, top, tables_of}
 use Rattle.loop_meaning.specs.Cells.{Body, body_of, bodies_of, bodies_of_list}
 use Rattle.loop_check.specs.Unbroken.{NoneBroken}
 use Rattle.loop_check.proofs.Lists.{Each, each_at, each_left, each_right, each_of}
@@ -24,10 +27,13 @@ use Rattle.loop_check.proofs.Shapes.{HeadOk}
 use Rattle.frame_machine.specs.Modes.{Modes, demoted, inner_modes, modes_of}
 use Rattle.frame_machine.specs.Bodies.{Unreduced, ListKeeps, NoVariable, FuncKeeps, FuncsKeep}
 use Rattle.frame_machine.specs.AllLawful.{AllLawful}
-use Rattle.frame_machine.specs.Lawful.{Distinct, DistinctTargets, TargetsIn, RowsFixed, FixedIn, Callable, Lawful}
-use Rattle.frame_machine.proofs.RulesNames.{is_new, distinct_end, distinct_params, targets_in, new_unreduced, distinct_targets, rows_fixed}
+use Rattle.frame_machine.specs.Lawful.{Distinct, DistinctTargets, TargetsIn, RowsFixed, FixedIn}
+use Rattle.frame_machine.specs.Lawful.{Callable, Lawful}
+use Rattle.frame_machine.proofs.RulesNames.{is_new, distinct_end, distinct_params, targets_in}
+use Rattle.frame_machine.proofs.RulesNames.{new_unreduced, distinct_targets, rows_fixed}
 use Rattle.frame_machine.proofs.RulesModes.{demoted_twice, whole_mode}
-use Rattle.frame_machine.proofs.RulesWalk.{VariableRules, TableRules, list_keeps, reads, end_variables, end_tables}
+use Rattle.frame_machine.proofs.RulesWalk.{VariableRules, TableRules, list_keeps, reads}
+use Rattle.frame_machine.proofs.RulesWalk.{end_variables, end_tables}
 use Rattle.frame_machine.proofs.RulesVariables as variables
 use Rattle.frame_machine.proofs.RulesVariables.{fixed_kept}
 use Rattle.frame_machine.proofs.RulesTables as tables

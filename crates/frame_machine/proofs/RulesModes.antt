@@ -1,5 +1,6 @@
 -- What the rules on tables say of the modes in the body of a `par`.
-use Rattle.std.proofs.Common.{◌≡◌, ℕ, ℤ, List, [], ◌∷◌, Option, Some, None, refl, sym, ap, subst, ◌∙◌, Bool, true, false, cond, ◌&&◌, not, bytes_eq, inl, inr}
+use Rattle.std.proofs.Common.{◌≡◌, ℕ, ℤ, List, [], ◌∷◌, Option, Some, None, refl, sym, ap, subst}
+use Rattle.std.proofs.Common.{◌∙◌, Bool, true, false, cond, ◌&&◌, not, bytes_eq, inl, inr}
 use Rattle.std.proofs.lemmas.Bool.Decides.{Decides-int_eq}
 use Rattle.loop_syntax.specs.declared.Name.{Name}
 use Rattle.loop_syntax.specs.declared.Expr.{Expr}
@@ -9,14 +10,17 @@ use Rattle.loop_syntax.specs.declared.RowAt.TheVariants as row
 use Rattle.loop_syntax.specs.declared.Carry.{Carry}
 use Rattle.loop_syntax.specs.declared.Carry.TheVariants as carry
 use Rattle.loop_rules.specs.Names.{is_in, item_of}
-use Rattle.loop_rules.specs.Carries.{is_some_item, carries, is_var, is_int, is_row, fits, fits_some, has_shape, bad_write, bad_read, last_index, is_rows_item, bad_items}
+use Rattle.loop_rules.specs.Carries.{is_some_item, carries, is_var, is_int, is_row, fits, fits_some}
+use Rattle.loop_rules.specs.Carries.{has_shape, bad_write, bad_read, last_index, is_rows_item}
+use Rattle.loop_rules.specs.Carries.{bad_items}
 use Rattle.loop_rules.specs.Reductions.{any_loop}
 use Rattle.loop_rules.specs.Sites.{Loop}
 use Rattle.loop_check.proofs.Bools.{no_both, not_false, or_left, or_right, and_left, and_right}
 use Rattle.loop_check.proofs.Found.{eq_is}
 use Rattle.loop_check.proofs.Inner.{RowVar}
 use Rattle.loop_check.proofs.Shapes.{HeadOk, Inside, item_fine, item_index, item_outside}
-use Rattle.frame_machine.specs.Modes.{Mode, Whole, Closed, OwnRow, OwnCell, Modes, line_of, demoted, inner_modes, modes_of, AllOfMode, AllOfModes}
+use Rattle.frame_machine.specs.Modes.{Mode, Whole, Closed, OwnRow, OwnCell, Modes, line_of, demoted}
+use Rattle.frame_machine.specs.Modes.{inner_modes, modes_of, AllOfMode, AllOfModes}
 use Rattle.frame_machine.specs.Bodies.{IsVar, IsNumber, IsLine, ReadsAt, WritesAt, MayCarry}
 use Rattle.frame_machine.proofs.RulesNames.{first_item, other_items}
 

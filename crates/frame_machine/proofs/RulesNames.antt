@@ -1,5 +1,6 @@
 -- What the rules on names and clauses say of the variables round a `par`.
-use Rattle.std.proofs.Common.{◌≡◌, ℕ, List, [], ◌∷◌, ◌++◌, Option, Some, None, refl, sym, subst, Bool, true, false, cond, ◌||◌, not, bytes_eq}
+use Rattle.std.proofs.Common.{◌≡◌, ℕ, List, [], ◌∷◌, ◌++◌, Option, Some, None, refl, sym, subst}
+use Rattle.std.proofs.Common.{Bool, true, false, cond, ◌||◌, not, bytes_eq}
 use Rattle.std.proofs.lemmas.List.{append_assoc, append-nil}
 use Rattle.tp_value.specs.declared.Op.{Op}
 use Rattle.tp_value.specs.declared.Place.{Place}
@@ -11,7 +12,8 @@ use Rattle.loop_syntax.specs.declared.Reduce.{Reduce}
 use Rattle.loop_syntax.specs.declared.Program.{Program}
 use Rattle.loop_rules.specs.Names.{is_in, texts, func_names, operator_of, table_name}
 use Rattle.loop_rules.specs.Carries.{bad_item, bad_items}
-use Rattle.loop_rules.specs.Reductions.{any_loop, some_op, other_operator, reduced_otherwise, bad_targets}
+use Rattle.loop_rules.specs.Reductions.{any_loop, some_op, other_operator, reduced_otherwise}
+use Rattle.loop_rules.specs.Reductions.{bad_targets}
 use Rattle.loop_rules.specs.Scopes.{at, is_visible, unseen_targets}
 use Rattle.loop_rules.specs.Sites.{Loop, Declares, Spot, in_carries, in_params, declared_var}
 use Rattle.loop_check.proofs.Bools.{no_both, not_false, or_left, or_right}

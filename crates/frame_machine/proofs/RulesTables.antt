@@ -1,5 +1,6 @@
 -- What the rules on tables and output say inside the body of a `par`, and in a function.
-use Rattle.std.proofs.Common.{◌≡◌, ℕ, suc, List, [], ◌∷◌, ◌++◌, inr, refl, sym, ap, subst, ◌∙◌, Bool, true, false, ◌||◌, Some, Contains}
+use Rattle.std.proofs.Common.{◌≡◌, ℕ, suc, List, [], ◌∷◌, ◌++◌, inr, refl, sym, ap, subst, ◌∙◌}
+use Rattle.std.proofs.Common.{Bool, true, false, ◌||◌, Some, Contains}
 use Rattle.tp_value.specs.declared.Place.{Place}
 use Rattle.loop_syntax.specs.declared.Name.{Name}
 use Rattle.loop_syntax.specs.declared.Carry.{Carry}
@@ -24,7 +25,8 @@ use Rattle.frame_machine.specs.Modes.{Whole, Modes, demoted, inner_modes, modes_
 use Rattle.frame_machine.specs.Bodies.{ReadsAt, WritesAt, MayCarry}
 use Rattle.frame_machine.specs.Lawful.{Callable}
 use Rattle.frame_machine.proofs.RulesNames.{is_new}
-use Rattle.frame_machine.proofs.RulesModes.{demoted_all, demoted_twice, inner_same, whole_mode, reads_at, writes_at, may_carry, SeenIn, modes_seen}
+use Rattle.frame_machine.proofs.RulesModes.{demoted_all, demoted_twice, inner_same, whole_mode}
+use Rattle.frame_machine.proofs.RulesModes.{reads_at, writes_at, may_carry, SeenIn, modes_seen}
 use Rattle.frame_machine.proofs.RulesWalk.{TableRules}
 
 -- a variable that is declared isn't among those that these modes name

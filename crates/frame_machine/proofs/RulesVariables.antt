@@ -1,14 +1,17 @@
 -- What the rules on variables say inside the body of a `par`, and in a function that it calls.
-use Rattle.std.proofs.Common.{◌≡◌, ℕ, List, [], ◌∷◌, ◌++◌, ◌⊎◌, inl, inr, Option, Some, None, refl, sym, ap, subst, ◌∙◌, Bool, true, false, ◌||◌, cond, bytes_eq}
+use Rattle.std.proofs.Common.{◌≡◌, ℕ, List, [], ◌∷◌, ◌++◌, ◌⊎◌, inl, inr, Option, Some, None, refl}
+use Rattle.std.proofs.Common.{sym, ap, subst, ◌∙◌, Bool, true, false, ◌||◌, cond, bytes_eq}
 use Rattle.tp_value.specs.declared.Op.{Op}
 use Rattle.tp_value.specs.declared.Op.TheVariants.{Add, Mul, Min, Max, Affine}
 use Rattle.loop_syntax.specs.declared.Name.{Name}
 use Rattle.loop_syntax.specs.declared.Reduce.{Reduce}
 use Rattle.loop_syntax.specs.declared.Program.{Program}
 use Rattle.loop_rules.specs.Names.{is_in, operator_of}
-use Rattle.loop_rules.specs.Reductions.{any_loop, same_op, some_op, reduced, other_operator, reduced_otherwise, bad_targets}
+use Rattle.loop_rules.specs.Reductions.{any_loop, same_op, some_op, reduced, other_operator}
+use Rattle.loop_rules.specs.Reductions.{reduced_otherwise, bad_targets}
 use Rattle.loop_rules.specs.Scopes.{at}
-use Rattle.loop_rules.specs.Sites.{Loop, Act, Declares, Uses, Assigns, Folds, Parallel, Spot, the_loop}
+use Rattle.loop_rules.specs.Sites.{Loop, Act, Declares, Uses, Assigns, Folds, Parallel, Spot}
+use Rattle.loop_rules.specs.Sites.{the_loop}
 use Rattle.loop_check.proofs.Bools.{no_both, not_false, or_left}
 use Rattle.loop_check.proofs.Found.{eq_is, is_in_end, is_in_more}
 use Rattle.loop_check.proofs.Fine.{Fine, at_none, append_none_left, append_none_right}

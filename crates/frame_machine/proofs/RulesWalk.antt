@@ -7,12 +7,19 @@ use Rattle.loop_syntax.specs.declared.Expr.TheVariants.{Int, Var, Cell', Rows, C
 use Rattle.loop_syntax.specs.declared.Carry.{Carry}
 use Rattle.loop_syntax.specs.declared.Reduce.{Reduce}
 use Rattle.loop_syntax.specs.declared.Stmt.{Stmt, Row_of-Stmt, end_of-Stmt, more_of-Stmt}
-use Rattle.loop_syntax.specs.declared.Stmt.TheVariants.{Let, Set, Put, If', While', Loop', Par', Fold, Call, Both, Print, Emit}
+use Rattle.loop_syntax.specs.declared.Stmt.TheVariants.{Let, Set, Put, If', While', Loop', Par'}
+use Rattle.loop_syntax.specs.declared.Stmt.TheVariants.{Fold, Call, Both, Print, Emit}
 use Rattle.loop_rules.specs.Names.{operator_of}
-use Rattle.loop_rules.specs.Sites.{Act, Declares, Uses, Assigns, Folds, AssignsBoth, ReadsCell, WritesCell, Calls, Shows, Parallel, Spot, Site, site, in_expr, in_whole, in_args, in_app, in_carries, in_stmt, in_all, in_list, spot_after, spot_of_list, declared_var, in_loop, in_par, the_loop}
+use Rattle.loop_rules.specs.Sites.{Act, Declares, Uses, Assigns, Folds, AssignsBoth, ReadsCell}
+use Rattle.loop_rules.specs.Sites.{WritesCell, Calls, Shows, Parallel, Spot, Site, site, in_expr}
+use Rattle.loop_rules.specs.Sites.{in_whole, in_args, in_app, in_carries, in_stmt, in_all, in_list}
+use Rattle.loop_rules.specs.Sites.{spot_after, spot_of_list, declared_var, in_loop, in_par}
+use Rattle.loop_rules.specs.Sites.{the_loop}
 use Rattle.loop_check.proofs.Lists.{Each, each_left, each_right}
 use Rattle.frame_machine.specs.Modes.{Modes, inner_modes, AllOfModes}
-use Rattle.frame_machine.specs.Bodies.{Unreduced, ReadsAt, WritesAt, MayCarry, MayRead, AllRead, FoldsBy, MayDeclare, MayAssign, AndVar, KeepsTo, AllKeep, ListKeeps}
+use Rattle.frame_machine.specs.Bodies.{Unreduced, ReadsAt, WritesAt, MayCarry, MayRead, AllRead}
+use Rattle.frame_machine.specs.Bodies.{FoldsBy, MayDeclare, MayAssign, AndVar, KeepsTo, AllKeep}
+use Rattle.frame_machine.specs.Bodies.{ListKeeps}
 
 -- what follows of variables at each site where G holds, and V of the spot with its fixed variables and its nearest
 -- reduce list

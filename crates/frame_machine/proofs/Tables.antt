@@ -1,8 +1,11 @@
 -- Tables that agree on some of their cells.
 use Rattle.frame_machine.proofs.Bends.{name_is}
 use Rattle.frame_machine.specs.Parts.{AgreeAt, AgreeOn, Cells}
-use Rattle.loop_meaning.specs.State.{cell_number, cell_of, has_cell, table_of, with_cell, write_cell}
-use Rattle.std.proofs.Common.{Bool, List, [], ap, arith, bytes_eq, cond, false, get_or, inl, inr, length, pos, refl, set, subst, sym, true, unsigned_abs, ℕ, ℤ, ⊎_elim, ◌*◌, ◌+◌, ◌<◌, ◌∙◌, ◌∷◌, ◌≡◌, ◌≤◌, ◌⊎◌}
+use Rattle.loop_meaning.specs.State.{cell_number, cell_of, has_cell, table_of, with_cell}
+use Rattle.loop_meaning.specs.State.{write_cell}
+use Rattle.std.proofs.Common.{Bool, List, [], ap, arith, bytes_eq, cond, false, get_or, inl, inr}
+use Rattle.std.proofs.Common.{length, pos, refl, set, subst, sym, true, unsigned_abs, ℕ, ℤ, ⊎_elim}
+use Rattle.std.proofs.Common.{◌*◌, ◌+◌, ◌<◌, ◌∙◌, ◌∷◌, ◌≡◌, ◌≤◌, ◌⊎◌}
 use Rattle.std.proofs.lemmas.Bool.{cases_eq}
 use Rattle.std.proofs.lemmas.List.{get_or-set_other, get_or-set_same, get_or_past, length-set}
 use Rattle.std.proofs.lemmas.Slice.Eq.{bytes_eq-Decides}

@@ -4,10 +4,13 @@ use Rattle.frame_machine.proofs.Owning.{Clear, Owns, OwnsAt}
 use Rattle.frame_machine.proofs.Tables.{agree_has}
 use Rattle.frame_machine.specs.Bodies.{IsLine, IsNumber, IsVar, MayRead, ReadsAt, WritesAt}
 use Rattle.frame_machine.specs.Iterating.{OnlyChances}
-use Rattle.frame_machine.specs.Modes.{Closed, Fixed, Line, Mode, Modes, Named, OwnCell, OwnRow, Whole}
+use Rattle.frame_machine.specs.Modes.{Closed, Fixed, Line, Mode, Modes, Named, OwnCell, OwnRow}
+use Rattle.frame_machine.specs.Modes.{Whole}
 use Rattle.frame_machine.specs.Parts.{AgreeOn, Cells, NotesKeep, line_value}
-use Rattle.loop_meaning.specs.Expressions.{Value, bind, bind_answer, calculated, eval, number, read_cell}
-use Rattle.loop_meaning.specs.State.{Chance, Emits, Note, Reads, Writes, cell_of, has_cell, lookup, table_of}
+use Rattle.loop_meaning.specs.Expressions.{Value, bind, bind_answer, calculated, eval, number}
+use Rattle.loop_meaning.specs.Expressions.{read_cell}
+use Rattle.loop_meaning.specs.State.{Chance, Emits, Note, Reads, Writes, cell_of, has_cell, lookup}
+use Rattle.loop_meaning.specs.State.{table_of}
 use Rattle.loop_meaning.specs.declared.value.Answer.{Answer}
 use Rattle.loop_meaning.specs.declared.value.Answer.TheVariants.{Number, Traps}
 use Rattle.loop_meaning.specs.declared.value.Variable.{Variable}
@@ -16,7 +19,8 @@ use Rattle.loop_syntax.specs.declared.Expr.{Expr}
 use Rattle.loop_syntax.specs.declared.Expr.TheVariants.{Bin', Cell', Cols, Int, Neg', Rows, Var}
 use Rattle.loop_syntax.specs.declared.Name.{Name}
 use Rattle.loop_syntax.specs.declared.Reduce.{Reduce}
-use Rattle.std.proofs.Common.{Bool, List, [], ap, false, negsuc, pos, refl, subst, suc, sym, true, zero, ℕ, ℤ, ◌++◌, ◌-ℤ◌, ◌∙◌, ◌∷◌, ◌≡◌}
+use Rattle.std.proofs.Common.{Bool, List, [], ap, false, negsuc, pos, refl, subst, suc, sym, true}
+use Rattle.std.proofs.Common.{zero, ℕ, ℤ, ◌++◌, ◌-ℤ◌, ◌∙◌, ◌∷◌, ◌≡◌}
 use Rattle.tp_value.specs.Number.{wrapped}
 use Rattle.tp_value.specs.declared.Place.{Place}
 use Rattle.tp_value.specs.declared.Table.{Table}

@@ -25,7 +25,9 @@ use Rattle.loop_syntax.specs.declared.Stmt.TheVariants.{Both, Fold, If, Let, Par
 use Rattle.std.proofs.lemmas.Int.{ints}
 use Rattle.std.proofs.lemmas.List.Elements.{All-cons, All-nil}
 use Rattle.tp_value.specs.declared.Table.{Table}
-use Rattle.std.proofs.Common.{All, Bool, Box, List, None, Some, Vec, [], arith, bytes_eq, cond, false, inl, inr, length, lit<, pos, refl, sym, true, ℕ, ℤ, ◌<◌, ◌^◌, ◌∙◌, ◌∷◌, ◌≡◌}
+use Rattle.std.proofs.Common.{All, Bool, Box, List, None, Some, Vec, [], arith, bytes_eq, cond}
+use Rattle.std.proofs.Common.{false, inl, inr, length, lit<, pos, refl, sym, true, ℕ, ℤ, ◌<◌, ◌^◌}
+use Rattle.std.proofs.Common.{◌∙◌, ◌∷◌, ◌≡◌}
 use Rattle.std.proofs.lemmas.Slice.Eq.{bytes_eq-Decides}
 use Rattle.std.specs.declared.alloc.Global.{Global}
 use Rattle.tp_value.specs.declared.Op.TheVariants.{Add, Affine}

@@ -84,7 +84,8 @@ fn reduced_variables(rt: HostRuntime) {
     let alloc = rt.alloc();
     let nested = is_accepted(
         alloc,
-        b"main { let s = 0; par i in 0..2 reduce s by add { par j in 0..2 reduce s by add { fold s with 1; } } }",
+        b"main { let s = 0; par i in 0..2 reduce s by add { par j in 0..2 reduce s by add { fold \
+        s with 1; } } }",
     );
     assert!(&rt; nested);
     let none = is_refused(
@@ -97,7 +98,8 @@ fn reduced_variables(rt: HostRuntime) {
     assert!(&rt; none);
     let other = is_refused(
         alloc,
-        b"main { let s = 0; par i in 0..2 reduce s by add { par j in 0..2 reduce s by mul { fold s with 1; } } }",
+        b"main { let s = 0; par i in 0..2 reduce s by add { par j in 0..2 reduce s by mul { fold \
+        s with 1; } } }",
         3,
         1,
         72,
@@ -157,7 +159,8 @@ fn reads(rt: HostRuntime) {
     let alloc = rt.alloc();
     let others = is_accepted(
         alloc,
-        b"table t[3][3]; table u[3][3]; main { par i in 0..3 carry t[i] { t[i][0] = u[2][1] + t[i][2]; } }",
+        b"table t[3][3]; table u[3][3]; main { par i in 0..3 carry t[i] { t[i][0] = u[2][1] + \
+        t[i][2]; } }",
     );
     assert!(&rt; others);
     let sizes = is_accepted(
@@ -186,7 +189,8 @@ fn reads(rt: HostRuntime) {
     // nor may the inner one call a function that reads it
     let called = is_refused(
         alloc,
-        b"table t[4][4]; fn g(i) { return t[i][0]; } main { par i in 0..4 carry t[i] { par j in 0..4 { let x = 0; call x = g(i); } } }",
+        b"table t[4][4]; fn g(i) { return t[i][0]; } main { par i in 0..4 carry t[i] { par j in \
+        0..4 { let x = 0; call x = g(i); } } }",
         8,
         1,
         114,
@@ -199,7 +203,8 @@ fn carry_lists(rt: HostRuntime) {
     let alloc = rt.alloc();
     let nested = is_accepted(
         alloc,
-        b"table t[3][3]; main { par i in 0..3 carry t[i] { par j in 0..3 carry t[i][j] { t[i][j] = (i + 1) * (j + 1); } } emit t; }",
+        b"table t[3][3]; main { par i in 0..3 carry t[i] { par j in 0..3 carry t[i][j] { t[i][j] \
+        = (i + 1) * (j + 1); } } emit t; }",
     );
     assert!(&rt; nested);
     let other_index = is_refused(
@@ -241,12 +246,14 @@ fn calls(rt: HostRuntime) {
     let alloc = rt.alloc();
     let other_table = is_accepted(
         alloc,
-        b"table t[2][2]; table u[2][2]; fn g(x) { return u[x][0] + rows(t); } main { par i in 0..2 carry t[i] { let r = 0; call r = g(i); t[i][0] = r; } }",
+        b"table t[2][2]; table u[2][2]; fn g(x) { return u[x][0] + rows(t); } main { par i in \
+        0..2 carry t[i] { let r = 0; call r = g(i); t[i][0] = r; } }",
     );
     assert!(&rt; other_table);
     let through = is_refused(
         alloc,
-        b"table t[2][2];\nfn g(x) { return t[x][0]; }\nfn h(x) { let r = 0; call r = g(x); return r; }\nmain {\n  par i in 0..2 carry t[i] { let r = 0; call r = h(i); t[i][0] = r; }\n}\n",
+        b"table t[2][2];\nfn g(x) { return t[x][0]; }\nfn h(x) { let r = 0; call r = g(x); return \
+        r; }\nmain {\n  par i in 0..2 carry t[i] { let r = 0; call r = h(i); t[i][0] = r; }\n}\n",
         8,
         5,
         50,
@@ -254,7 +261,9 @@ fn calls(rt: HostRuntime) {
     assert!(&rt; through);
     let round = is_refused(
         alloc,
-        b"table t[2][2]; fn g(x) { let r = 0; call r = h(x); return r; } fn h(x) { let r = 0; if x { call r = g(0); } return t[0][r]; } main { par i in 0..2 carry t[i] { let r = 0; call r = g(i); } }",
+        b"table t[2][2]; fn g(x) { let r = 0; call r = h(x); return r; } fn h(x) { let r = 0; if \
+        x { call r = g(0); } return t[0][r]; } main { par i in 0..2 carry t[i] { let r = 0; call \
+        r = g(i); } }",
         8,
         1,
         181,

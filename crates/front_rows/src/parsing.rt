@@ -52,7 +52,9 @@ fn refused_texts(rt: HostRuntime) {
 fn too_deep_texts(rt: HostRuntime) {
     let alloc = rt.alloc();
     let blocks =
-        b"main { if 1 { if 1 { if 1 { if 1 { if 1 { if 1 { if 1 { if 1 { if 1 { if 1 { if 1 { if 1 { if 1 { if 1 { if 1 { if 1 { if 1 { if 1 { if 1 { if 1 { if 1 { if 1 { if 1 { if 1 { if 1 { if 1 { if 1 { if 1 { if 1 { if 1 { if 1 { if 1 {";
+        b"main { if 1 { if 1 { if 1 { if 1 { if 1 { if 1 { if 1 { if 1 { if 1 { if 1 { if 1 { if \
+        1 { if 1 { if 1 { if 1 { if 1 { if 1 { if 1 { if 1 { if 1 { if 1 { if 1 { if 1 { if 1 { \
+        if 1 { if 1 { if 1 { if 1 { if 1 { if 1 { if 1 { if 1 {";
     let nested = is_refused(alloc, blocks, ParseFault::Deep(at(230)));
     assert!(&rt; nested);
 }

@@ -1,5 +1,6 @@
 -- Both handlers ask for a record, and go back where there is none.
-use Rattle.std.proofs.Common.{◌≡◌, ℕ, ◌+◌, Bool, true, List, ◌∷◌, ◌++◌, length, None, Some, refl, ap}
+use Rattle.std.proofs.Common.{◌≡◌, ℕ, ◌+◌, Bool, true, List, ◌∷◌, ◌++◌, length, None, Some, refl}
+use Rattle.std.proofs.Common.{ap}
 use Rattle.std.specs.Prelude.{pos, slice_set}
 use Rattle.beat_count.specs.Heartbeat.{counted}
 use Rattle.tpal_syntax.specs.declared.instructions.Alu.TheVariants as alu

@@ -1,5 +1,6 @@
 -- The handler of a pair of calls cuts it.
-use Rattle.std.proofs.Common.{◌≡◌, ℕ, ◌+◌, ◌<◌, Bool, true, List, [], ◌∷◌, ◌++◌, drop, None, Some, Ok, refl, ap, subst, ◌∙◌, arith}
+use Rattle.std.proofs.Common.{◌≡◌, ℕ, ◌+◌, ◌<◌, Bool, true, List, [], ◌∷◌, ◌++◌, drop, None, Some}
+use Rattle.std.proofs.Common.{Ok, refl, ap, subst, ◌∙◌, arith}
 use Rattle.std.proofs.lemmas.Int.{ints, int_wrap_fits}
 use Rattle.std.proofs.lemmas.List.{length-set}
 use Rattle.std.proofs.lemmas.List.Elements.{All-head, All-tail}
@@ -35,11 +36,14 @@ use Rattle.expr_lower.specs.Leaving.{moved}
 use Rattle.expr_lower.specs.Standing.{Remains, AreAt}
 use Rattle.expr_lower.proofs.Registers.{register_set, register_other}
 use Rattle.expr_lower.proofs.Standing.{next, behind}
-use Rattle.handler_gen.specs.Blocks.{ask, left_returns, call_cut_block, back_block, call_child_block, call_handler_blocks, call_target, to}
-use Rattle.handler_gen.specs.CallCuts.{IsAtCalls, IsRoundCalls, CutsCalls, call_mark, call_work, call_halves, left_call_cells, child_call_cells}
+use Rattle.handler_gen.specs.Blocks.{ask, left_returns, call_cut_block, back_block}
+use Rattle.handler_gen.specs.Blocks.{call_child_block, call_handler_blocks, call_target, to}
+use Rattle.handler_gen.specs.CallCuts.{IsAtCalls, IsRoundCalls, CutsCalls, call_mark, call_work}
+use Rattle.handler_gen.specs.CallCuts.{call_halves, left_call_cells, child_call_cells}
 use Rattle.handler_gen.specs.Halves.{asking, GoesBack, IsCutInTwo, LeftGoesOn, ChildGoesOn}
 use Rattle.handler_gen.specs.Reaching as reaching
-use Rattle.handler_gen.specs.Sites.{IsCallSite, call_cells, back_label, child_label, target_label, left_end_label}
+use Rattle.handler_gen.specs.Sites.{IsCallSite, call_cells, back_label, child_label, target_label}
+use Rattle.handler_gen.specs.Sites.{left_end_label}
 use Rattle.handler_gen.proofs.Asking.{in_hand, asks_once, back_without, on_with}
 use Rattle.handler_gen.proofs.Cells.{Has, some_word, has_set, has_above, has_child}
 use Rattle.handler_gen.proofs.Coming.{cut_in_two, left_going, child_going}

@@ -3,7 +3,8 @@ use Rattle.std.proofs.Common.{ℕ}
 use Rattle.tpal_syntax.specs.Listing.{Listing}
 use Rattle.tpal_machine.specs.State.{State}
 use Rattle.tpal_machine.proofs.Kit.{Back}
-use Rattle.handler_gen.specs.Halves.{GoesBack, Halves, Work, IsCutInTwo, LeftGoesOn, ChildGoesOn, moved_on, left_part, child_part}
+use Rattle.handler_gen.specs.Halves.{GoesBack, Halves, Work, IsCutInTwo, LeftGoesOn, ChildGoesOn}
+use Rattle.handler_gen.specs.Halves.{moved_on, left_part, child_part}
 use Rattle.handler_gen.specs.Reaching as reaching
 use Rattle.handler_gen.specs.Sites.{back_label}
 

@@ -1,10 +1,12 @@
 -- The words in the cells of the parts of a cut.
-use Rattle.std.proofs.Common.{◌≡◌, ◌≢◌, ℕ, zero, suc, ◌+◌, ◌-◌, ◌<◌, ◌≤◌, All, List, [], ◌∷◌, take, drop, Some, refl, ap, sym, ◌∙◌, arith}
+use Rattle.std.proofs.Common.{◌≡◌, ◌≢◌, ℕ, zero, suc, ◌+◌, ◌-◌, ◌<◌, ◌≤◌, All, List, [], ◌∷◌, take}
+use Rattle.std.proofs.Common.{drop, Some, refl, ap, sym, ◌∙◌, arith}
 use Rattle.std.proofs.lemmas.List.Elements.{All-head, All-tail}
 use Rattle.std.specs.Prelude.{ℤ, pos, slice_get}
 use Rattle.reduce_ops.specs.Reduction.{unit}
 use Rattle.stack_marks.specs.Causes.{Holds}
-use Rattle.stack_marks.specs.Stacks.{StackValue, word_at, with_word, from_position, left_of, child_of}
+use Rattle.stack_marks.specs.Stacks.{StackValue, word_at, with_word, from_position, left_of}
+use Rattle.stack_marks.specs.Stacks.{child_of}
 use Rattle.tp_value.specs.declared.Op.{Op}
 use Rattle.tpal_syntax.specs.declared.notes.CutKind.TheVariants.{Loop, Call}
 use Rattle.tpal_syntax.specs.declared.sites.CallSite.{CallSite}

@@ -1,5 +1,6 @@
 -- The block of `dispatch` goes on at the oldest mark's split label.
-use Rattle.std.proofs.Common.{◌≡◌, ℕ, ◌+◌, List, [], ◌∷◌, Some, drop, length, false, refl, ap, ◌∙◌, arith}
+use Rattle.std.proofs.Common.{◌≡◌, ℕ, ◌+◌, List, [], ◌∷◌, Some, drop, length, false, refl, ap, ◌∙◌}
+use Rattle.std.proofs.Common.{arith}
 use Rattle.std.proofs.lemmas.List.{length-set}
 use Rattle.std.specs.Prelude.{pos, slice_set}
 use Rattle.stack_marks.specs.declared.mark.Mark.{Mark}

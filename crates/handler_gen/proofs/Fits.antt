@@ -1,5 +1,6 @@
 -- The blocks of handlers meet the conditions on blocks of a code.
-use Rattle.std.proofs.Common.{◌≡◌, ℕ, ◌+◌, ◌%◌, ◌<◌, ◌≤◌, ◌^◌, Bool, true, All, List, [], ◌∷◌, ◌++◌, length, refl, ◌∙◌, arith}
+use Rattle.std.proofs.Common.{◌≡◌, ℕ, ◌+◌, ◌%◌, ◌<◌, ◌≤◌, ◌^◌, Bool, true, All, List, [], ◌∷◌, ◌++◌}
+use Rattle.std.proofs.Common.{length, refl, ◌∙◌, arith}
 use Rattle.std.proofs.lemmas.Bool.Decides.{nat_tests}
 use Rattle.std.proofs.lemmas.Fmt.{decimal_by_steps}
 use Rattle.std.proofs.lemmas.List.Elements.{All-head, All-tail}
@@ -21,9 +22,14 @@ use Rattle.tpal_syntax.specs.declared.sites.CallSite.{CallSite}
 use Rattle.tpal_syntax.specs.declared.sites.LoopSite.{LoopSite}
 use Rattle.tpal_syntax.specs.Parts.{is_word, is_word_byte, is_instr, is_number}
 use Rattle.expr_lower.specs.Bodies.{name_of}
-use Rattle.handler_gen.specs.Blocks.{ask, middle, cut_places, left_begins, units, left_returns, dispatch_block, loop_cut_block, back_block, loop_child_block, loop_handler_blocks, call_cut_block, call_child_block, call_handler_blocks}
+use Rattle.handler_gen.specs.Blocks.{ask, middle, cut_places, left_begins, units, left_returns}
+use Rattle.handler_gen.specs.Blocks.{dispatch_block, loop_cut_block, back_block, loop_child_block}
+use Rattle.handler_gen.specs.Blocks.{loop_handler_blocks, call_cut_block, call_child_block}
+use Rattle.handler_gen.specs.Blocks.{call_handler_blocks}
 use Rattle.handler_gen.specs.Fitting.{AreBlocksOf, HasLoopPlaces, HasCallPlaces}
-use Rattle.handler_gen.specs.Sites.{at_of, IsLowCarry, IsLoopSite, IsCallSite, back_label, child_label, target_label, left_end_label, first_label, none_label, split_label}
+use Rattle.handler_gen.specs.Sites.{at_of, IsLowCarry, IsLoopSite, IsCallSite, back_label}
+use Rattle.handler_gen.specs.Sites.{child_label, target_label, left_end_label, first_label}
+use Rattle.handler_gen.specs.Sites.{none_label, split_label}
 use Rattle.handler_gen.proofs.Marks.{le_true, lt_true}
 use Rattle.handler_gen.proofs.Offsets.{cells_of, mark_in, cursor_in, bound_in, rec_in, accs_in}
 

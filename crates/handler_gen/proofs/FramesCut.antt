@@ -1,5 +1,6 @@
 -- A loop is cut as its frame is.
-use Rattle.std.proofs.Common.{◌≡◌, ◌≢◌, ℕ, suc, ◌+◌, ◌<◌, Bool, true, false, cond, All, List, [], ◌∷◌, Option, None, Some, refl, ap, sym, subst, ◌∙◌, arith}
+use Rattle.std.proofs.Common.{◌≡◌, ◌≢◌, ℕ, suc, ◌+◌, ◌<◌, Bool, true, false, cond, All, List, []}
+use Rattle.std.proofs.Common.{◌∷◌, Option, None, Some, refl, ap, sym, subst, ◌∙◌, arith}
 use Rattle.std.proofs.lemmas.List.Elements.{All-head, All-tail}
 use Rattle.std.specs.Prelude.{ℤ, pos, int_lt, AllPairs}
 use Rattle.frame_machine.specs.Splitting.{cut_of, parts_of, ranges_at}
@@ -18,7 +19,8 @@ use Rattle.handler_gen.specs.Frames.{HoldAccs, HoldNumbers, Shows, ShowsCall, Cu
 use Rattle.handler_gen.specs.LoopCuts.{IsAtLoop, left_cells, child_cells, with_units}
 use Rattle.handler_gen.specs.Sites.{IsCallSite, call_cells, IsLoopSite}
 use Rattle.handler_gen.proofs.Cells.{Has, has_set}
-use Rattle.handler_gen.proofs.CutCells.{left_word, left_bound, child_word, child_cursor, child_call_word, units_other, has_child_2, child_2}
+use Rattle.handler_gen.proofs.CutCells.{left_word, left_bound, child_word, child_cursor}
+use Rattle.handler_gen.proofs.CutCells.{child_call_word, units_other, has_child_2, child_2}
 use Rattle.handler_gen.proofs.Offsets.{cells_of, bound_in, cursor_in, accs_in}
 use Rattle.handler_gen.proofs.Words.{word_same}
 

@@ -1,5 +1,6 @@
 -- The child of a loop begins: it has its record, the place of the cut, units and a mark of its own.
-use Rattle.std.proofs.Common.{◌≡◌, ℕ, ◌+◌, ◌<◌, Bool, false, All, List, [], ◌∷◌, ◌++◌, length, None, Some, refl, ap, ◌∙◌, arith}
+use Rattle.std.proofs.Common.{◌≡◌, ℕ, ◌+◌, ◌<◌, Bool, false, All, List, [], ◌∷◌, ◌++◌, length, None}
+use Rattle.std.proofs.Common.{Some, refl, ap, ◌∙◌, arith}
 use Rattle.std.proofs.lemmas.List.{length-set}
 use Rattle.std.proofs.lemmas.List.Elements.{All-head, All-tail}
 use Rattle.std.specs.Prelude.{ℤ, pos, slice_set}
@@ -30,7 +31,8 @@ use Rattle.expr_lower.specs.Standing.{Remains}
 use Rattle.expr_lower.proofs.Registers.{register_set, register_other}
 use Rattle.handler_gen.specs.Blocks.{loop_child_block, units, to}
 use Rattle.handler_gen.specs.Halves.{ChildGoesOn}
-use Rattle.handler_gen.specs.LoopCuts.{loop_work, loop_halves, loop_mark, table_cuts, with_units, child_cells}
+use Rattle.handler_gen.specs.LoopCuts.{loop_work, loop_halves, loop_mark, table_cuts, with_units}
+use Rattle.handler_gen.specs.LoopCuts.{child_cells}
 use Rattle.handler_gen.specs.Reaching as reaching
 use Rattle.handler_gen.specs.Sites.{IsLoopSite, child_label, first_label, target_label, split_label}
 use Rattle.handler_gen.proofs.Cells.{Has, some_word, has_set, has_child, has_units, marks_units}

@@ -1,5 +1,6 @@
 -- The handler of a loop cuts it.
-use Rattle.std.proofs.Common.{◌≡◌, ℕ, ◌+◌, ◌≤◌, Bool, true, false, List, [], ◌∷◌, ◌++◌, drop, None, Some, Ok, refl, ap, subst, ◌∙◌, arith}
+use Rattle.std.proofs.Common.{◌≡◌, ℕ, ◌+◌, ◌≤◌, Bool, true, false, List, [], ◌∷◌, ◌++◌, drop, None}
+use Rattle.std.proofs.Common.{Some, Ok, refl, ap, subst, ◌∙◌, arith}
 use Rattle.std.specs.Prelude.{ℤ, pos, ◌-ℤ◌, int_div, int_lt, is_some, slice_set}
 use Rattle.beat_count.specs.BeatState.{BeatState}
 use Rattle.beat_count.specs.Heartbeat.{counted, taken}
@@ -31,9 +32,13 @@ use Rattle.tpal_machine.proofs.Kit.{Back, IsCalm}
 use Rattle.expr_lower.specs.Leaving.{moved}
 use Rattle.expr_lower.specs.Standing.{Remains, AreAt}
 use Rattle.expr_lower.proofs.Standing.{next as next_instr, behind}
-use Rattle.handler_gen.specs.Blocks.{ask, middle, cut_places, left_begins, loop_cut_block, back_block, loop_child_block, loop_handler_blocks, loop_target, to}
-use Rattle.handler_gen.specs.Halves.{asking, GoesBack, IsCutInTwo, KeepsPlace, LeftGoesOn, ChildGoesOn, Halves, Work}
-use Rattle.handler_gen.specs.LoopCuts.{IsAtLoop, IsRoundLoop, CutsLoop, loop_mark, loop_work, loop_halves, left_cells, table_cuts}
+use Rattle.handler_gen.specs.Blocks.{ask, middle, cut_places, left_begins, loop_cut_block}
+use Rattle.handler_gen.specs.Blocks.{back_block, loop_child_block, loop_handler_blocks, loop_target}
+use Rattle.handler_gen.specs.Blocks.{to}
+use Rattle.handler_gen.specs.Halves.{asking, GoesBack, IsCutInTwo, KeepsPlace, LeftGoesOn}
+use Rattle.handler_gen.specs.Halves.{ChildGoesOn, Halves, Work}
+use Rattle.handler_gen.specs.LoopCuts.{IsAtLoop, IsRoundLoop, CutsLoop, loop_mark, loop_work}
+use Rattle.handler_gen.specs.LoopCuts.{loop_halves, left_cells, table_cuts}
 use Rattle.handler_gen.specs.Reaching as reaching
 use Rattle.handler_gen.specs.Sites.{IsLoopSite, back_label, child_label, target_label, none_label}
 use Rattle.handler_gen.proofs.Asking.{in_hand, asks_once, back_without, on_with}
@@ -45,7 +50,8 @@ use Rattle.handler_gen.proofs.Middles.{IsMiddle, middle_is}
 use Rattle.handler_gen.proofs.Offsets.{rec_in, bound_in}
 use Rattle.handler_gen.proofs.Places.{moves_all, are_carried, apart_high}
 use Rattle.handler_gen.proofs.Scratch.{Scratch, set_25, set_26, set_27, test_is}
-use Rattle.handler_gen.proofs.Straight.{calculates, loads, stores, passes_by, branches, drops, enters}
+use Rattle.handler_gen.proofs.Straight.{calculates, loads, stores, passes_by, branches, drops}
+use Rattle.handler_gen.proofs.Straight.{enters}
 
 module _ (code : Listing) (heartbeat : ℕ) (site : LoopSite) (right : IsLoopSite site) (stands : AreAt code site.label (loop_handler_blocks site)) (round : IsRoundLoop code site) where
   back_found : block_at code (back_label site.label) ≡ Some (back_block site.label)

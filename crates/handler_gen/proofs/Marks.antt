@@ -1,6 +1,7 @@
 -- One lemma for each instruction on marks and records: what holds of the task after it holds of the task
 -- before it, or what its step comes to.
-use Rattle.std.proofs.Common.{◌≡◌, ℕ, ◌+◌, ◌≤◌, ◌<◌, Bool, true, false, cond, None, Some, Ok, Err, List, refl, ap, ◌∙◌, arith}
+use Rattle.std.proofs.Common.{◌≡◌, ℕ, ◌+◌, ◌≤◌, ◌<◌, Bool, true, false, cond, None, Some, Ok, Err}
+use Rattle.std.proofs.Common.{List, refl, ap, ◌∙◌, arith}
 use Rattle.std.proofs.lemmas.Bool.Decides.{nat_tests}
 use Rattle.std.specs.Prelude.{ℤ, pos, ◌+ℤ◌, ◌==◌, is_some, nat_le, nat_lt}
 use Rattle.stack_marks.specs.Causes.{Holds, HoldsMark}
@@ -26,9 +27,12 @@ use Rattle.tpal_machine.specs.Calculation.{on_number}
 use Rattle.tpal_machine.specs.Cut as cut
 use Rattle.tpal_machine.specs.Effect as effect
 use Rattle.tpal_machine.specs.Ended.{ended}
-use Rattle.tpal_machine.specs.Reading.{register, with_register, block_at, note_of, the_target, is_target}
+use Rattle.tpal_machine.specs.Reading.{register, with_register, block_at, note_of, the_target}
+use Rattle.tpal_machine.specs.Reading.{is_target}
 use Rattle.tpal_machine.specs.State.{State}
-use Rattle.tpal_machine.specs.Step.{Goes, Ends, Asks, Forks, Stuck, step, stepped, asked, forked, at_block, advanced, entered_by, executed, finished, join, joined, join_end, join_met, halting, is_end, enters}
+use Rattle.tpal_machine.specs.Step.{Goes, Ends, Asks, Forks, Stuck, step, stepped, asked, forked}
+use Rattle.tpal_machine.specs.Step.{at_block, advanced, entered_by, executed, finished, join}
+use Rattle.tpal_machine.specs.Step.{joined, join_end, join_met, halting, is_end, enters}
 use Rattle.tpal_machine.proofs.Kit.{Back, IsNext, IsAtEnd, IsCalm}
 use Rattle.tpal_machine.proofs.Steps.{step_of_instr, step_of_term}
 

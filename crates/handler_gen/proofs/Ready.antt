@@ -16,7 +16,8 @@ use Rattle.tpal_machine.specs.Owes.{Bound, points}
 use Rattle.tpal_machine.specs.Owes as owes
 use Rattle.tpal_machine.specs.Reading.{operand, block_at, note_of, with_register}
 use Rattle.tpal_machine.specs.State.{State}
-use Rattle.tpal_machine.specs.Step.{Goes, Beats, step, at_block, advanced, jump, entered_by, entered_ready}
+use Rattle.tpal_machine.specs.Step.{Goes, Beats, step, at_block, advanced, jump, entered_by}
+use Rattle.tpal_machine.specs.Step.{entered_ready}
 use Rattle.tpal_machine.proofs.Kit.{IsAtEnd}
 use Rattle.handler_gen.proofs.Marks.{term_step}
 

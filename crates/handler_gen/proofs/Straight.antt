@@ -21,7 +21,8 @@ use Rattle.tpal_machine.specs.Calculation.{calculated}
 use Rattle.tpal_machine.specs.Effect.{with_stack, oldest, is_marked_from}
 use Rattle.tpal_machine.specs.Reading.{register, operand}
 use Rattle.tpal_machine.specs.State.{State}
-use Rattle.tpal_machine.proofs.Kit.{Back, IsCalm, on_move, on_calc, on_load, on_store, on_if, on_if_not, on_jump}
+use Rattle.tpal_machine.proofs.Kit.{Back, IsCalm, on_move, on_calc, on_load, on_store, on_if}
+use Rattle.tpal_machine.proofs.Kit.{on_if_not, on_jump}
 use Rattle.expr_lower.specs.Leaving.{moved, moved_to}
 use Rattle.expr_lower.specs.Standing.{Remains}
 use Rattle.expr_lower.proofs.Standing.{next, behind, at_end}

@@ -1,5 +1,6 @@
 -- The join of a pair of calls: the child and the left end, and the task goes on with both values.
-use Rattle.std.proofs.Common.{◌≡◌, ℕ, ◌+◌, ◌≤◌, ◌^◌, List, [], ◌∷◌, length, drop, None, Some, Ok, refl, ap, subst, ◌∙◌, arith}
+use Rattle.std.proofs.Common.{◌≡◌, ℕ, ◌+◌, ◌≤◌, ◌^◌, List, [], ◌∷◌, length, drop, None, Some, Ok}
+use Rattle.std.proofs.Common.{refl, ap, subst, ◌∙◌, arith}
 use Rattle.std.proofs.lemmas.Int.{ints, int_wrap_fits}
 use Rattle.std.proofs.lemmas.List.{length-set}
 use Rattle.std.specs.Int.{w64}
@@ -35,12 +36,15 @@ use Rattle.expr_lower.proofs.Registers.{register_set, register_other}
 use Rattle.expr_lower.proofs.Standing.{at_end}
 use Rattle.handler_gen.specs.Blocks.{call_target, to}
 use Rattle.handler_gen.specs.Reaching as reaching
-use Rattle.handler_gen.specs.Sites.{target_label, comb_label, child_end_label, left_end_label, joined_label}
+use Rattle.handler_gen.specs.Sites.{target_label, comb_label, child_end_label, left_end_label}
+use Rattle.handler_gen.specs.Sites.{joined_label}
 use Rattle.handler_gen.proofs.Marks.{ends_side, on_join}
 use Rattle.handler_gen.proofs.Reaching.{reaching_task}
 use Rattle.handler_gen.proofs.Straight.{calculates, loads, enters}
-use Rattle.join_gen.specs.Blocks.{call_target_block, call_comb_block, child_end_block, left_end_block, call_join_blocks}
-use Rattle.join_gen.specs.CallJoins.{call_side, HasReturned, AreSidesOfCalls, Meets, IsRoundMeeting, JoinsCalls}
+use Rattle.join_gen.specs.Blocks.{call_target_block, call_comb_block, child_end_block}
+use Rattle.join_gen.specs.Blocks.{left_end_block, call_join_blocks}
+use Rattle.join_gen.specs.CallJoins.{call_side, HasReturned, AreSidesOfCalls, Meets, IsRoundMeeting}
+use Rattle.join_gen.specs.CallJoins.{JoinsCalls}
 use Rattle.join_gen.specs.LoopJoins.{ComesToEnd}
 use Rattle.join_gen.proofs.Coming.{coming_to_end}
 

@@ -1,11 +1,13 @@
 -- The blocks of joins meet the conditions on blocks of a code.
-use Rattle.std.proofs.Common.{◌≡◌, ◌≢◌, ℕ, suc, ◌+◌, ◌<◌, ◌≤◌, Bool, true, false, not, All, List, [], ◌∷◌, ◌++◌, length, refl, ap, arith}
+use Rattle.std.proofs.Common.{◌≡◌, ◌≢◌, ℕ, suc, ◌+◌, ◌<◌, ◌≤◌, Bool, true, false, not, All, List}
+use Rattle.std.proofs.Common.{[], ◌∷◌, ◌++◌, length, refl, ap, arith}
 use Rattle.std.proofs.lemmas.Bool.Decides.{nat_tests}
 use Rattle.std.proofs.lemmas.List.Elements.{All-head, All-tail}
 use Rattle.std.specs.List.{list_all}
 use Rattle.std.specs.Prelude.{pos, ◌&&◌, ◌==◌, nat_lt, nat_le, AllPairs}
 use Rattle.tp_value.specs.declared.Op.{Op}
-use Rattle.tpal_syntax.specs.Conditions.{IsTarget, is_renamed, are_apart, are_distinct_names, are_distinct_tables}
+use Rattle.tpal_syntax.specs.Conditions.{IsTarget, is_renamed, are_apart, are_distinct_names}
+use Rattle.tpal_syntax.specs.Conditions.{are_distinct_tables}
 use Rattle.tpal_syntax.specs.declared.blocks.Block.{Block}
 use Rattle.tpal_syntax.specs.declared.blocks.CodeTable.{CodeTable}
 use Rattle.tpal_syntax.specs.declared.instructions.Instr.{Instr}
@@ -16,11 +18,14 @@ use Rattle.tpal_syntax.specs.declared.sites.LoopSite.{LoopSite}
 use Rattle.tpal_syntax.specs.Parts.{is_instr, is_carry, is_number, table_of}
 use Rattle.handler_gen.specs.Blocks.{renames_from, loop_target, call_target}
 use Rattle.handler_gen.specs.Fitting.{AreBlocksOf, HasLoopPlaces, HasCallPlaces}
-use Rattle.handler_gen.specs.Sites.{IsLowCarry, IsLoopSite, IsCallSite, call_cells, target_label, comb_label, side_label, over_label, child_end_label, left_end_label, joined_label}
+use Rattle.handler_gen.specs.Sites.{IsLowCarry, IsLoopSite, IsCallSite, call_cells, target_label}
+use Rattle.handler_gen.specs.Sites.{comb_label, side_label, over_label, child_end_label}
+use Rattle.handler_gen.specs.Sites.{left_end_label, joined_label}
 use Rattle.handler_gen.proofs.Fits.{both, offset_is, name_is}
 use Rattle.handler_gen.proofs.Marks.{lt_true}
 use Rattle.handler_gen.proofs.Offsets.{cells_of, accs_in}
-use Rattle.join_gen.specs.Blocks.{loads_from, combines_from, loop_join_blocks, call_join_blocks, child_end_block}
+use Rattle.join_gen.specs.Blocks.{loads_from, combines_from, loop_join_blocks, call_join_blocks}
+use Rattle.join_gen.specs.Blocks.{child_end_block}
 
 -- ---- renamings
 

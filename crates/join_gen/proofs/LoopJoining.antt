@@ -1,5 +1,6 @@
 -- The join of a loop: a side ends, and both are combined.
-use Rattle.std.proofs.Common.{◌≡◌, ℕ, ◌+◌, Bool, false, List, [], ◌∷◌, ◌++◌, length, drop, None, Some, refl, ap, sym, subst, ◌∙◌, arith, append-nil}
+use Rattle.std.proofs.Common.{◌≡◌, ℕ, ◌+◌, Bool, false, List, [], ◌∷◌, ◌++◌, length, drop, None}
+use Rattle.std.proofs.Common.{Some, refl, ap, sym, subst, ◌∙◌, arith, append-nil}
 use Rattle.std.specs.Prelude.{ℤ, pos}
 use Rattle.beat_count.specs.BeatState.{BeatState}
 use Rattle.beat_count.specs.Heartbeat.{counted, no_beat}
@@ -33,8 +34,10 @@ use Rattle.handler_gen.specs.Sites.{IsLoopSite, target_label, comb_label, side_l
 use Rattle.handler_gen.proofs.Marks.{ends_side, on_join}
 use Rattle.handler_gen.proofs.Offsets.{accs_in}
 use Rattle.handler_gen.proofs.Straight.{enters}
-use Rattle.join_gen.specs.Blocks.{loads_from, combines_from, loop_target_block, loop_comb_block, side_block, loop_join_blocks}
-use Rattle.join_gen.specs.LoopJoins.{IsAtSide, ComesToEnd, loop_side, words_from, AreSidesOfLoop, Combines, IsRoundJoin, JoinsLoop, with_numbers, ops_of, handed}
+use Rattle.join_gen.specs.Blocks.{loads_from, combines_from, loop_target_block, loop_comb_block}
+use Rattle.join_gen.specs.Blocks.{side_block, loop_join_blocks}
+use Rattle.join_gen.specs.LoopJoins.{IsAtSide, ComesToEnd, loop_side, words_from, AreSidesOfLoop}
+use Rattle.join_gen.specs.LoopJoins.{Combines, IsRoundJoin, JoinsLoop, with_numbers, ops_of, handed}
 use Rattle.join_gen.proofs.Coming.{coming_to_end}
 use Rattle.join_gen.proofs.Combining.{combines_all}
 use Rattle.join_gen.proofs.Filled.{AreMerged, are_merged}

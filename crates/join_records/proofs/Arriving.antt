@@ -5,18 +5,23 @@ use Rattle.tpal_machine.specs.declared.ends.SideName.TheVariants.{Left, Right}
 use Rattle.join_records.specs.declared.views.Grip.TheVariants.{Emptying}
 use Rattle.join_records.specs.declared.views.Stage.TheVariants.{Steady, Arriving}
 use Rattle.join_records.specs.Ends.{code_of}
-use Rattle.std.proofs.Common.{◌≡◌, ◌≢◌, ◌⊎◌, ℕ, ◌+◌, ◌*◌, ◌<◌, ◌≤◌, ◌%◌, ◌/◌, List, [], ◌∷◌, length, get_or, set, Bool, true, false, refl, sym, ap, ◌∙◌, subst, inl, inr, ⊎_elim, arith, length-set, get_or-set_same, get_or-set_other, ◌^◌}
+use Rattle.std.proofs.Common.{◌≡◌, ◌≢◌, ◌⊎◌, ℕ, ◌+◌, ◌*◌, ◌<◌, ◌≤◌, ◌%◌, ◌/◌, List, [], ◌∷◌, length}
+use Rattle.std.proofs.Common.{get_or, set, Bool, true, false, refl, sym, ap, ◌∙◌, subst, inl, inr}
+use Rattle.std.proofs.Common.{⊎_elim, arith, length-set, get_or-set_same, get_or-set_other, ◌^◌}
 use mathlib.Core.Option.{some, none}
 use mathlib.Core.Option as maybe
 use lib.ListN.{get_elem?}
 use Rattle.std.specs.Prelude.{Option, Some, None}
-use Rattle.atomic_table.specs.Table.{State, Me, step, Act, takes, gives, chain, Valid, carried_after, stepped, Allows}
+use Rattle.atomic_table.specs.Table.{State, Me, step, Act, takes, gives, chain, Valid}
+use Rattle.atomic_table.specs.Table.{carried_after, stepped, Allows}
 use Rattle.atomic_table.proofs.Lists.{set_here, set_else}
 use Rattle.join_records.specs.declared.slot.Item.{Item}
 use Rattle.join_records.specs.declared.slot.Item.TheVariants.{Rest, Side}
 use Rattle.join_records.specs.declared.views.View.{View}
 use Rattle.join_records.specs.Ends.{left_of, right_of}
-use Rattle.join_records.specs.Rule.{NotBoth, Facts, Holder, nobody, seat, kept, Progress, unclaimed, claimed, arrived, opened, kind, hand_of, KeepsEnd, CellOk, Kept, RightOk, LeftOk, marks}
+use Rattle.join_records.specs.Rule.{NotBoth, Facts, Holder, nobody, seat, kept, Progress, unclaimed}
+use Rattle.join_records.specs.Rule.{claimed, arrived, opened, kind, hand_of, KeepsEnd, CellOk, Kept}
+use Rattle.join_records.specs.Rule.{RightOk, LeftOk, marks}
 use Rattle.join_records.specs.Views.{read, with_hand, with_ends, holds_end, drop_record, NoneMet}
 use Rattle.join_records.specs.Steps.{side_taken, arrived_at, side_arrived}
 use Rattle.join_records.proofs.Functions.{put, put_here, put_else, hand_same, one_ending}
@@ -25,7 +30,9 @@ use Rattle.std.specs.Prelude.{bit_or}
 use Rattle.std.proofs.lemmas.Nat.{or_block}
 use Rattle.std.specs.Int.Bits.{or_zero_r}
 use Rattle.join_records.proofs.Opening.{end_held, no_met}
-use Rattle.join_records.proofs.Turning.{left_kept, right_kept, left_live, right_live, was, turn_else, turn_changes, turn_softly, turn_kept, turn_up, turn_held, turn_gone, meets}
+use Rattle.join_records.proofs.Turning.{left_kept, right_kept, left_live, right_live, was}
+use Rattle.join_records.proofs.Turning.{turn_else, turn_changes, turn_softly, turn_kept, turn_up}
+use Rattle.join_records.proofs.Turning.{turn_held, turn_gone, meets}
 
 -- a word with one more bit
 or_bit : (up r bit n : ℕ) → r < 32 → bit < 32 → bit_or r bit ≡ n → n < 32 → bit_or (r + 256 * up) bit ≡ n + 256 * up

@@ -1,5 +1,6 @@
 -- What a caller knows of its hand after a call.
-use Rattle.std.proofs.Common.{inl, inr, ◌≡◌, ℕ, suc, ◌+◌, List, [], ◌∷◌, Bool, cond, refl, sym, ap, ◌∙◌, subst, ◌++◌, length, eq-eqb, ne_eqb, Some, None, arith}
+use Rattle.std.proofs.Common.{inl, inr, ◌≡◌, ℕ, suc, ◌+◌, List, [], ◌∷◌, Bool, cond, refl, sym, ap}
+use Rattle.std.proofs.Common.{◌∙◌, subst, ◌++◌, length, eq-eqb, ne_eqb, Some, None, arith}
 use mathlib.Core.Logic.{dite}
 use mathlib.Core.Option.{some}
 use lib.ListN.{get_elem?}
@@ -12,11 +13,13 @@ use Rattle.join_records.specs.declared.views.Stage.TheVariants.{Steady}
 use Rattle.join_records.specs.declared.views.Grip.{Grip}
 use Rattle.join_records.specs.declared.views.Grip.TheVariants.{Reserved, Emptying, Emptied}
 use Rattle.join_records.specs.declared.views.View.{View}
-use Rattle.join_records.specs.Views.{in_hand, drop_record, NoneMet, HasMet, read, with_hand, with_ends, holds_end, opened_view}
+use Rattle.join_records.specs.Views.{in_hand, drop_record, NoneMet, HasMet, read, with_hand}
+use Rattle.join_records.specs.Views.{with_ends, holds_end, opened_view}
 use Rattle.join_records.specs.declared.table.Taken.{Taken}
 use Rattle.join_records.specs.Passes.{taken_number}
 use Rattle.std.specs.Prelude.{Option, IfSome, IfNone, ◌<◌}
-use Rattle.join_records.specs.Answers.{FoundFree, NoneFree, met_view, reads_more, ReadFew, Unclaimable, ClaimsSoon}
+use Rattle.join_records.specs.Answers.{FoundFree, NoneFree, met_view, reads_more, ReadFew}
+use Rattle.join_records.specs.Answers.{Unclaimable, ClaimsSoon}
 use Rattle.join_records.proofs.Functions.{dropped, undropped, dropped_twice, length_more}
 
 module _ {C E : Type 0} where

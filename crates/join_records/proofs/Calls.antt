@@ -6,7 +6,9 @@ use Rattle.join_records.specs.Ends.{code_of, IsEndOf}
 use Rattle.join_records.specs.declared.views.Grip.{Grip}
 use Rattle.join_records.specs.declared.views.Grip.TheVariants.{Filling, Emptying, Emptied}
 use Rattle.join_records.specs.declared.views.Stage.TheVariants.{Steady}
-use Rattle.std.proofs.Common.{inl, inr, ◌≡◌, ◌≢◌, ◌⊎◌, ℕ, ◌+◌, ◌*◌, ◌<◌, ◌≤◌, List, [], ◌∷◌, ◌++◌, length, refl, sym, ap, ◌∙◌, subst, arith, append_assoc, Bool, true, false, ◌&&◌, ◌||◌, cond, eqb, eq-eqb, ne_eqb, Some}
+use Rattle.std.proofs.Common.{inl, inr, ◌≡◌, ◌≢◌, ◌⊎◌, ℕ, ◌+◌, ◌*◌, ◌<◌, ◌≤◌, List, [], ◌∷◌, ◌++◌}
+use Rattle.std.proofs.Common.{length, refl, sym, ap, ◌∙◌, subst, arith, append_assoc, Bool, true}
+use Rattle.std.proofs.Common.{false, ◌&&◌, ◌||◌, cond, eqb, eq-eqb, ne_eqb, Some}
 use mathlib.Core.Option.{some, none}
 use mathlib.Core.Logic.{dite}
 use mir.Val.{bool_byte}
@@ -19,11 +21,13 @@ use Rattle.join_records.specs.declared.slot.Item.{Item}
 use Rattle.join_records.specs.declared.slot.Item.TheVariants.{Rest, Child, Side}
 use Rattle.join_records.specs.declared.views.View.{View}
 use Rattle.join_records.specs.declared.views.Holding.{Holding}
-use Rattle.join_records.specs.Views.{with_ends, with_hand, holds_end, read, in_hand, drop_record, NoneMet, total, saw_finish}
+use Rattle.join_records.specs.Views.{with_ends, with_hand, holds_end, read, in_hand, drop_record}
+use Rattle.join_records.specs.Views.{NoneMet, total, saw_finish}
 use Rattle.join_records.specs.Steps.{record_taken, arrived_at}
 use Rattle.join_records.specs.Words.{other_bit, bit}
 use Rattle.tpal_machine.specs.declared.ends.SideName.{SideName}
-use Rattle.join_records.specs.Answers.{met_view, reads_more, NoneFree, FoundFree, HoldsNoSide, reserved_view, filling_view}
+use Rattle.join_records.specs.Answers.{met_view, reads_more, NoneFree, FoundFree, HoldsNoSide}
+use Rattle.join_records.specs.Answers.{reserved_view, filling_view}
 use Rattle.std.specs.Prelude.{◌==◌, Contains, MatchBool, IfNone, None}
 use Rattle.std.proofs.lemmas.List.Elements.{Contains-append_left, Contains-append_right}
 use Rattle.join_records.proofs.Functions.{undropped, total_append}

@@ -5,7 +5,9 @@ use Rattle.tpal_machine.specs.declared.ends.SideName.TheVariants.{Right}
 use Rattle.join_records.specs.declared.views.Stage.{Stage}
 use Rattle.join_records.specs.declared.views.Stage.TheVariants.{Steady, Claiming}
 use Rattle.join_records.specs.Ends.{code_of}
-use Rattle.std.proofs.Common.{◌≡◌, ◌≢◌, ◌⊎◌, ℕ, ◌+◌, ◌*◌, ◌<◌, ◌%◌, eqb, List, [], ◌∷◌, length, get_or, set, Bool, true, false, refl, sym, ap, ◌∙◌, subst, inl, inr, arith, length-set, get_or-set_same, get_or-set_other}
+use Rattle.std.proofs.Common.{◌≡◌, ◌≢◌, ◌⊎◌, ℕ, ◌+◌, ◌*◌, ◌<◌, ◌%◌, eqb, List, [], ◌∷◌, length}
+use Rattle.std.proofs.Common.{get_or, set, Bool, true, false, refl, sym, ap, ◌∙◌, subst, inl, inr}
+use Rattle.std.proofs.Common.{arith, length-set, get_or-set_same, get_or-set_other}
 use mathlib.Core.Option.{some, none}
 use mathlib.Core.Option as maybe
 use mathlib.Core.Logic.{dite}
@@ -13,17 +15,21 @@ use native.Mathlib.Decide.{ℕ_discrete}
 use prog.Atomic.{either}
 use lib.ListN.{get_elem?}
 use Rattle.std.specs.Prelude.{Option, Some, None}
-use Rattle.atomic_table.specs.Table.{State, Me, step, Act, keeps, takes, gives, Valid, carried_after, stepped, Allows}
+use Rattle.atomic_table.specs.Table.{State, Me, step, Act, keeps, takes, gives, Valid}
+use Rattle.atomic_table.specs.Table.{carried_after, stepped, Allows}
 use Rattle.atomic_table.proofs.Lists.{set_here, set_else, exchanged}
 use Rattle.join_records.specs.declared.slot.Item.{Item}
 use Rattle.join_records.specs.declared.slot.Item.TheVariants.{Child}
 use Rattle.join_records.specs.declared.views.Holding.{Holding}
 use Rattle.join_records.specs.declared.views.View.{View}
 use Rattle.join_records.specs.Ends.{left_of, right_of}
-use Rattle.join_records.specs.Rule.{Facts, Holder, seat, kept, unclaimed, claimed, arrived, Phase, free, taken, opened, met, kind, hand_of, held_of, KeepsEnd, CellOk, Kept, LeftOk}
+use Rattle.join_records.specs.Rule.{Facts, Holder, seat, kept, unclaimed, claimed, arrived, Phase}
+use Rattle.join_records.specs.Rule.{free, taken, opened, met, kind, hand_of, held_of, KeepsEnd}
+use Rattle.join_records.specs.Rule.{CellOk, Kept, LeftOk}
 use Rattle.join_records.specs.Views.{find, read, with_ends, holds_end}
 use Rattle.join_records.specs.Steps.{record_claimed, child_given}
-use Rattle.join_records.proofs.Functions.{put, put_here, put_else, pick_here, pick_else, hand_same, one_ending}
+use Rattle.join_records.proofs.Functions.{put, put_here, put_else, pick_here, pick_else, hand_same}
+use Rattle.join_records.proofs.Functions.{one_ending}
 use Rattle.join_records.proofs.Frame.{Loose, dead_loose, told_more, loads_keep, moved}
 use Rattle.join_records.proofs.Opening.{end_held, not_held}
 

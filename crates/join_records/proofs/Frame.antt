@@ -3,7 +3,9 @@ use Rattle.tpal_machine.specs.declared.ends.End.{End}
 use Rattle.tpal_machine.specs.declared.ends.End.TheVariants.{At}
 use Rattle.tpal_machine.specs.declared.ends.SideName.TheVariants.{Left, Right}
 use Rattle.join_records.specs.Ends.{code_of}
-use Rattle.std.proofs.Common.{◌≡◌, ◌≢◌, ◌⊎◌, ℕ, ◌+◌, ◌*◌, ◌<◌, ◌≤◌, List, [], ◌∷◌, ◌++◌, length, get_or, set, Bool, true, false, refl, sym, ap, ◌∙◌, subst, ⊎_elim, arith, length-set, get_or-set_other}
+use Rattle.std.proofs.Common.{◌≡◌, ◌≢◌, ◌⊎◌, ℕ, ◌+◌, ◌*◌, ◌<◌, ◌≤◌, List, [], ◌∷◌, ◌++◌, length}
+use Rattle.std.proofs.Common.{get_or, set, Bool, true, false, refl, sym, ap, ◌∙◌, subst, ⊎_elim}
+use Rattle.std.proofs.Common.{arith, length-set, get_or-set_other}
 use Rattle.std.proofs.lemmas.List.{set-get_or}
 use mathlib.Core.Option.{some, none}
 use mathlib.Core.Option as maybe
@@ -16,7 +18,11 @@ use Rattle.atomic_table.proofs.Lists.{at_set}
 use Rattle.join_records.specs.declared.slot.Item.{Item}
 use Rattle.join_records.specs.declared.views.View.{View}
 use Rattle.join_records.specs.Ends.{left_of, right_of}
-use Rattle.join_records.specs.Rule.{Facts, Holder, nobody, seat, kept, Progress, unclaimed, claimed, arrived, Phase, free, taken, opened, met, Era, unborn, running, finished, kind, hand_of, held_of, Rooted, KeepsEnd, NamesBelow, CellOk, EraOk, SeatOk, Kept, LeftOk, RightOk, HasRest, HasSide, Waits}
+use Rattle.join_records.specs.Rule.{Facts, Holder, nobody, seat, kept, Progress, unclaimed, claimed}
+use Rattle.join_records.specs.Rule.{arrived, Phase, free, taken, opened, met, Era, unborn, running}
+use Rattle.join_records.specs.Rule.{finished, kind, hand_of, held_of, Rooted, KeepsEnd, NamesBelow}
+use Rattle.join_records.specs.Rule.{CellOk, EraOk, SeatOk, Kept, LeftOk, RightOk, HasRest, HasSide}
+use Rattle.join_records.specs.Rule.{Waits}
 use Rattle.join_records.specs.Views.{saw_finish, read}
 use Rattle.join_records.specs.Steps.{loaded}
 use Rattle.join_records.proofs.Functions.{put, at_put, total_same, at_below, saw_more, pick_else}

@@ -5,7 +5,9 @@ use Rattle.join_records.specs.declared.views.Grip.TheVariants.{Emptying, Emptied
 use Rattle.join_records.specs.declared.views.Stage.{Stage}
 use Rattle.join_records.specs.declared.views.Stage.TheVariants.{Steady}
 use Rattle.join_records.specs.Ends.{code_of}
-use Rattle.std.proofs.Common.{◌≡◌, ◌≢◌, ◌⊎◌, ℕ, ◌+◌, ◌*◌, ◌<◌, ◌≤◌, eqb, List, [], ◌∷◌, length, get_or, set, false, refl, sym, ap, ◌∙◌, subst, inl, inr, ⊎_elim, arith, length-set, get_or-set_same, get_or-set_other}
+use Rattle.std.proofs.Common.{◌≡◌, ◌≢◌, ◌⊎◌, ℕ, ◌+◌, ◌*◌, ◌<◌, ◌≤◌, eqb, List, [], ◌∷◌, length}
+use Rattle.std.proofs.Common.{get_or, set, false, refl, sym, ap, ◌∙◌, subst, inl, inr, ⊎_elim}
+use Rattle.std.proofs.Common.{arith, length-set, get_or-set_same, get_or-set_other}
 use mathlib.Core.Option.{some, none}
 use mathlib.Core.Option as maybe
 use mathlib.Core.Logic.{dite}
@@ -13,15 +15,21 @@ use native.Mathlib.Decide.{ℕ_discrete}
 use prog.Atomic.{either}
 use lib.ListN.{get_elem?}
 use Rattle.std.specs.Prelude.{Option, Some, None}
-use Rattle.atomic_table.specs.Table.{State, Me, step, Act, keeps, gives, chain, Valid, carried_after, stepped, Allows}
+use Rattle.atomic_table.specs.Table.{State, Me, step, Act, keeps, gives, chain, Valid}
+use Rattle.atomic_table.specs.Table.{carried_after, stepped, Allows}
 use Rattle.atomic_table.proofs.Lists.{at_set, set_here, set_else, exchanged}
 use Rattle.join_records.specs.declared.slot.Item.{Item}
 use Rattle.join_records.specs.declared.views.View.{View}
 use Rattle.join_records.specs.Ends.{left_of, right_of}
-use Rattle.join_records.specs.Rule.{Facts, Holder, nobody, seat, kept, free, met, Era, unborn, running, finished, kind, hand_of, held_of, KeepsEnd, NamesBelow, CellOk, EraOk, SeatOk, Kept, Rooted}
-use Rattle.join_records.specs.Views.{in_hand, read, with_hand, with_ends, holds_end, drop_record, NoneMet, total, one_made}
+use Rattle.join_records.specs.Rule.{Facts, Holder, nobody, seat, kept, free, met, Era, unborn}
+use Rattle.join_records.specs.Rule.{running, finished, kind, hand_of, held_of, KeepsEnd, NamesBelow}
+use Rattle.join_records.specs.Rule.{CellOk, EraOk, SeatOk, Kept, Rooted}
+use Rattle.join_records.specs.Views.{in_hand, read, with_hand, with_ends, holds_end, drop_record}
+use Rattle.join_records.specs.Views.{NoneMet, total, one_made}
 use Rattle.join_records.specs.Steps.{slots_given, full_read, record_freed, finish_made}
-use Rattle.join_records.proofs.Functions.{put, put_here, put_else, at_put, at_below, saw_more, pick_here, pick_else, dead_none, hand_put, hand_drop, hand_met, hand_emptying, total_set, total_same, at_most}
+use Rattle.join_records.proofs.Functions.{put, put_here, put_else, at_put, at_below, saw_more}
+use Rattle.join_records.proofs.Functions.{pick_here, pick_else, dead_none, hand_put, hand_drop}
+use Rattle.join_records.proofs.Functions.{hand_met, hand_emptying, total_set, total_same, at_most}
 use Rattle.join_records.proofs.Frame.{Loose, told_more, root_known, loads_keep, cell_stays, moved}
 use Rattle.join_records.proofs.Opening.{end_held, not_held, no_met}
 

@@ -4,7 +4,10 @@ use Rattle.join_records.specs.declared.views.Grip.{Grip}
 use Rattle.join_records.specs.declared.views.Grip.TheVariants.{Reserved, Filling, Emptying, Emptied}
 use Rattle.join_records.specs.declared.views.Stage.{Stage}
 use Rattle.join_records.specs.Ends.{code_of}
-use Rattle.std.proofs.Common.{◌≡◌, ◌≢◌, ◌⊎◌, ℕ, zero, suc, ◌+◌, ◌<◌, ◌≤◌, eqb, List, [], ◌∷◌, ◌++◌, map, replicate, length, get_or, set, Bool, true, false, cond, ◌||◌, ◌&&◌, refl, sym, ap, ◌∙◌, subst, inl, inr, ⊎_elim, arith, eq-eqb, ne_eqb}
+use Rattle.std.proofs.Common.{◌≡◌, ◌≢◌, ◌⊎◌, ℕ, zero, suc, ◌+◌, ◌<◌, ◌≤◌, eqb, List, [], ◌∷◌, ◌++◌}
+use Rattle.std.proofs.Common.{map, replicate, length, get_or, set, Bool, true, false, cond, ◌||◌}
+use Rattle.std.proofs.Common.{◌&&◌, refl, sym, ap, ◌∙◌, subst, inl, inr, ⊎_elim, arith, eq-eqb}
+use Rattle.std.proofs.Common.{ne_eqb}
 use Rattle.std.proofs.lemmas.Bool.{eqb-true}
 use mathlib.Core.Option.{some, some-ne-none, some-injective}
 use mathlib.Core.Logic.{dite}
@@ -12,7 +15,8 @@ use native.Mathlib.Decide.{ℕ_discrete}
 use lib.ListN.{get_elem?}
 use Rattle.std.specs.Prelude.{Option, Some, None}
 use Rattle.join_records.specs.declared.views.Holding.{Holding}
-use Rattle.join_records.specs.Rule.{Holder, nobody, seat, kept, Phase, free, taken, opened, met, kind, hand_of, held_of}
+use Rattle.join_records.specs.Rule.{Holder, nobody, seat, kept, Phase, free, taken, opened, met}
+use Rattle.join_records.specs.Rule.{kind, hand_of, held_of}
 use Rattle.join_records.specs.Views.{in_hand, find, saw_finish, total, drop_record, holds_end}
 
 module _ {A : Type 0} where

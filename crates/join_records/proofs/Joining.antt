@@ -1,7 +1,9 @@
 -- Two seats that become one keep the rule.
 use Rattle.join_records.specs.declared.views.Grip.TheVariants.{Reserved, Filling, Emptying, Emptied}
 use Rattle.join_records.specs.declared.views.Stage.{Stage}
-use Rattle.std.proofs.Common.{◌≡◌, ◌≢◌, ℕ, ◌+◌, ◌*◌, ◌<◌, eqb, List, length, set, Bool, true, false, cond, refl, sym, ap, ◌∙◌, subst, ⊎_elim, arith, length-set, eq-eqb, ne_eqb}
+use Rattle.std.proofs.Common.{◌≡◌, ◌≢◌, ℕ, ◌+◌, ◌*◌, ◌<◌, eqb, List, length, set, Bool, true, false}
+use Rattle.std.proofs.Common.{cond, refl, sym, ap, ◌∙◌, subst, ⊎_elim, arith, length-set, eq-eqb}
+use Rattle.std.proofs.Common.{ne_eqb}
 use mathlib.Core.Option.{some}
 use mathlib.Core.Logic.{dite}
 use native.Mathlib.Decide.{ℕ_discrete}
@@ -12,9 +14,13 @@ use Rattle.atomic_table.proofs.Lists.{at_set}
 use Rattle.join_records.specs.declared.slot.Item.{Item}
 use Rattle.join_records.specs.declared.views.View.{View}
 use Rattle.join_records.specs.Ends.{left_of, right_of}
-use Rattle.join_records.specs.Rule.{Facts, Holder, nobody, seat, kept, Progress, unclaimed, claimed, arrived, Phase, free, taken, opened, met, Era, unborn, running, finished, kind, hand_of, held_of, KeepsEnd, NamesBelow, CellOk, EraOk, SeatOk, Kept, LeftOk, RightOk, Waits}
+use Rattle.join_records.specs.Rule.{Facts, Holder, nobody, seat, kept, Progress, unclaimed, claimed}
+use Rattle.join_records.specs.Rule.{arrived, Phase, free, taken, opened, met, Era, unborn, running}
+use Rattle.join_records.specs.Rule.{finished, kind, hand_of, held_of, KeepsEnd, NamesBelow, CellOk}
+use Rattle.join_records.specs.Rule.{EraOk, SeatOk, Kept, LeftOk, RightOk, Waits}
 use Rattle.join_records.specs.Views.{total, spent, both_of}
-use Rattle.join_records.proofs.Functions.{total_set, at_below, pick_here, pick_else, or_else, or_none, find_append, hand_append, saw_append}
+use Rattle.join_records.proofs.Functions.{total_set, at_below, pick_here, pick_else, or_else}
+use Rattle.join_records.proofs.Functions.{or_none, find_append, hand_append, saw_append}
 
 module _ {R C D E : Type 0} (F : Facts R C D E) (born : C) (id other : ℕ) (apart : other ≢ id) where
   abbrev V : Type 0

@@ -6,7 +6,9 @@ use Rattle.join_records.specs.declared.views.Grip.TheVariants.{Reserved, Filling
 use Rattle.join_records.specs.declared.views.Stage.{Stage}
 use Rattle.join_records.specs.declared.views.Stage.TheVariants.{Steady}
 use Rattle.join_records.specs.Ends.{code_of}
-use Rattle.std.proofs.Common.{◌≡◌, ◌≢◌, ◌⊎◌, ℕ, ◌+◌, ◌*◌, ◌<◌, eqb, List, [], ◌∷◌, length, get_or, set, Bool, true, false, refl, sym, ap, ◌∙◌, subst, inl, inr, arith, length-set, get_or-set_same, get_or-set_other}
+use Rattle.std.proofs.Common.{◌≡◌, ◌≢◌, ◌⊎◌, ℕ, ◌+◌, ◌*◌, ◌<◌, eqb, List, [], ◌∷◌, length, get_or}
+use Rattle.std.proofs.Common.{set, Bool, true, false, refl, sym, ap, ◌∙◌, subst, inl, inr, arith}
+use Rattle.std.proofs.Common.{length-set, get_or-set_same, get_or-set_other}
 use mathlib.Core.Option.{some, none}
 use mathlib.Core.Option as maybe
 use mathlib.Core.Logic.{dite}
@@ -14,17 +16,22 @@ use native.Mathlib.Decide.{ℕ_discrete}
 use prog.Atomic.{either}
 use lib.ListN.{get_elem?}
 use Rattle.std.specs.Prelude.{Option, Some, None}
-use Rattle.atomic_table.specs.Table.{State, Me, step, Act, takes, gives, chain, Valid, carried_after, stepped, Allows}
+use Rattle.atomic_table.specs.Table.{State, Me, step, Act, takes, gives, chain, Valid}
+use Rattle.atomic_table.specs.Table.{carried_after, stepped, Allows}
 use Rattle.atomic_table.proofs.Lists.{set_here, set_else, exchanged}
 use Rattle.join_records.specs.declared.slot.Item.{Item}
 use Rattle.join_records.specs.declared.slot.Item.TheVariants.{Rest, Child}
 use Rattle.join_records.specs.declared.views.Holding.{Holding}
 use Rattle.join_records.specs.declared.views.View.{View}
 use Rattle.join_records.specs.Ends.{left_of, right_of}
-use Rattle.join_records.specs.Rule.{Facts, Holder, seat, kept, unclaimed, Phase, taken, opened, met, kind, hand_of, held_of, KeepsEnd, CellOk, Kept}
-use Rattle.join_records.specs.Views.{in_hand, find, read, with_hand, holds_end, drop_record, NoneMet, opened_view}
+use Rattle.join_records.specs.Rule.{Facts, Holder, seat, kept, unclaimed, Phase, taken, opened, met}
+use Rattle.join_records.specs.Rule.{kind, hand_of, held_of, KeepsEnd, CellOk, Kept}
+use Rattle.join_records.specs.Views.{in_hand, find, read, with_hand, holds_end, drop_record}
+use Rattle.join_records.specs.Views.{NoneMet, opened_view}
 use Rattle.join_records.specs.Steps.{places_taken, record_opened}
-use Rattle.join_records.proofs.Functions.{put, put_here, put_else, at_below, saw_more, pick_here, pick_else, dead_none, held_some, hand_taken, hand_out, hand_put, hand_drop}
+use Rattle.join_records.proofs.Functions.{put, put_here, put_else, at_below, saw_more, pick_here}
+use Rattle.join_records.proofs.Functions.{pick_else, dead_none, held_some, hand_taken, hand_out}
+use Rattle.join_records.proofs.Functions.{hand_put, hand_drop}
 use Rattle.join_records.proofs.Frame.{Loose, dead_loose, told_more, moved}
 
 module _ {R C D E : Type 0} (F : Facts R C D E) (born : C) where

@@ -5,23 +5,33 @@ use Rattle.join_records.specs.declared.views.Grip.{Grip}
 use Rattle.join_records.specs.declared.views.Grip.TheVariants.{Reserved, Filling, Emptying, Emptied}
 use Rattle.join_records.specs.declared.views.Stage.{Stage}
 use Rattle.join_records.specs.declared.views.Stage.TheVariants.{Steady}
-use Rattle.std.proofs.Common.{◌≡◌, ◌≢◌, ◌⊎◌, ℕ, zero, suc, ◌+◌, ◌*◌, ◌<◌, ◌≤◌, eqb, List, [], ◌∷◌, ◌++◌, map, replicate, length, get_or, set, Bool, false, cond, refl, sym, ap, ◌∙◌, subst, inl, inr, ⊎_elim, arith, length-set, get_or-set_same, get_or-set_other, eq-eqb, ne_eqb}
+use Rattle.std.proofs.Common.{◌≡◌, ◌≢◌, ◌⊎◌, ℕ, zero, suc, ◌+◌, ◌*◌, ◌<◌, ◌≤◌, eqb, List, [], ◌∷◌}
+use Rattle.std.proofs.Common.{◌++◌, map, replicate, length, get_or, set, Bool, false, cond, refl}
+use Rattle.std.proofs.Common.{sym, ap, ◌∙◌, subst, inl, inr, ⊎_elim, arith, length-set}
+use Rattle.std.proofs.Common.{get_or-set_same, get_or-set_other, eq-eqb, ne_eqb}
 use Rattle.std.proofs.lemmas.List.{set-get_or}
 use mathlib.Core.Option.{some, none, some-ne-none}
 use mathlib.Core.Option as maybe
 use prog.Atomic.{either}
 use lib.ListN.{get_elem?, length-map, length-replicate}
 use Rattle.std.specs.Prelude.{Option, Some, None}
-use Rattle.atomic_table.specs.Table.{State, Me, step, Act, keeps, Valid, carried_after, stepped, Allows, Splits, opening}
+use Rattle.atomic_table.specs.Table.{State, Me, step, Act, keeps, Valid, carried_after, stepped}
+use Rattle.atomic_table.specs.Table.{Allows, Splits, opening}
 use Rattle.atomic_table.proofs.Lists.{at_set, exchanged}
 use Rattle.join_records.specs.declared.slot.Item.{Item}
 use Rattle.join_records.specs.declared.views.Holding.{Holding}
 use Rattle.join_records.specs.declared.views.View.{View}
 use Rattle.join_records.specs.Ends.{left_of, right_of}
-use Rattle.join_records.specs.Rule.{Facts, Holder, nobody, seat, kept, Phase, free, taken, opened, met, Era, unborn, running, finished, kind, hand_of, held_of, Rooted, KeepsEnd, NamesBelow, CellOk, EraOk, SeatOk, Kept}
-use Rattle.join_records.specs.Views.{in_hand, find, total, blank, read, rooted_at, with_hand, fresh, split_left}
+use Rattle.join_records.specs.Rule.{Facts, Holder, nobody, seat, kept, Phase, free, taken, opened}
+use Rattle.join_records.specs.Rule.{met, Era, unborn, running, finished, kind, hand_of, held_of}
+use Rattle.join_records.specs.Rule.{Rooted, KeepsEnd, NamesBelow, CellOk, EraOk, SeatOk, Kept}
+use Rattle.join_records.specs.Views.{in_hand, find, total, blank, read, rooted_at, with_hand, fresh}
+use Rattle.join_records.specs.Views.{split_left}
 use Rattle.join_records.specs.Steps.{seat_opened, record_taken, settled}
-use Rattle.join_records.proofs.Functions.{put, put_here, put_else, at_put, total_same, total_set, total_append, at_below, at_more, length_more, all_some, all_zero, saw_more, pick_here, pick_else, dead_none, hand_none, total_alone}
+use Rattle.join_records.proofs.Functions.{put, put_here, put_else, at_put, total_same, total_set}
+use Rattle.join_records.proofs.Functions.{total_append, at_below, at_more, length_more, all_some}
+use Rattle.join_records.proofs.Functions.{all_zero, saw_more, pick_here, pick_else, dead_none}
+use Rattle.join_records.proofs.Functions.{hand_none, total_alone}
 use Rattle.join_records.proofs.Frame.{Loose, told_more, loads_keep, cell_stays, moved, dead_loose}
 
 module _ {R C D E : Type 0} (F : Facts R C D E) (born : C) where

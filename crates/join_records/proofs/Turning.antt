@@ -6,7 +6,9 @@ use Rattle.join_records.specs.declared.views.Grip.TheVariants.{Emptying}
 use Rattle.join_records.specs.declared.views.Stage.{Stage}
 use Rattle.join_records.specs.declared.views.Stage.TheVariants.{Steady}
 use Rattle.join_records.specs.Ends.{code_of}
-use Rattle.std.proofs.Common.{◌≡◌, ◌≢◌, ◌⊎◌, ℕ, ◌+◌, ◌*◌, ◌<◌, List, [], ◌∷◌, length, get_or, set, Bool, true, false, refl, sym, ap, ◌∙◌, subst, inl, inr, ⊎_elim, arith, get_or-set_same, get_or-set_other}
+use Rattle.std.proofs.Common.{◌≡◌, ◌≢◌, ◌⊎◌, ℕ, ◌+◌, ◌*◌, ◌<◌, List, [], ◌∷◌, length, get_or, set}
+use Rattle.std.proofs.Common.{Bool, true, false, refl, sym, ap, ◌∙◌, subst, inl, inr, ⊎_elim, arith}
+use Rattle.std.proofs.Common.{get_or-set_same, get_or-set_other}
 use mathlib.Core.Option.{some, none}
 use mathlib.Core.Option as maybe
 use mathlib.Core.Logic.{dite}
@@ -17,9 +19,12 @@ use Rattle.atomic_table.specs.Table.{State}
 use Rattle.join_records.specs.declared.slot.Item.{Item}
 use Rattle.join_records.specs.declared.views.View.{View}
 use Rattle.join_records.specs.Ends.{left_of, right_of}
-use Rattle.join_records.specs.Rule.{Facts, Holder, nobody, seat, kept, Progress, unclaimed, claimed, arrived, Phase, free, taken, opened, met, kind, hand_of, held_of, KeepsEnd, CellOk, Kept, RightOk, LeftOk}
+use Rattle.join_records.specs.Rule.{Facts, Holder, nobody, seat, kept, Progress, unclaimed, claimed}
+use Rattle.join_records.specs.Rule.{arrived, Phase, free, taken, opened, met, kind, hand_of}
+use Rattle.join_records.specs.Rule.{held_of, KeepsEnd, CellOk, Kept, RightOk, LeftOk}
 use Rattle.join_records.specs.Views.{find, read, with_hand, with_ends, holds_end, drop_record}
-use Rattle.join_records.proofs.Functions.{put, put_here, put_else, at_below, pick_here, pick_else, dead_none, hand_put}
+use Rattle.join_records.proofs.Functions.{put, put_here, put_else, at_below, pick_here, pick_else}
+use Rattle.join_records.proofs.Functions.{dead_none, hand_put}
 use Rattle.join_records.proofs.Frame.{Loose, told_more, moved}
 use Rattle.join_records.proofs.Opening.{end_held, not_held}
 

@@ -1,5 +1,6 @@
 -- What the calls ask and answer.
-use Rattle.std.specs.Prelude.{◌≡◌, ◌≢◌, ◌⊎◌, ℕ, ◌+◌, ◌<◌, ◌≤◌, ◌%◌, List, [], ◌∷◌, ◌++◌, Some, Contains}
+use Rattle.std.specs.Prelude.{◌≡◌, ◌≢◌, ◌⊎◌, ℕ, ◌+◌, ◌<◌, ◌≤◌, ◌%◌, List, [], ◌∷◌, ◌++◌, Some}
+use Rattle.std.specs.Prelude.{Contains}
 use Rattle.tpal_machine.specs.declared.ends.End.{End}
 use Rattle.tpal_machine.specs.declared.ends.End.TheVariants.{Root, At}
 use Rattle.tpal_machine.specs.declared.ends.SideName.{SideName}

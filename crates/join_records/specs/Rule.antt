@@ -118,7 +118,9 @@ NamesBelow n (met i out up) = i < n
 
 -- what is so of record k, by the words, the slots that are home, and who has which end and what is
 -- owed there
-module _ {R C D E : Type 0} (F : Facts R C D E) (words : List ℕ) (homes : List (maybe.Option (Option (Item R C D)))) (holder : ℕ → Holder) (ending : ℕ → E) (k : ℕ) where
+module _ {R C D E : Type 0} (F : Facts R C D E) (words : List ℕ)
+    (homes : List (maybe.Option (Option (Item R C D)))) (holder : ℕ → Holder) (ending : ℕ → E)
+    (k : ℕ) where
   -- a slot is home and empty
   abbrev pub IsEmpty : ℕ → Type 0
   IsEmpty slot = get_elem? homes slot ≡ some (some None)

@@ -161,8 +161,9 @@ module _ {R C D E : Type 0} where
       × (m'.1 ≡ (slot_of k side, None) ∷ m.1)
 
   -- of record k and the ending e, at a table with so many slots: the first side sends its outcome's
-  -- slot home, and the second gets the rest and the other's outcome, and holds the end that the rest
-  -- keeps, which is Root or an end of one of the table's records. Root is held with Root's ending
+  -- slot home, and the second gets the rest and the other's outcome, and holds the end that the
+  -- rest keeps, which is Root or an end of one of the table's records. Root is held with Root's
+  -- ending
   abbrev pub arrived_at : (R → End → Type 0)
       → (R → E → E → E → Type 0)
       → (D → End → E → Type 0)

@@ -27,7 +27,8 @@ impl<L: Load> Records<L> {
     fn put_left(&self, pass: &mut Pass<L>, k: u32, out: L::Side)
         requires table { IsPassOf self.now pass.old }
         requires number { k < record_count self.now }
-        requires end { NoneMet (view pass.old) × ((e : L.Ending) × Holds (view pass.old) (At k Left) e) }
+        requires end { NoneMet (view pass.old)
+            × ((e : L.Ending) × Holds (view pass.old) (At k Left) e) }
         ensures slot { pass.new.seat.me.1 ≡ (4 * k + 2, Some (Side out)) ∷ [] }
         ensures seen { (x : ℕ)
             × ((e : L.Ending)
@@ -72,7 +73,8 @@ impl<L: Load> Records<L> {
     fn put_right(&self, pass: &mut Pass<L>, k: u32, out: L::Side)
         requires table { IsPassOf self.now pass.old }
         requires number { k < record_count self.now }
-        requires end { NoneMet (view pass.old) × ((e : L.Ending) × Holds (view pass.old) (At k Right) e) }
+        requires end { NoneMet (view pass.old)
+            × ((e : L.Ending) × Holds (view pass.old) (At k Right) e) }
         ensures slot { pass.new.seat.me.1 ≡ (4 * k + 3, Some (Side out)) ∷ [] }
         ensures seen { (x : ℕ)
             × ((e : L.Ending)
@@ -122,7 +124,8 @@ impl<L: Load> Records<L> {
         requires hand { (up : End)
             × (h : List (ℕ × Grip))
             × ((view pass.old).hand ≡ (k, Emptying up) ∷ drop_record k h) }
-        requires places { ((a ≡ 4 * k + 2) × (b ≡ 4 * k + 3)) ⊎ ((a ≡ 4 * k + 3) × (b ≡ 4 * k + 2)) }
+        requires places { ((a ≡ 4 * k + 2) × (b ≡ 4 * k + 3)) ⊎ ((a ≡ 4 * k + 3)
+            × (b ≡ 4 * k + 2)) }
         requires slots { (r : L.Rest)
             × (o : L.Side)
             × (d : L.Side)
@@ -160,7 +163,8 @@ impl<L: Load> Records<L> {
             × L.is_ending out (At rec Left) e) }
         ensures arrived { (e : L.Ending)
             → Holds (view pass.old) (At rec Left) e
-            → Arrives (record_count self.now) L.keeps L.rest_owes L.is_ending Left out (view pass.old) rec e result
+            → Arrives (record_count self.now) L.keeps L.rest_owes L.is_ending Left out
+            (view pass.old) rec e result
             (view pass.new) }
         ensures pass { IsSamePass pass.old pass.new }
     {
@@ -188,7 +192,8 @@ impl<L: Load> Records<L> {
             × L.is_ending out (At rec Right) e) }
         ensures arrived { (e : L.Ending)
             → Holds (view pass.old) (At rec Right) e
-            → Arrives (record_count self.now) L.keeps L.rest_owes L.is_ending Right out (view pass.old) rec e result
+            → Arrives (record_count self.now) L.keeps L.rest_owes L.is_ending Right out
+            (view pass.old) rec e result
             (view pass.new) }
         ensures pass { IsSamePass pass.old pass.new }
     {
@@ -222,7 +227,8 @@ impl<L: Load> Records<L> {
         requires none_met { NoneMet (view pass.old) }
         ensures arrived { (e : L.Ending)
             → Holds (view pass.old) (At rec side) e
-            → Arrives (record_count self.now) L.keeps L.rest_owes L.is_ending side out (view pass.old) rec e result
+            → Arrives (record_count self.now) L.keeps L.rest_owes L.is_ending side out
+            (view pass.old) rec e result
             (view pass.new) }
         ensures pass { IsSamePass pass.old pass.new }
     {

@@ -52,7 +52,8 @@ impl<L: Load> Records<L> {
         requires table { IsPassOf self.now pass.old }
         requires number { rec < record_count self.now }
         requires endless { HoldsNothing (view pass.old) }
-        ensures claimed { IfSome result (λ child. ClaimsSoon L.owes (view pass.old) rec child (view pass.new)) }
+        ensures claimed { IfSome result (λ child.
+            ClaimsSoon L.owes (view pass.old) rec child (view pass.new)) }
         ensures end { IfSome result (λ child. L.has_end child (At rec Right)) }
         ensures none { IfNone result (Unclaimable (view pass.old) rec (view pass.new)) }
         ensures pass { IsSamePass pass.old pass.new }

@@ -109,7 +109,8 @@ impl<L: Load> Records<L> {
             (λ taken. FoundFree (view pass.old) (taken_number taken) (view pass.new)) }
         ensures number { IfSome result (λ taken. taken_number taken < record_count self.now) }
         ensures apart { IfSome result (λ taken. HoldsNoSide (view pass.old) (taken_number taken)) }
-        ensures none { IfNone result (NoneFree 0 (record_count self.now) (view pass.old) (view pass.new)) }
+        ensures none { IfNone result (NoneFree 0 (record_count self.now) (view pass.old)
+            (view pass.new)) }
         ensures pass { IsSamePass pass.old pass.new }
     {
         let start = start_of(pass.next, self.count);

@@ -61,7 +61,8 @@ impl<L: Load> Records<L> {
         requires none_met { NoneMet (view pass.old) }
         ensures finished { view pass.new ≡ one_made (with_ends (view pass.old) []) }
         ensures once { (view pass.old).made ≡ 0 }
-        ensures root { (e : L.Ending) → Holds (view pass.old) Root e → (view pass.old).root ≡ Some e }
+        ensures root { (e : L.Ending) → Holds (view pass.old) Root e →
+            (view pass.old).root ≡ Some e }
         ensures pass { IsSamePass pass.old pass.new }
     {
         let seat = &mut pass.seat;

@@ -38,9 +38,11 @@ pub trait Load {
     ghost child_owes_one: { (c : Self.Child) (a b : Self.Ending) → owes c a → owes c b → a ≡ b };
 
     /// A side is at most one ending for an end.
-    ghost side_is_one: { (s : Self.Side) (e : End) (a b : Self.Ending) → is_ending s e a → is_ending s e b
+    ghost side_is_one: { (s : Self.Side) (e : End) (a b : Self.Ending) → is_ending s e a →
+        is_ending s e b
         → a ≡ b };
 
     /// A rest owes at most one ending for two endings.
-    ghost rest_owes_one: { (r : Self.Rest) (p q a b : Self.Ending) → rest_owes r p q a → rest_owes r p q b → a ≡ b };
+    ghost rest_owes_one: { (r : Self.Rest) (p q a b : Self.Ending) → rest_owes r p q a →
+        rest_owes r p q b → a ≡ b };
 }

@@ -99,7 +99,8 @@ fn open_under(
     requires table { IsPassOf table.now pass.old }
     requires end { Holds (view pass.old) up 0 }
     requires none_met { NoneMet (view pass.old) }
-    ensures end { MatchOption result (Holds (view pass.new) up 0) (λ k. Holds (view pass.new) (At k Left) 0) }
+    ensures end { MatchOption result (Holds (view pass.new) up 0)
+        (λ k. Holds (view pass.new) (At k Left) 0) }
     ensures pass { IsPassOf table.now pass.new
         × NoneMet (view pass.new)
         × ((view pass.new).parts ≡ (view pass.old).parts) }
@@ -124,7 +125,8 @@ fn arrive_at(
     requires table { IsPassOf table.now pass.old × (rec < record_count table.now) }
     requires end { Holds (view pass.old) (At rec side) 0 }
     requires none_met { NoneMet (view pass.old) }
-    ensures end { MatchOption result (HoldsNothing (view pass.new)) (λ r. Holds (view pass.new) r.0 0) }
+    ensures end { MatchOption result (HoldsNothing (view pass.new))
+        (λ r. Holds (view pass.new) r.0 0) }
     ensures pass { IsPassOf table.now pass.new
         × NoneMet (view pass.new)
         × ((view pass.new).parts ≡ (view pass.old).parts) }
@@ -437,11 +439,14 @@ fn seated(pass: Pass<Counts>, end: Option<End>, dice: u64) -> Worker
 /// A table of 64 records, and four workers with its passes. The first holds Root.
 fn crewed(alloc: Global) -> Result<(Records<Counts>, Crew), NoMemory>
     ensures table { IfOk result (λ r. record_count r.0 ≡ 64) }
-    ensures one { IfOk result (λ r. Sits r.0 r.1.one.end r.1.one.pass × ((view r.1.one.pass).parts ≡ 13)) }
-    ensures two { IfOk result (λ r. Sits r.0 r.1.two.end r.1.two.pass × ((view r.1.two.pass).parts ≡ 1)) }
+    ensures one { IfOk result (λ r.
+        Sits r.0 r.1.one.end r.1.one.pass × ((view r.1.one.pass).parts ≡ 13)) }
+    ensures two { IfOk result (λ r.
+        Sits r.0 r.1.two.end r.1.two.pass × ((view r.1.two.pass).parts ≡ 1)) }
     ensures three { IfOk result
         (λ r. Sits r.0 r.1.three.end r.1.three.pass × ((view r.1.three.pass).parts ≡ 1)) }
-    ensures four { IfOk result (λ r. Sits r.0 r.1.four.end r.1.four.pass × ((view r.1.four.pass).parts ≡ 1)) }
+    ensures four { IfOk result (λ r.
+        Sits r.0 r.1.four.end r.1.four.pass × ((view r.1.four.pass).parts ≡ 1)) }
 {
     let (table, mut passes) = Records::new(alloc, RECORDS, 4, &0)?;
     let Some(fourth) = passes.pop() else {

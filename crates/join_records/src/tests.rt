@@ -164,7 +164,8 @@ fn right_half(table: &Records<Numbers>, pass: &mut Pass<Numbers>) -> Option<Opti
     requires none_met { NoneMet (view pass.old) }
     ensures none { IfNone result (HoldsNothing (view pass.new)) }
     ensures first { IfSome result (λ r. IfNone r (HoldsNothing (view pass.new))) }
-    ensures second { IfSome result (λ r. IfSome r (λ t. Holds (view pass.new) Root (t.0 + t.1 + t.2))) }
+    ensures second { IfSome result (λ r.
+        IfSome r (λ t. Holds (view pass.new) Root (t.0 + t.1 + t.2))) }
     ensures pass { IsPassOf table.now pass.new
         × NoneMet (view pass.new)
         × ((view pass.new).parts ≡ (view pass.old).parts)
@@ -263,7 +264,8 @@ fn right_there(
     requires table { IsPassOf table.now pass × (record_count table.now ≡ 1) }
     requires end { HoldsNothing (view pass) }
     requires none_met { NoneMet (view pass) }
-    ensures second { IfSome result.1 (λ r. IfSome r (λ t. Holds (view result.0) Root (t.0 + t.1 + t.2))) }
+    ensures second { IfSome result.1 (λ r.
+        IfSome r (λ t. Holds (view result.0) Root (t.0 + t.1 + t.2))) }
     ensures pass { IsPassOf table.now result.0
         × NoneMet (view result.0)
         × ((view result.0).parts ≡ (view pass).parts)
@@ -284,10 +286,13 @@ fn both_halves<R: Threads + Sync>(
     (Pass<Numbers>, Option<Option<(u64, u64, u64)>>),
 )
     requires one { record_count table.now ≡ 1 }
-    requires first { IsPassOf table.now first × Holds (view first) (At 0 Left) 2 × NoneMet (view first) }
-    requires second { IsPassOf table.now second × HoldsNothing (view second) × NoneMet (view second) }
+    requires first { IsPassOf table.now first × Holds (view first) (At 0 Left) 2
+        × NoneMet (view first) }
+    requires second { IsPassOf table.now second × HoldsNothing (view second)
+        × NoneMet (view second) }
     ensures left { IfSome result.0.1 (λ r. Holds (view result.0.0) Root (r.0 + r.1 + r.2)) }
-    ensures right { IfSome result.1.1 (λ r. IfSome r (λ t. Holds (view result.1.0) Root (t.0 + t.1 + t.2))) }
+    ensures right { IfSome result.1.1 (λ r.
+        IfSome r (λ t. Holds (view result.1.0) Root (t.0 + t.1 + t.2))) }
     ensures first { IsPassOf table.now result.0.0
         × NoneMet (view result.0.0)
         × ((view result.0.0).parts ≡ (view first).parts)

@@ -7,9 +7,12 @@ use Rattle.loop_syntax.specs.declared.Expr.{Expr}
 use Rattle.loop_syntax.specs.declared.Expr.TheVariants.{Int, Var, Cell', Rows, Cols, Neg', Bin'}
 use Rattle.loop_syntax.specs.declared.App.{App}
 use Rattle.loop_syntax.specs.declared.Stmt.{Stmt, Row_of-Stmt, end_of-Stmt, more_of-Stmt}
-use Rattle.loop_syntax.specs.declared.Stmt.TheVariants.{Let, Set, Put, If', While', Loop', Par', Fold, Call, Both, Print, Emit}
+use Rattle.loop_syntax.specs.declared.Stmt.TheVariants.{Let, Set, Put, If', While', Loop', Par'}
+use Rattle.loop_syntax.specs.declared.Stmt.TheVariants.{Fold, Call, Both, Print, Emit}
 use Rattle.loop_rules.specs.declared.fault.Fault.{Fault}
-use Rattle.loop_rules.specs.Sites.{Site, Spot, site, Calls, in_expr, in_whole, in_args, in_app, in_carries, in_stmt, in_all, in_list, in_loop, in_par, spot_after}
+use Rattle.loop_rules.specs.Sites.{Site, Spot, site, Calls, in_expr, in_whole, in_args, in_app}
+use Rattle.loop_rules.specs.Sites.{in_carries, in_stmt, in_all, in_list, in_loop, in_par}
+use Rattle.loop_rules.specs.Sites.{spot_after}
 use Rattle.loop_check.specs.declared.reader.Reader.{Reader}
 use Rattle.loop_check.specs.Walk.{spot}
 use Rattle.loop_rules.specs.Search.{lowest_at, lowest_in}

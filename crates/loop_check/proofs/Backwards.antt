@@ -1,5 +1,7 @@
 -- Going over the clauses of a `par`, with what stood before.
-use Rattle.std.proofs.Common.{◌≡◌, ◌<◌, ◌+◌, ◌++◌, ◌∷◌, [], ℕ, suc, List, map, take, drop, drop-cons, add-one, length, get_or, Option, refl, sym, ap, ◌∙◌, Bool, true, false, ◌||◌, bytes_eq}
+use Rattle.std.proofs.Common.{◌≡◌, ◌<◌, ◌+◌, ◌++◌, ◌∷◌, [], ℕ, suc, List, map, take, drop}
+use Rattle.std.proofs.Common.{drop-cons, add-one, length, get_or, Option, refl, sym, ap, ◌∙◌, Bool}
+use Rattle.std.proofs.Common.{true, false, ◌||◌, bytes_eq}
 use Rattle.std.proofs.Math.Seq.{take-suc}
 use Rattle.loop_syntax.specs.declared.Carry.{Carry}
 use Rattle.loop_syntax.specs.declared.Reduce.{Reduce}

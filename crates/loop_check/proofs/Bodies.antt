@@ -4,14 +4,19 @@ use Rattle.tp_value.specs.declared.Place.{Place}
 use Rattle.loop_syntax.specs.declared.Name.{Name}
 use Rattle.loop_syntax.specs.declared.Carry.{Carry}
 use Rattle.loop_syntax.specs.declared.Reduce.{Reduce}
-use Rattle.loop_syntax.specs.declared.Stmt.{Stmt, Row_of-Stmt, end_of-Stmt, more_of-Stmt, items-the_row-Stmt}
-use Rattle.loop_syntax.specs.declared.Stmt.TheVariants.{Let, Set, Put, If', While', Loop', Par', Fold, Call, Both, Print, Emit}
+use Rattle.loop_syntax.specs.declared.Stmt.{Stmt, Row_of-Stmt, end_of-Stmt, more_of-Stmt}
+use Rattle.loop_syntax.specs.declared.Stmt.{items-the_row-Stmt}
+use Rattle.loop_syntax.specs.declared.Stmt.TheVariants.{Let, Set, Put, If', While', Loop', Par'}
+use Rattle.loop_syntax.specs.declared.Stmt.TheVariants.{Fold, Call, Both, Print, Emit}
 use Rattle.loop_syntax.specs.declared.Func.{Func}
 use Rattle.loop_syntax.specs.declared.Program.{Program}
 use Rattle.loop_rules.specs.declared.part.Part.{Part}
 use Rattle.loop_rules.specs.declared.part.Part.TheVariants.{OfSize, OfFunc, OfMain}
-use Rattle.loop_rules.specs.Sites.{Declares, Parallel, Spot, Site, in_whole, in_carries, in_stmt, in_all, in_list, spot_after, declared_var, in_loop, in_par, the_loop, func_spot, spot_of_list, in_func, in_funcs, main_spot}
-use Rattle.loop_meaning.specs.Cells.{Body, visible_after, bodies, bodies_all, bodies_of_list, bodies_of_funcs, bodies_of}
+use Rattle.loop_rules.specs.Sites.{Declares, Parallel, Spot, Site, in_whole, in_carries, in_stmt}
+use Rattle.loop_rules.specs.Sites.{in_all, in_list, spot_after, declared_var, in_loop, in_par}
+use Rattle.loop_rules.specs.Sites.{the_loop, func_spot, spot_of_list, in_func, in_funcs, main_spot}
+use Rattle.loop_meaning.specs.Cells.{Body, visible_after, bodies, bodies_all, bodies_of_list}
+use Rattle.loop_meaning.specs.Cells.{bodies_of_funcs, bodies_of}
 use Rattle.loop_check.specs.Unbroken.{NoneBroken}
 use Rattle.loop_check.proofs.Lists.{Each, each_left, each_right, each_both}
 use Rattle.loop_rules.proofs.Walking.{rows_list}

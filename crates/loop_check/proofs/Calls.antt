@@ -1,5 +1,6 @@
 -- A call touches no more than what its function reads, itself or through calls, and prints nothing.
-use Rattle.std.proofs.Common.{◌≡◌, ℕ, zero, suc, ℤ, pos, List, [], ◌++◌, Option, Some, None, refl, Contains}
+use Rattle.std.proofs.Common.{◌≡◌, ℕ, zero, suc, ℤ, pos, List, [], ◌++◌, Option, Some, None, refl}
+use Rattle.std.proofs.Common.{Contains}
 use Rattle.tp_value.specs.declared.TrapKind.TheVariants.{Deep}
 use Rattle.tp_value.specs.declared.Stop.{Stop}
 use Rattle.tp_value.specs.declared.Stop.TheVariants.{Done, Trap, NoFuel}
@@ -9,12 +10,16 @@ use Rattle.loop_meaning.specs.declared.value.Variable.{Variable}
 use Rattle.loop_rules.specs.Names.{func_of}
 use Rattle.loop_rules.specs.Reading.{ReadsTable, itself, through}
 use Rattle.loop_rules.specs.declared.part.Part.TheVariants.{OfFunc}
-use Rattle.loop_rules.specs.Sites.{Act, DeclaresTable, DeclaresFunc, DeclaresAll, Declares, Uses, Assigns, Folds, AssignsBoth, NamesTable, ReadsCell, WritesCell, Calls, Evaluates, Shows, Parallel, Spot, Site, in_whole, in_list, in_params, spot_of_list, func_spot, in_func, top, tables_of}
+use Rattle.loop_rules.specs.Sites.{Act, DeclaresTable, DeclaresFunc, DeclaresAll, Declares, Uses}
+use Rattle.loop_rules.specs.Sites.{Assigns, Folds, AssignsBoth, NamesTable, ReadsCell, WritesCell}
+use Rattle.loop_rules.specs.Sites.{Calls, Evaluates, Shows, Parallel, Spot, Site, in_whole, in_list}
+use Rattle.loop_rules.specs.Sites.{in_params, spot_of_list, func_spot, in_func, top, tables_of}
 use Rattle.loop_meaning.specs.Calls.{bound, enter, no_value, call_on, call_at}
 use Rattle.loop_meaning.specs.State.{State, Note, Ran, done, trapped, noted, after, tick}
 use Rattle.loop_meaning.specs.Statements.{Called, Setting, given, run_list}
 use Rattle.loop_check.proofs.Lists.{Each, each_left, each_right, each_of, each_at}
-use Rattle.loop_check.proofs.Keeps.{Mode, Notes, Fixed, Good, ActOk, SitesOk, CallsOk, noted_ok, done_ok, after_ok, given_ok, tick_ok, list_ok}
+use Rattle.loop_check.proofs.Keeps.{Mode, Notes, Fixed, Good, ActOk, SitesOk, CallsOk, noted_ok}
+use Rattle.loop_check.proofs.Keeps.{done_ok, after_ok, given_ok, tick_ok, list_ok}
 
 abbrev pub Quiet : Act → Type 0
 Quiet (WritesCell t a b) = ⊥

@@ -1,5 +1,6 @@
 -- What `par` loops carry is declared, so that the readers tell where a call breaks its rule.
-use Rattle.std.proofs.Common.{◌≡◌, ℕ, List, [], ◌∷◌, ◌++◌, Some, refl, sym, subst, ap, inl, inr, Bool, true, false, cond, not, ◌&&◌, ◌||◌, bytes_eq, Contains}
+use Rattle.std.proofs.Common.{◌≡◌, ℕ, List, [], ◌∷◌, ◌++◌, Some, refl, sym, subst, ap, inl, inr}
+use Rattle.std.proofs.Common.{Bool, true, false, cond, not, ◌&&◌, ◌||◌, bytes_eq, Contains}
 use Rattle.tp_value.specs.declared.Place.{Place}
 use Rattle.loop_syntax.specs.declared.Name.{Name}
 use Rattle.loop_syntax.specs.declared.RowAt.TheVariants as row
@@ -21,11 +22,17 @@ use Rattle.loop_rules.specs.Scopes.{at, misnamed}
 use Rattle.loop_rules.specs.Carries.{carries, is_some_item}
 use Rattle.loop_rules.specs.Reductions.{any_loop}
 use Rattle.loop_rules.specs.Reading.{CallsReader}
-use Rattle.loop_rules.specs.Sites.{Loop, Act, DeclaresTable, DeclaresFunc, DeclaresAll, Declares, Uses, Assigns, Folds, AssignsBoth, NamesTable, ReadsCell, WritesCell, Calls, Evaluates, Shows, Parallel, Spot, Site, in_carries, in_expr, in_whole, in_params, in_decls, in_list, in_func, in_funcs, in_main, in_par, the_loop, declared_var, spot_of_list, func_spot, main_spot, top, sites, tables_of}
+use Rattle.loop_rules.specs.Sites.{Loop, Act, DeclaresTable, DeclaresFunc, DeclaresAll, Declares}
+use Rattle.loop_rules.specs.Sites.{Uses, Assigns, Folds, AssignsBoth, NamesTable, ReadsCell}
+use Rattle.loop_rules.specs.Sites.{WritesCell, Calls, Evaluates, Shows, Parallel, Spot, Site}
+use Rattle.loop_rules.specs.Sites.{in_carries, in_expr, in_whole, in_params, in_decls, in_list}
+use Rattle.loop_rules.specs.Sites.{in_func, in_funcs, in_main, in_par, the_loop, declared_var}
+use Rattle.loop_rules.specs.Sites.{spot_of_list, func_spot, main_spot, top, sites, tables_of}
 use Rattle.loop_check.specs.declared.reader.Reader.{Reader}
 use Rattle.loop_check.specs.Search.{reads_carried, calls_reader}
 use Rattle.loop_check.specs.Readers.{Pair, pair, pairs_of, IsReaders}
-use Rattle.loop_check.proofs.Lists.{Each, each_left, each_right, each_both, each_of, each_at, contains_here, contains_there, contains_cons, contains_none}
+use Rattle.loop_check.proofs.Lists.{Each, each_left, each_right, each_both, each_of, each_at}
+use Rattle.loop_check.proofs.Lists.{contains_here, contains_there, contains_cons, contains_none}
 use Rattle.loop_check.proofs.Bools.{no_both, not_false, and_left, and_right}
 use Rattle.loop_check.proofs.Found.{eq_is, eq_self}
 use Rattle.loop_check.proofs.Fine.{at_none, none_of}

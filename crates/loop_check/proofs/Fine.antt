@@ -1,13 +1,21 @@
 -- What it means at each site that no rule is broken, and that functions write and print nothing.
-use Rattle.std.proofs.Common.{◌≡◌, ℕ, List, [], ◌∷◌, ◌++◌, Some, Bool, true, false, cond, bytes_eq, refl, subst, Contains}
+use Rattle.std.proofs.Common.{◌≡◌, ℕ, List, [], ◌∷◌, ◌++◌, Some, Bool, true, false, cond, bytes_eq}
+use Rattle.std.proofs.Common.{refl, subst, Contains}
 use Rattle.tp_value.specs.declared.Place.{Place}
 use Rattle.loop_syntax.specs.declared.Name.{Name}
 use Rattle.loop_syntax.specs.declared.Func.{Func}
 use Rattle.loop_syntax.specs.declared.Program.{Program}
 use Rattle.loop_rules.specs.declared.part.Part.TheVariants.{OfFunc}
 use Rattle.loop_rules.specs.Names.{func_of}
-use Rattle.loop_rules.specs.Sites.{Act, DeclaresTable, DeclaresFunc, DeclaresAll, Declares, Uses, Assigns, Folds, AssignsBoth, NamesTable, ReadsCell, WritesCell, Calls, Evaluates, Shows, Parallel, Spot, Site, in_whole, in_list, in_params, in_decls, declared_var, spot_of_list, top, tables_of, func_spot, in_func, in_funcs, in_main, sites}
-use Rattle.loop_rules.specs.declared.rule.Rule.TheVariants.{Names, OuterVariables, Reductions, TableWrites, TableReads, CarryLists, Functions, ReadingCalls, Output, LoopVariables}
+use Rattle.loop_rules.specs.Sites.{Act, DeclaresTable, DeclaresFunc, DeclaresAll, Declares, Uses}
+use Rattle.loop_rules.specs.Sites.{Assigns, Folds, AssignsBoth, NamesTable, ReadsCell, WritesCell}
+use Rattle.loop_rules.specs.Sites.{Calls, Evaluates, Shows, Parallel, Spot, Site, in_whole, in_list}
+use Rattle.loop_rules.specs.Sites.{in_params, in_decls, declared_var, spot_of_list, top, tables_of}
+use Rattle.loop_rules.specs.Sites.{func_spot, in_func, in_funcs, in_main, sites}
+use Rattle.loop_rules.specs.declared.rule.Rule.TheVariants.{Names, OuterVariables, Reductions}
+use Rattle.loop_rules.specs.declared.rule.Rule.TheVariants.{TableWrites, TableReads, CarryLists}
+use Rattle.loop_rules.specs.declared.rule.Rule.TheVariants.{Functions, ReadingCalls, Output}
+use Rattle.loop_rules.specs.declared.rule.Rule.TheVariants.{LoopVariables}
 use Rattle.loop_rules.specs.Scopes.{at, misnamed, loop_variable_set}
 use Rattle.loop_rules.specs.Reductions.{any_loop, outer_set, misreduced}
 use Rattle.loop_rules.specs.Carries.{carries, miswritten, misread, miscarried}

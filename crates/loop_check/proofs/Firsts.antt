@@ -5,7 +5,10 @@ use Rattle.tp_value.specs.declared.values.Place.{Place}
 use Rattle.loop_syntax.specs.declared.program.Program.{Program}
 use Rattle.loop_syntax.specs.Tree.{Spelled, spelled, program_of}
 use Rattle.loop_rules.specs.declared.rule.Rule.{Rule}
-use Rattle.loop_rules.specs.declared.rule.Rule.TheVariants.{Names, OuterVariables, Reductions, TableWrites, TableReads, CarryLists, Functions, ReadingCalls, Output, LoopVariables, Limits}
+use Rattle.loop_rules.specs.declared.rule.Rule.TheVariants.{Names, OuterVariables, Reductions}
+use Rattle.loop_rules.specs.declared.rule.Rule.TheVariants.{TableWrites, TableReads, CarryLists}
+use Rattle.loop_rules.specs.declared.rule.Rule.TheVariants.{Functions, ReadingCalls, Output}
+use Rattle.loop_rules.specs.declared.rule.Rule.TheVariants.{LoopVariables, Limits}
 use Rattle.loop_rules.specs.Broken.{BreaksAt, Broken}
 use Rattle.loop_rules.specs.Carries.{carries}
 use Rattle.loop_rules.specs.Reading.{CallsReader, ReadsTable}
@@ -16,7 +19,8 @@ use Rattle.loop_check.specs.Checking.{IsOfCheck, IsFirstBroken}
 use Rattle.loop_check.specs.Unbroken.{NoneBroken}
 use Rattle.loop_check.proofs.TreeSites.{Called, SiteTree, tree_sites}
 use Rattle.loop_check.proofs.TreeWalk.{act_tree, site_tree, program_same}
-use Rattle.loop_check.proofs.TreeBroken.{any_round, any_same, carries_in, carries_same, two, three, four, five, six, same_places}
+use Rattle.loop_check.proofs.TreeBroken.{any_round, any_same, carries_in, carries_same, two, three}
+use Rattle.loop_check.proofs.TreeBroken.{four, five, six, same_places}
 use Rattle.loop_check.proofs.TreeReads.{has_tree, Stands, of_tree, Callee, callee_of, reads_too}
 use Rattle.loop_check.proofs.Verdict.{all_unbroken}
 

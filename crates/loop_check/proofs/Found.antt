@@ -1,5 +1,6 @@
 -- Names, and variables that stay where they are.
-use Rattle.std.proofs.Common.{◌≡◌, ℕ, zero, suc, ◌<◌, ℤ, List, [], ◌∷◌, ◌++◌, refl, sym, subst, ap, arith, Bool, true, false, cond, ◌||◌, take, length, map, bytes_eq}
+use Rattle.std.proofs.Common.{◌≡◌, ℕ, zero, suc, ◌<◌, ℤ, List, [], ◌∷◌, ◌++◌, refl, sym, subst, ap}
+use Rattle.std.proofs.Common.{arith, Bool, true, false, cond, ◌||◌, take, length, map, bytes_eq}
 use Rattle.std.specs.Cmp.Lexicographic.{bytes_decides}
 use Rattle.loop_rules.specs.Names.{is_in}
 use Rattle.loop_meaning.specs.declared.value.Variable.{Variable}

@@ -1,5 +1,6 @@
 -- Each site inside a `par` keeps within that par's part of each table.
-use Rattle.std.proofs.Common.{◌≡◌, ℕ, ℤ, List, [], ◌∷◌, ◌++◌, Option, Some, None, refl, sym, subst, ◌∙◌, Bool, true, false, bytes_eq, ◌⊎◌, inl, inr, int_eq}
+use Rattle.std.proofs.Common.{◌≡◌, ℕ, ℤ, List, [], ◌∷◌, ◌++◌, Option, Some, None, refl, sym, subst}
+use Rattle.std.proofs.Common.{◌∙◌, Bool, true, false, bytes_eq, ◌⊎◌, inl, inr, int_eq}
 use Rattle.std.proofs.lemmas.Bool.Decides.{Decides-int_eq}
 use Rattle.tp_value.specs.declared.Table.{Table}
 use Rattle.loop_syntax.specs.declared.Name.{Name}
@@ -14,7 +15,9 @@ use Rattle.loop_rules.specs.Names.{is_in, item_of}
 use Rattle.loop_rules.specs.Carries.{carries, is_var, is_int, fits, bad_read, bad_write, last_index}
 use Rattle.loop_rules.specs.Reading.{ReadsTable}
 use Rattle.loop_rules.specs.Reductions.{any_loop, reduced}
-use Rattle.loop_rules.specs.Sites.{Loop, Act, DeclaresTable, DeclaresFunc, DeclaresAll, Declares, Uses, Assigns, Folds, AssignsBoth, NamesTable, ReadsCell, WritesCell, Calls, Evaluates, Shows, Parallel, Spot, in_list}
+use Rattle.loop_rules.specs.Sites.{Loop, Act, DeclaresTable, DeclaresFunc, DeclaresAll, Declares}
+use Rattle.loop_rules.specs.Sites.{Uses, Assigns, Folds, AssignsBoth, NamesTable, ReadsCell}
+use Rattle.loop_rules.specs.Sites.{WritesCell, Calls, Evaluates, Shows, Parallel, Spot, in_list}
 use Rattle.loop_meaning.specs.declared.value.Answer.TheVariants.{Number}
 use Rattle.loop_meaning.specs.declared.value.Variable.{Variable}
 use Rattle.loop_meaning.specs.State.{State, lookup, declare}
@@ -23,7 +26,8 @@ use Rattle.loop_check.proofs.Bools.{no_both, not_false, and_left, and_right}
 use Rattle.loop_check.proofs.Found.{found_lookup, place_in, eq_is, is_in_more}
 use Rattle.loop_check.proofs.Keeps.{Mode, Fixed, ActOk, SitesOk}
 use Rattle.loop_check.proofs.Fine.{Fine, AllFine, at_none}
-use Rattle.loop_check.proofs.Shapes.{HeadOk, Inside, any_inside, carried, read_shape, write_shape, write_carried, fold_apart, item_fine, item_index}
+use Rattle.loop_check.proofs.Shapes.{HeadOk, Inside, any_inside, carried, read_shape, write_shape}
+use Rattle.loop_check.proofs.Shapes.{write_carried, fold_apart, item_fine, item_index}
 use Rattle.loop_check.proofs.Walk.{list_walk}
 
 -- the variable that names the row of an item

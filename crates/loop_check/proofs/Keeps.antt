@@ -1,5 +1,7 @@
 -- What a run touches, which variables it leaves, and that it prints nothing, whatever the state.
-use Rattle.std.proofs.Common.{◌≡◌, ℕ, zero, suc, ◌+◌, ℤ, pos, negsuc, ◌+ℤ◌, List, [], ◌∷◌, ◌++◌, Option, Some, None, refl, Bool, true, false, take, length, bytes_eq, int_div, int_rem}
+use Rattle.std.proofs.Common.{◌≡◌, ℕ, zero, suc, ◌+◌, ℤ, pos, negsuc, ◌+ℤ◌, List, [], ◌∷◌, ◌++◌}
+use Rattle.std.proofs.Common.{Option, Some, None, refl, Bool, true, false, take, length, bytes_eq}
+use Rattle.std.proofs.Common.{int_div, int_rem}
 use Rattle.std.specs.Int.{int_gap}
 use Rattle.tp_value.specs.declared.Place.{Place}
 use Rattle.tp_value.specs.declared.Stop.{Stop}
@@ -10,7 +12,8 @@ use Rattle.loop_syntax.specs.declared.BinOp.TheVariants as op
 use Rattle.loop_syntax.specs.declared.Expr.{Expr}
 use Rattle.loop_syntax.specs.declared.Expr.TheVariants.{Int, Var, Cell', Rows, Cols, Neg', Bin'}
 use Rattle.loop_syntax.specs.declared.Stmt.{Stmt, Row_of-Stmt, end_of-Stmt, more_of-Stmt}
-use Rattle.loop_syntax.specs.declared.Stmt.TheVariants.{Let, Set, Put, If', While', Loop', Par', Fold, Call, Both, Print, Emit}
+use Rattle.loop_syntax.specs.declared.Stmt.TheVariants.{Let, Set, Put, If', While', Loop', Par'}
+use Rattle.loop_syntax.specs.declared.Stmt.TheVariants.{Fold, Call, Both, Print, Emit}
 use Rattle.loop_syntax.specs.declared.Program.{Program}
 use Rattle.tp_value.specs.declared.Op.{Op}
 use Rattle.tp_value.specs.declared.Table.{Table}
@@ -19,11 +22,20 @@ use Rattle.loop_meaning.specs.declared.value.Answer.TheVariants.{Number, Traps}
 use Rattle.loop_meaning.specs.declared.value.Variable.{Variable}
 use Rattle.loop_rules.specs.Names.{operator_of}
 use Rattle.loop_rules.specs.Reading.{ReadsTable}
-use Rattle.loop_rules.specs.Sites.{Act, Assigns, AssignsBoth, Folds, ReadsCell, WritesCell, Calls, Shows, Spot, Site, site, in_expr, in_whole, in_args, in_app, in_carries, in_stmt, in_all, in_list, spot_after, in_loop, in_par}
+use Rattle.loop_rules.specs.Sites.{Act, Assigns, AssignsBoth, Folds, ReadsCell, WritesCell, Calls}
+use Rattle.loop_rules.specs.Sites.{Shows, Spot, Site, site, in_expr, in_whole, in_args, in_app}
+use Rattle.loop_rules.specs.Sites.{in_carries, in_stmt, in_all, in_list, spot_after, in_loop}
+use Rattle.loop_rules.specs.Sites.{in_par}
 use Rattle.beat_count.specs.Ticks.{is_tick_allowed}
-use Rattle.loop_meaning.specs.Expressions.{Value, bind, bind_answer, divided, calculated, read_cell, eval}
-use Rattle.loop_meaning.specs.State.{assign, declare, table_of, has_cell, State, Note, Reads, Writes, Emits, Chance, Ran, done, noted, go_on, after, tick, leave_block}
-use Rattle.loop_meaning.specs.Statements.{given, given_answer, given_all, choose, block, turns, iteration, iterate, folded, put_cell, set_var, Called, with_call, Setting, unless_wide, too_wide, run, run_all, run_list}
+use Rattle.loop_meaning.specs.Expressions.{Value, bind, bind_answer, divided, calculated, read_cell}
+use Rattle.loop_meaning.specs.Expressions.{eval}
+use Rattle.loop_meaning.specs.State.{assign, declare, table_of, has_cell, State, Note, Reads}
+use Rattle.loop_meaning.specs.State.{Writes, Emits, Chance, Ran, done, noted, go_on, after, tick}
+use Rattle.loop_meaning.specs.State.{leave_block}
+use Rattle.loop_meaning.specs.Statements.{given, given_answer, given_all, choose, block, turns}
+use Rattle.loop_meaning.specs.Statements.{iteration, iterate, folded, put_cell, set_var, Called}
+use Rattle.loop_meaning.specs.Statements.{with_call, Setting, unless_wide, too_wide, run, run_all}
+use Rattle.loop_meaning.specs.Statements.{run_list}
 use Rattle.loop_check.proofs.Lists.{Each, each_left, each_right}
 use Rattle.loop_check.proofs.Found.{Found, found_more, found_below, found_take, found_assign}
 

@@ -1,9 +1,12 @@
 -- Where no rule is broken, the iterations of each `par` touch no cell that another one writes.
 use Rattle.tp_value.specs.declared.limits.TheConstants.{MAX_CALL_DEPTH}
 use Rattle.loop_meaning.specs.Calls.{setting}
-use Rattle.loop_meaning.specs.State.{lookup, declare, State, Note, Reads, Writes, Emits, Chance, Ran}
+use Rattle.loop_meaning.specs.State.{lookup, declare, State, Note, Reads, Writes, Emits, Chance}
+use Rattle.loop_meaning.specs.State.{Ran}
 use Rattle.loop_meaning.specs.Statements.{iteration, run_list}
-use Rattle.std.proofs.Common.{◌≡◌, ◌≢◌, ℕ, ◌+◌, ◌-◌, ℤ, List, [], ◌∷◌, ◌++◌, map, length, Option, Some, None, refl, sym, ap, subst, ◌∙◌, Bool, true, false, cond, ◌||◌, not, bytes_eq, Contains, ◌⊎◌, inl, inr}
+use Rattle.std.proofs.Common.{◌≡◌, ◌≢◌, ℕ, ◌+◌, ◌-◌, ℤ, List, [], ◌∷◌, ◌++◌, map, length, Option}
+use Rattle.std.proofs.Common.{Some, None, refl, sym, ap, subst, ◌∙◌, Bool, true, false, cond, ◌||◌}
+use Rattle.std.proofs.Common.{not, bytes_eq, Contains, ◌⊎◌, inl, inr}
 use Rattle.tp_value.specs.declared.Place.{Place}
 use Rattle.loop_syntax.specs.declared.Name.{Name}
 use Rattle.loop_syntax.specs.declared.RowAt.TheVariants as row
@@ -17,18 +20,22 @@ use Rattle.beat_count.specs.Ticks.{is_tick_allowed}
 use Rattle.loop_rules.specs.Names.{is_in, item_of, texts, func_names}
 use Rattle.loop_rules.specs.Reductions.{reduced}
 use Rattle.loop_rules.specs.Scopes.{is_visible}
-use Rattle.loop_rules.specs.Sites.{Loop, Declares, Parallel, Spot, in_carries, in_list, in_par, the_loop}
-use Rattle.loop_meaning.specs.Cells.{Cell, read_cells, write_cells, Body, bodies_of, run_of, Agree, Disjoint}
+use Rattle.loop_rules.specs.Sites.{Loop, Declares, Parallel, Spot, in_carries, in_list, in_par}
+use Rattle.loop_rules.specs.Sites.{the_loop}
+use Rattle.loop_meaning.specs.Cells.{Cell, read_cells, write_cells, Body, bodies_of, run_of, Agree}
+use Rattle.loop_meaning.specs.Cells.{Disjoint}
 use Rattle.loop_check.specs.Unbroken.{NoneBroken}
 use Rattle.loop_check.proofs.Lists.{each_at, contains_none, contains_cons, contains_append}
 use Rattle.loop_check.proofs.Bools.{or_left, not_false}
-use Rattle.loop_check.proofs.Found.{Found, found_lookup, found_end, found_in, place_in, is_in_end, is_in_more, names_more}
+use Rattle.loop_check.proofs.Found.{Found, found_lookup, found_end, found_in, place_in, is_in_end}
+use Rattle.loop_check.proofs.Found.{is_in_more, names_more}
 use Rattle.loop_check.proofs.Keeps.{Mode, Notes, Fixed, Keeps, ticks_fixed, list_ok}
 use Rattle.loop_check.proofs.Calls.{QuietFuncs, call_ok}
 use Rattle.loop_check.proofs.Fine.{Fine, AllFine, at_none, quiet_funcs}
 use Rattle.loop_check.proofs.Bodies.{body_at, each_par}
 use Rattle.loop_check.proofs.Shapes.{HeadOk, item_fine, item_row}
-use Rattle.loop_check.proofs.Inner.{RowVar, Kept, Region, ReadRegion, WriteRegion, begun, mode_of, list_inner}
+use Rattle.loop_check.proofs.Inner.{RowVar, Kept, Region, ReadRegion, WriteRegion, begun, mode_of}
+use Rattle.loop_check.proofs.Inner.{list_inner}
 
 -- ---- the cells of notes
 

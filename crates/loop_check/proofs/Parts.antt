@@ -1,5 +1,7 @@
 -- Where no rule is broken, each iteration keeps within its part of each table that its `par` carries.
-use Rattle.std.proofs.Common.{◌≡◌, ℕ, zero, suc, ◌+◌, ℤ, List, [], ◌∷◌, ◌++◌, map, length, take, ◌<◌, arith, Option, Some, None, refl, sym, ap, subst, ◌∙◌, Bool, true, false, cond, ◌||◌, bytes_eq, inr}
+use Rattle.std.proofs.Common.{◌≡◌, ℕ, zero, suc, ◌+◌, ℤ, List, [], ◌∷◌, ◌++◌, map, length, take}
+use Rattle.std.proofs.Common.{◌<◌, arith, Option, Some, None, refl, sym, ap, subst, ◌∙◌, Bool, true}
+use Rattle.std.proofs.Common.{false, cond, ◌||◌, bytes_eq, inr}
 use Rattle.tp_value.specs.declared.Place.{Place}
 use Rattle.loop_syntax.specs.declared.Name.{Name}
 use Rattle.loop_syntax.specs.declared.RowAt.TheVariants as row
@@ -21,13 +23,15 @@ use Rattle.loop_check.specs.Unbroken.{NoneBroken}
 use Rattle.loop_check.specs.Parts.{InPart, KeepsTo, Parted}
 use Rattle.loop_check.proofs.Lists.{each_at}
 use Rattle.loop_check.proofs.Bools.{no_both}
-use Rattle.loop_check.proofs.Found.{Found, found_lookup, found_more, found_below, found_take, found_in, place_in}
+use Rattle.loop_check.proofs.Found.{Found, found_lookup, found_more, found_below, found_take}
+use Rattle.loop_check.proofs.Found.{found_in, place_in}
 use Rattle.loop_check.proofs.Keeps.{Mode, Fixed, Keeps, ticks_fixed}
 use Rattle.loop_check.proofs.Calls.{QuietFuncs}
 use Rattle.loop_check.proofs.Fine.{Fine, AllFine, quiet_funcs}
 use Rattle.loop_check.proofs.Bodies.{body_at, each_par}
 use Rattle.loop_check.proofs.Inner.{Region, ReadRegion, WriteRegion, begun, mode_of}
-use Rattle.loop_check.proofs.Law.{body_keeps, notes_reads, notes_writes, iteration_keeps, own_value, uses_seen}
+use Rattle.loop_check.proofs.Law.{body_keeps, notes_reads, notes_writes, iteration_keeps, own_value}
+use Rattle.loop_check.proofs.Law.{uses_seen}
 
 -- the value of a name that is declared before another is the same after
 lookup_more : (vs : List Variable) (x : List ℕ) (i : ℤ) (y : List ℕ) → is_in (map (λ (v : Variable). v.name) vs) y ≡ true → lookup (declare vs x i) y ≡ lookup vs y

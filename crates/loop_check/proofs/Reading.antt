@@ -1,5 +1,8 @@
 -- The functions that read a table, found from those that read it themselves.
-use Rattle.std.proofs.Common.{◌≡◌, ℕ, zero, suc, ◌<◌, ◌≤◌, ◌+◌, List, [], ◌∷◌, ◌++◌, length, get_or, take, add-one, map, ◌⊎◌, inl, inr, Option, Some, None, Bool, true, false, cond, not, ◌&&◌, ◌||◌, bytes_eq, refl, sym, subst, ap, ◌∙◌, arith, Contains}
+use Rattle.std.proofs.Common.{◌≡◌, ℕ, zero, suc, ◌<◌, ◌≤◌, ◌+◌, List, [], ◌∷◌, ◌++◌, length, get_or}
+use Rattle.std.proofs.Common.{take, add-one, map, ◌⊎◌, inl, inr, Option, Some, None, Bool, true}
+use Rattle.std.proofs.Common.{false, cond, not, ◌&&◌, ◌||◌, bytes_eq, refl, sym, subst, ap, ◌∙◌}
+use Rattle.std.proofs.Common.{arith, Contains}
 use Rattle.std.proofs.Math.Seq.{take-suc}
 use Rattle.std.specs.Borrow.{Bor}
 use Rattle.loop_syntax.specs.declared.TableDecl.{TableDecl}
@@ -10,14 +13,17 @@ use Rattle.loop_syntax.specs.declared.Func.{Func}
 use Rattle.loop_syntax.specs.declared.Program.{Program}
 use Rattle.loop_rules.specs.Names.{is_in, texts, func_of}
 use Rattle.loop_rules.specs.Reading.{ReadsTable, itself, through}
-use Rattle.loop_rules.specs.Sites.{Act, DeclaresTable, DeclaresFunc, DeclaresAll, Declares, Uses, Assigns, Folds, AssignsBoth, NamesTable, ReadsCell, WritesCell, Calls, Evaluates, Shows, Parallel, Spot, Site, in_func}
+use Rattle.loop_rules.specs.Sites.{Act, DeclaresTable, DeclaresFunc, DeclaresAll, Declares, Uses}
+use Rattle.loop_rules.specs.Sites.{Assigns, Folds, AssignsBoth, NamesTable, ReadsCell, WritesCell}
+use Rattle.loop_rules.specs.Sites.{Calls, Evaluates, Shows, Parallel, Spot, Site, in_func}
 use Rattle.loop_check.specs.declared.usage.Usage.{Usage}
 use Rattle.loop_check.specs.declared.usage.Usage.TheVariants as usage
 use Rattle.loop_check.specs.Usage.{is_use, any_use, uses}
 use Rattle.loop_check.specs.Readers.{add_users, IsReadersOf, Pair, pair, pairs_of, IsReaders}
 use Rattle.loop_check.specs.declared.reader.Reader.{Reader}
 use Rattle.loop_check.specs.Walk.{texts_of}
-use Rattle.loop_check.proofs.Lists.{contains_here, contains_there, contains_cons, contains_none, contains_append, contains_left, contains_right}
+use Rattle.loop_check.proofs.Lists.{contains_here, contains_there, contains_cons, contains_none}
+use Rattle.loop_check.proofs.Lists.{contains_append, contains_left, contains_right}
 use Rattle.loop_check.proofs.Bools.{no_both, order}
 use Rattle.loop_check.proofs.Found.{eq_is, eq_self, is_in_end, is_in_more}
 

@@ -1,5 +1,6 @@
 -- Inside a `par` that carries a table, each cell of the table has that par's shape.
-use Rattle.std.proofs.Common.{◌≡◌, ℕ, List, [], ◌∷◌, Option, Some, None, refl, sym, subst, ◌∙◌, Bool, true, false, cond, ◌&&◌, ◌||◌, not, bytes_eq, ◌⊎◌, inl, inr}
+use Rattle.std.proofs.Common.{◌≡◌, ℕ, List, [], ◌∷◌, Option, Some, None, refl, sym, subst, ◌∙◌}
+use Rattle.std.proofs.Common.{Bool, true, false, cond, ◌&&◌, ◌||◌, not, bytes_eq, ◌⊎◌, inl, inr}
 use Rattle.tp_value.specs.declared.Op.{Op}
 use Rattle.loop_syntax.specs.declared.Name.{Name}
 use Rattle.loop_syntax.specs.declared.Expr.{Expr}
@@ -8,9 +9,12 @@ use Rattle.loop_syntax.specs.declared.RowAt.TheVariants as row
 use Rattle.loop_syntax.specs.declared.Carry.{Carry}
 use Rattle.loop_syntax.specs.declared.Carry.TheVariants as carry
 use Rattle.loop_syntax.specs.declared.Reduce.{Reduce}
-use Rattle.loop_rules.specs.Carries.{carries, is_var, is_row, fits, fits_some, has_shape, bad_write, bad_read, last_index, row_reduced, is_rows_item, outside_nearest, bad_item, bad_items}
+use Rattle.loop_rules.specs.Carries.{carries, is_var, is_row, fits, fits_some, has_shape, bad_write}
+use Rattle.loop_rules.specs.Carries.{bad_read, last_index, row_reduced, is_rows_item}
+use Rattle.loop_rules.specs.Carries.{outside_nearest, bad_item, bad_items}
 use Rattle.loop_rules.specs.Names.{operator_of, is_in, table_name, item_of}
-use Rattle.loop_rules.specs.Reductions.{any_loop, is_op, some_op, reduced, nearest_reduces, reduced_otherwise, other_operator, bad_targets}
+use Rattle.loop_rules.specs.Reductions.{any_loop, is_op, some_op, reduced, nearest_reduces}
+use Rattle.loop_rules.specs.Reductions.{reduced_otherwise, other_operator, bad_targets}
 use Rattle.loop_rules.specs.Scopes.{at}
 use Rattle.loop_rules.specs.Sites.{Loop}
 use Rattle.loop_check.proofs.Fine.{at_none, append_none_left, append_none_right}

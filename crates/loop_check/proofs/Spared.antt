@@ -1,5 +1,6 @@
 -- Where no rule is broken, an iteration touches no table that another `par` reserves, and prints nothing; no more does a call.
-use Rattle.std.proofs.Common.{◌≡◌, ℕ, suc, ◌-◌, ℤ, pos, List, [], Option, Some, None, refl, subst, Bool, true, false, inl, inr}
+use Rattle.std.proofs.Common.{◌≡◌, ℕ, suc, ◌-◌, ℤ, pos, List, [], Option, Some, None, refl, subst}
+use Rattle.std.proofs.Common.{Bool, true, false, inl, inr}
 use Rattle.tp_value.specs.declared.limits.TheConstants.{MAX_CALL_DEPTH}
 use Rattle.tp_value.specs.declared.Place.{Place}
 use Rattle.loop_syntax.specs.declared.Name.{Name}
@@ -14,7 +15,10 @@ use Rattle.loop_rules.specs.Carries.{is_some_item, carries}
 use Rattle.loop_rules.specs.Keeps.{in_function, in_par_of_main}
 use Rattle.loop_rules.specs.Reading.{ReadsTable}
 use Rattle.loop_rules.specs.Reductions.{any_loop}
-use Rattle.loop_rules.specs.Sites.{Loop, Act, DeclaresTable, DeclaresFunc, DeclaresAll, Declares, Uses, Assigns, Folds, AssignsBoth, NamesTable, ReadsCell, WritesCell, Calls, Evaluates, Shows, Parallel, Spot, in_list, in_par, the_loop}
+use Rattle.loop_rules.specs.Sites.{Loop, Act, DeclaresTable, DeclaresFunc, DeclaresAll, Declares}
+use Rattle.loop_rules.specs.Sites.{Uses, Assigns, Folds, AssignsBoth, NamesTable, ReadsCell}
+use Rattle.loop_rules.specs.Sites.{WritesCell, Calls, Evaluates, Shows, Parallel, Spot, in_list}
+use Rattle.loop_rules.specs.Sites.{in_par, the_loop}
 use Rattle.loop_meaning.specs.Calls.{setting}
 use Rattle.loop_meaning.specs.Cells.{Body, read_cells, write_cells, bodies_of, run_of}
 use Rattle.loop_meaning.specs.State.{State, Emits, Ran}

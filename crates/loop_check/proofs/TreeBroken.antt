@@ -1,23 +1,35 @@
 -- The rules of disjoint writes by trees alone.
-use Rattle.std.proofs.Common.{◌≡◌, ◌∷◌, ◌++◌, [], ℕ, ℤ, Bool, true, false, cond, ◌||◌, ◌&&◌, not, List, map, Option, Some, None, bytes_eq, refl, ap, ◌∙◌}
+use Rattle.std.proofs.Common.{◌≡◌, ◌∷◌, ◌++◌, [], ℕ, ℤ, Bool, true, false, cond, ◌||◌, ◌&&◌, not}
+use Rattle.std.proofs.Common.{List, map, Option, Some, None, bytes_eq, refl, ap, ◌∙◌}
 use Rattle.std.specs.Ordering.{int_eq}
 use Rattle.tp_value.specs.declared.values.Place.{Place}
 use Rattle.tp_value.specs.declared.values.Op.{Op}
 use Rattle.loop_syntax.specs.declared.expression.Name.{Name}
 use Rattle.loop_syntax.specs.declared.expression.Expr.{Expr}
-use Rattle.loop_syntax.specs.declared.expression.Expr.TheVariants.{Int, Var, Cell', Rows, Cols, Neg', Bin'}
+use Rattle.loop_syntax.specs.declared.expression.Expr.TheVariants.{Int, Var, Cell', Rows, Cols}
+use Rattle.loop_syntax.specs.declared.expression.Expr.TheVariants.{Neg', Bin'}
 use Rattle.loop_syntax.specs.declared.statement.RowAt.{RowAt}
 use Rattle.loop_syntax.specs.declared.statement.RowAt.TheVariants as row
 use Rattle.loop_syntax.specs.declared.statement.Carry.{Carry}
 use Rattle.loop_syntax.specs.declared.statement.Carry.TheVariants as carry
 use Rattle.loop_syntax.specs.declared.statement.Reduce.{Reduce}
-use Rattle.loop_syntax.specs.Tree.{Spelled, spelled, Tree, TInt, TVar, tree_of, RowTree, RVar, RInt, row_of, CarryTree, CRows, CCells, carry_of, ReduceTree, reduce_of}
+use Rattle.loop_syntax.specs.Tree.{Spelled, spelled, Tree, TInt, TVar, tree_of, RowTree, RVar, RInt}
+use Rattle.loop_syntax.specs.Tree.{row_of, CarryTree, CRows, CCells, carry_of, ReduceTree}
+use Rattle.loop_syntax.specs.Tree.{reduce_of}
 use Rattle.loop_rules.specs.Names.{is_in, table_name, operator_of, item_of}
-use Rattle.loop_rules.specs.Sites.{Loop, Act, DeclaresTable, DeclaresFunc, DeclaresAll, Declares, Uses, Assigns, Folds, AssignsBoth, NamesTable, ReadsCell, WritesCell, Calls, Evaluates, Shows, Parallel, Spot}
-use Rattle.loop_rules.specs.Reductions.{any_loop, is_op, some_op, reduced, nearest_reduces, other_operator, reduced_otherwise, bad_targets, outer_set, misreduced}
-use Rattle.loop_rules.specs.Carries.{is_some_item, carries, is_var, is_int, is_row, fits, fits_some, has_shape, bad_write, bad_read, last_index, row_reduced, is_rows_item, is_within, outside_nearest, bad_item, bad_items, miswritten, misread, miscarried}
+use Rattle.loop_rules.specs.Sites.{Loop, Act, DeclaresTable, DeclaresFunc, DeclaresAll, Declares}
+use Rattle.loop_rules.specs.Sites.{Uses, Assigns, Folds, AssignsBoth, NamesTable, ReadsCell}
+use Rattle.loop_rules.specs.Sites.{WritesCell, Calls, Evaluates, Shows, Parallel, Spot}
+use Rattle.loop_rules.specs.Reductions.{any_loop, is_op, some_op, reduced, nearest_reduces}
+use Rattle.loop_rules.specs.Reductions.{other_operator, reduced_otherwise, bad_targets, outer_set}
+use Rattle.loop_rules.specs.Reductions.{misreduced}
+use Rattle.loop_rules.specs.Carries.{is_some_item, carries, is_var, is_int, is_row, fits, fits_some}
+use Rattle.loop_rules.specs.Carries.{has_shape, bad_write, bad_read, last_index, row_reduced}
+use Rattle.loop_rules.specs.Carries.{is_rows_item, is_within, outside_nearest, bad_item, bad_items}
+use Rattle.loop_rules.specs.Carries.{miswritten, misread, miscarried}
 use Rattle.loop_rules.proofs.TreeRules.{at_name, carried}
-use Rattle.loop_check.proofs.TreeSites.{LoopTree, ActTree, Declared, Used, Assigned, Folded, Read, Written, InParallel}
+use Rattle.loop_check.proofs.TreeSites.{LoopTree, ActTree, Declared, Used, Assigned, Folded, Read}
+use Rattle.loop_check.proofs.TreeSites.{Written, InParallel}
 use Rattle.loop_check.proofs.TreeWalk.{loop_tree, rounds_tree, act_tree}
 
 -- ---- loops

@@ -1,5 +1,7 @@
 -- Which functions read which tables, by trees alone.
-use Rattle.std.proofs.Common.{◌≡◌, ◌<◌, ◌∷◌, [], ℕ, zero, suc, Bool, true, false, cond, List, map, length, get_or, Option, Some, None, bytes_eq, refl, sym, subst, ap, ◌∙◌, arith}
+use Rattle.std.proofs.Common.{◌≡◌, ◌<◌, ◌∷◌, [], ℕ, zero, suc, Bool, true, false, cond, List, map}
+use Rattle.std.proofs.Common.{length, get_or, Option, Some, None, bytes_eq, refl, sym, subst, ap}
+use Rattle.std.proofs.Common.{◌∙◌, arith}
 use Rattle.std.specs.List.{Contains}
 use Rattle.std.proofs.lemmas.List.{length-map, get_or-map}
 use Rattle.loop_syntax.specs.declared.expression.Name.{Name}
@@ -10,7 +12,9 @@ use Rattle.loop_syntax.specs.Tree.{Spelled, spelled, Tree, FuncTree, ProgramTree
 use Rattle.loop_syntax.specs.Tree as tree
 use Rattle.loop_rules.specs.Names.{func_of}
 use Rattle.loop_rules.specs.Reading.{ReadsTable, itself, through}
-use Rattle.loop_rules.specs.Sites.{Act, DeclaresTable, DeclaresFunc, DeclaresAll, Declares, Uses, Assigns, Folds, AssignsBoth, NamesTable, ReadsCell, WritesCell, Calls, Evaluates, Shows, Parallel, Site, in_func}
+use Rattle.loop_rules.specs.Sites.{Act, DeclaresTable, DeclaresFunc, DeclaresAll, Declares, Uses}
+use Rattle.loop_rules.specs.Sites.{Assigns, Folds, AssignsBoth, NamesTable, ReadsCell, WritesCell}
+use Rattle.loop_rules.specs.Sites.{Calls, Evaluates, Shows, Parallel, Site, in_func}
 use Rattle.loop_check.proofs.TreeSites.{Read, Called, SiteTree, func_sites}
 use Rattle.loop_check.proofs.TreeWalk.{act_tree, site_tree, func_same}
 

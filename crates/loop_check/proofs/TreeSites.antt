@@ -1,6 +1,10 @@
 -- The sites of a tree, as far as the rules of disjoint writes look at them.
 use Rattle.std.specs.Prelude.{ℕ, List, [], ◌∷◌, ◌++◌}
-use Rattle.loop_syntax.specs.Tree.{Spelled, Tree, TInt, TVar, TCell, TRows, TCols, TNeg, TBin, RVar, RInt, CarryTree, CRows, CCells, ReduceTree, AppTree, Node, NLet, NSet, NPut, NIf, NWhile, NLoop, NPar, NFold, NCall, NBoth, NPrint, NEmit, Nodes, Last, Then, TableTree, TInput, TMade, FuncTree, ProgramTree}
+use Rattle.loop_syntax.specs.Tree.{Spelled, Tree, TInt, TVar, TCell, TRows, TCols, TNeg, TBin, RVar}
+use Rattle.loop_syntax.specs.Tree.{RInt, CarryTree, CRows, CCells, ReduceTree, AppTree, Node, NLet}
+use Rattle.loop_syntax.specs.Tree.{NSet, NPut, NIf, NWhile, NLoop, NPar, NFold, NCall, NBoth}
+use Rattle.loop_syntax.specs.Tree.{NPrint, NEmit, Nodes, Last, Then, TableTree, TInput, TMade}
+use Rattle.loop_syntax.specs.Tree.{FuncTree, ProgramTree}
 use Rattle.loop_rules.proofs.TreeRules.{texts_of}
 
 -- a `par` round a part of a tree

@@ -3,25 +3,40 @@ use Rattle.std.proofs.Common.{◌≡◌, ◌++◌, ◌∷◌, [], ℕ, List, map
 use Rattle.std.proofs.lemmas.List.{map-append}
 use Rattle.loop_syntax.specs.declared.expression.Name.{Name}
 use Rattle.loop_syntax.specs.declared.expression.Expr.{Expr}
-use Rattle.loop_syntax.specs.declared.expression.Expr.TheVariants.{Int, Var, Cell', Rows, Cols, Neg', Bin'}
+use Rattle.loop_syntax.specs.declared.expression.Expr.TheVariants.{Int, Var, Cell', Rows, Cols}
+use Rattle.loop_syntax.specs.declared.expression.Expr.TheVariants.{Neg', Bin'}
 use Rattle.loop_syntax.specs.declared.statement.RowAt.TheVariants as row
 use Rattle.loop_syntax.specs.declared.statement.Carry.{Carry}
 use Rattle.loop_syntax.specs.declared.statement.Carry.TheVariants as carry
 use Rattle.loop_syntax.specs.declared.statement.App.{App}
 use Rattle.loop_syntax.specs.declared.statement.Stmt.{Stmt, Row_of-Stmt, end_of-Stmt, more_of-Stmt}
-use Rattle.loop_syntax.specs.declared.statement.Stmt.TheVariants.{Let, Set, Put, If', While', Loop', Par', Fold, Call, Both, Print, Emit}
+use Rattle.loop_syntax.specs.declared.statement.Stmt.TheVariants.{Let, Set, Put, If', While', Loop'}
+use Rattle.loop_syntax.specs.declared.statement.Stmt.TheVariants.{Par', Fold, Call, Both, Print}
+use Rattle.loop_syntax.specs.declared.statement.Stmt.TheVariants.{Emit}
 use Rattle.loop_syntax.specs.declared.program.Func.{Func}
 use Rattle.loop_syntax.specs.declared.program.TableDecl.{TableDecl}
 use Rattle.loop_syntax.specs.declared.program.TableDecl.TheVariants.{Input, Made}
 use Rattle.loop_syntax.specs.declared.program.Program.{Program}
-use Rattle.loop_syntax.specs.Tree.{spelled, tree_of, carry_of, reduce_of, app_of, node_of, nodes_of, table_of, func_of, program_of}
+use Rattle.loop_syntax.specs.Tree.{spelled, tree_of, carry_of, reduce_of, app_of, node_of, nodes_of}
+use Rattle.loop_syntax.specs.Tree.{table_of, func_of, program_of}
 use Rattle.loop_rules.specs.declared.part.Part.TheVariants.{OfSize, OfFunc}
 use Rattle.loop_rules.specs.Declarations.{declared_list, table_of_decl}
 use Rattle.loop_rules.specs.Sites as spots
-use Rattle.loop_rules.specs.Sites.{Loop, Act, DeclaresTable, DeclaresFunc, DeclaresAll, Declares, Uses, Assigns, Folds, AssignsBoth, NamesTable, ReadsCell, WritesCell, Calls, Evaluates, Shows, Parallel, Spot, Site, site, in_expr, in_whole, in_args, in_app, in_carries, declared_var, in_loop, the_loop, in_par, spot_after, in_stmt, in_all, in_list, spot_of_list, tables_of, in_decl, in_decls, in_params, func_spot, in_func, in_funcs, main_spot, in_main, sites}
+use Rattle.loop_rules.specs.Sites.{Loop, Act, DeclaresTable, DeclaresFunc, DeclaresAll, Declares}
+use Rattle.loop_rules.specs.Sites.{Uses, Assigns, Folds, AssignsBoth, NamesTable, ReadsCell}
+use Rattle.loop_rules.specs.Sites.{WritesCell, Calls, Evaluates, Shows, Parallel, Spot, Site, site}
+use Rattle.loop_rules.specs.Sites.{in_expr, in_whole, in_args, in_app, in_carries, declared_var}
+use Rattle.loop_rules.specs.Sites.{in_loop, the_loop, in_par, spot_after, in_stmt, in_all, in_list}
+use Rattle.loop_rules.specs.Sites.{spot_of_list, tables_of, in_decl, in_decls, in_params, func_spot}
+use Rattle.loop_rules.specs.Sites.{in_func, in_funcs, main_spot, in_main, sites}
 use Rattle.loop_rules.proofs.TreeParts.{texts_same}
 use Rattle.loop_rules.proofs.TreeNodes.{node_rows, rows_of, row_nodes}
-use Rattle.loop_check.proofs.TreeSites.{LoopTree, ActTree, Declared, Used, Assigned, Folded, Read, Written, Called, InParallel, Other, SiteTree, TreeSpot, expr_sites, whole_sites, arg_sites, app_sites, carry_sites, behind, node_sites, nodes_sites, behind_all, table_sites, tables_sites, param_sites, inside, func_sites, funcs_sites, main_sites, tree_sites}
+use Rattle.loop_check.proofs.TreeSites.{LoopTree, ActTree, Declared, Used, Assigned, Folded, Read}
+use Rattle.loop_check.proofs.TreeSites.{Written, Called, InParallel, Other, SiteTree, TreeSpot}
+use Rattle.loop_check.proofs.TreeSites.{expr_sites, whole_sites, arg_sites, app_sites, carry_sites}
+use Rattle.loop_check.proofs.TreeSites.{behind, node_sites, nodes_sites, behind_all, table_sites}
+use Rattle.loop_check.proofs.TreeSites.{tables_sites, param_sites, inside, func_sites, funcs_sites}
+use Rattle.loop_check.proofs.TreeSites.{main_sites, tree_sites}
 
 -- ---- sites
 

@@ -1,5 +1,6 @@
 -- What a function does is the same anywhere.
-use Rattle.std.proofs.Common.{◌≡◌, ◌++◌, ◌∷◌, [], ℕ, suc, ◌<◌, ◌+◌, drop, drop-cons, add-one, get_or, Vec, List, length, refl, Bool, false, ◌||◌, sym, ap, ◌∙◌}
+use Rattle.std.proofs.Common.{◌≡◌, ◌++◌, ◌∷◌, [], ℕ, suc, ◌<◌, ◌+◌, drop, drop-cons, add-one}
+use Rattle.std.proofs.Common.{get_or, Vec, List, length, refl, Bool, false, ◌||◌, sym, ap, ◌∙◌}
 use Rattle.loop_syntax.specs.declared.RowAt.TheVariants as row
 use Rattle.loop_syntax.specs.declared.Carry.{Carry}
 use Rattle.loop_syntax.specs.declared.Carry.TheVariants as carry
@@ -13,8 +14,12 @@ use Rattle.loop_syntax.specs.declared.Program.{Program}
 use Rattle.loop_rules.specs.declared.part.Part.TheVariants.{OfFunc}
 use Rattle.loop_syntax.specs.declared.App.{App}
 use Rattle.loop_syntax.specs.declared.Stmt.{Stmt, Row_of-Stmt, end_of-Stmt, more_of-Stmt}
-use Rattle.loop_syntax.specs.declared.Stmt.TheVariants.{Loop, Par, Let, Set, Put, If', While', Loop', Par', Fold, Call, Both, Print, Emit}
-use Rattle.loop_rules.specs.Sites.{Site, Spot, site, Calls, top, tables_of, func_spot, spot_of_list, in_func, in_params, declared_var, in_expr, in_whole, in_args, in_app, in_carries, in_stmt, in_all, in_list, in_loop, in_par, spot_after}
+use Rattle.loop_syntax.specs.declared.Stmt.TheVariants.{Loop, Par, Let, Set, Put, If', While'}
+use Rattle.loop_syntax.specs.declared.Stmt.TheVariants.{Loop', Par', Fold, Call, Both, Print, Emit}
+use Rattle.loop_rules.specs.Sites.{Site, Spot, site, Calls, top, tables_of, func_spot, spot_of_list}
+use Rattle.loop_rules.specs.Sites.{in_func, in_params, declared_var, in_expr, in_whole, in_args}
+use Rattle.loop_rules.specs.Sites.{in_app, in_carries, in_stmt, in_all, in_list, in_loop, in_par}
+use Rattle.loop_rules.specs.Sites.{spot_after}
 use Rattle.loop_check.specs.declared.usage.Usage.{Usage}
 use Rattle.loop_check.specs.Usage.{is_use, any_use, anywhere}
 use Rattle.loop_rules.proofs.Walking.{in_looped, in_parallel}

@@ -4,7 +4,10 @@ use Rattle.tp_value.specs.declared.Place.{Place}
 use Rattle.loop_syntax.specs.declared.Program.{Program}
 use Rattle.loop_rules.specs.Sites.{sites, tables_of}
 use Rattle.loop_rules.specs.declared.rule.Rule.{Rule}
-use Rattle.loop_rules.specs.declared.rule.Rule.TheVariants.{Names, OuterVariables, Reductions, TableWrites, TableReads, CarryLists, Functions, ReadingCalls, Output, LoopVariables, Limits}
+use Rattle.loop_rules.specs.declared.rule.Rule.TheVariants.{Names, OuterVariables, Reductions}
+use Rattle.loop_rules.specs.declared.rule.Rule.TheVariants.{TableWrites, TableReads, CarryLists}
+use Rattle.loop_rules.specs.declared.rule.Rule.TheVariants.{Functions, ReadingCalls, Output}
+use Rattle.loop_rules.specs.declared.rule.Rule.TheVariants.{LoopVariables, Limits}
 use Rattle.loop_rules.specs.Broken.{Broken}
 use Rattle.loop_rules.specs.Unbroken.{IsResolved}
 use Rattle.loop_rules.specs.declared.fault.Fault.{Fault}

@@ -10,8 +10,13 @@ use Rattle.loop_syntax.specs.declared.Carry.{Carry}
 use Rattle.loop_syntax.specs.declared.Carry.TheVariants as carry
 use Rattle.loop_syntax.specs.declared.Reduce.{Reduce}
 use Rattle.loop_syntax.specs.declared.Stmt.{Stmt, Row_of-Stmt, end_of-Stmt, more_of-Stmt}
-use Rattle.loop_syntax.specs.declared.Stmt.TheVariants.{Let, Set, Put, If', While', Loop', Par', Fold, Call, Both, Print, Emit}
-use Rattle.loop_rules.specs.Sites.{Act, Declares, Uses, Assigns, Folds, AssignsBoth, NamesTable, ReadsCell, WritesCell, Calls, Evaluates, Shows, Parallel, Spot, Site, site, in_expr, in_whole, in_args, in_app, in_carries, in_stmt, in_all, in_list, spot_after, spot_of_list, declared_var, in_loop, in_par, the_loop}
+use Rattle.loop_syntax.specs.declared.Stmt.TheVariants.{Let, Set, Put, If', While', Loop', Par'}
+use Rattle.loop_syntax.specs.declared.Stmt.TheVariants.{Fold, Call, Both, Print, Emit}
+use Rattle.loop_rules.specs.Sites.{Act, Declares, Uses, Assigns, Folds, AssignsBoth, NamesTable}
+use Rattle.loop_rules.specs.Sites.{ReadsCell, WritesCell, Calls, Evaluates, Shows, Parallel, Spot}
+use Rattle.loop_rules.specs.Sites.{Site, site, in_expr, in_whole, in_args, in_app, in_carries}
+use Rattle.loop_rules.specs.Sites.{in_stmt, in_all, in_list, spot_after, spot_of_list, declared_var}
+use Rattle.loop_rules.specs.Sites.{in_loop, in_par, the_loop}
 use Rattle.loop_check.proofs.Lists.{Each, each_left, each_right, each_both}
 
 module _ (F T : Act → Spot → Type 0) (I : Spot → Type 0)

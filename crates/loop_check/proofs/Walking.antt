@@ -1,5 +1,6 @@
 -- The walk over statements: where it stands after loops, and what it found.
-use Rattle.std.proofs.Common.{◌≡◌, ◌++◌, ◌∷◌, [], ℕ, zero, suc, List, take, length, Option, sym, ap, ◌∙◌, append_assoc, refl, Vec}
+use Rattle.std.proofs.Common.{◌≡◌, ◌++◌, ◌∷◌, [], ℕ, zero, suc, List, take, length, Option, sym, ap}
+use Rattle.std.proofs.Common.{◌∙◌, append_assoc, refl, Vec}
 use Rattle.std.proofs.Math.Seq.{take-append_seam}
 use Rattle.std.specs.declared.alloc.Global.{Global}
 use Rattle.std.specs.Borrow.{Bor}
@@ -9,15 +10,19 @@ use Rattle.loop_syntax.specs.declared.App.{App}
 use Rattle.loop_syntax.specs.declared.ParLoop.{ParLoop}
 use Rattle.loop_syntax.specs.declared.Stmt.{Stmt}
 use Rattle.loop_syntax.specs.declared.Stmt.TheVariants.{Put, Loop, Par, Both}
-use Rattle.loop_rules.specs.declared.rule.Rule.TheVariants.{OuterVariables, Reductions, TableWrites, CarryLists}
+use Rattle.loop_rules.specs.declared.rule.Rule.TheVariants.{OuterVariables, Reductions, TableWrites}
+use Rattle.loop_rules.specs.declared.rule.Rule.TheVariants.{CarryLists}
 use Rattle.loop_rules.specs.declared.fault.Fault.{Fault}
-use Rattle.loop_rules.specs.Sites.{Site, Spot, site, Uses, Declares, Assigns, WritesCell, Parallel, in_whole, in_app, in_carries, in_stmt, in_list, in_loop, in_par, the_loop, declared_var, spot_of_list}
+use Rattle.loop_rules.specs.Sites.{Site, Spot, site, Uses, Declares, Assigns, WritesCell, Parallel}
+use Rattle.loop_rules.specs.Sites.{in_whole, in_app, in_carries, in_stmt, in_list, in_loop, in_par}
+use Rattle.loop_rules.specs.Sites.{the_loop, declared_var, spot_of_list}
 use Rattle.loop_rules.specs.Sites.{Loop as Round}
 use Rattle.loop_rules.specs.Reductions.{outer_set, misreduced}
 use Rattle.loop_rules.specs.Carries.{miswritten, miscarried}
 use Rattle.loop_rules.specs.Search.{lowest, lowest_in}
 use Rattle.loop_rules.proofs.Walking as walking
-use Rattle.loop_rules.proofs.Walking.{two_parts, site_first, in_looped, in_parallel, lets, spot_of_list_more}
+use Rattle.loop_rules.proofs.Walking.{two_parts, site_first, in_looped, in_parallel, lets}
+use Rattle.loop_rules.proofs.Walking.{spot_of_list_more}
 use Rattle.loop_check.specs.declared.reader.Reader.{Reader}
 use Rattle.loop_check.specs.Search.{checked_rules}
 use Rattle.loop_check.specs.Walk.{spot, texts_of}

@@ -9,7 +9,10 @@ use Rattle.loop_syntax.specs.declared.TableDecl.TheVariants.{Input, Made}
 use Rattle.loop_syntax.specs.declared.Program.{Program}
 use Rattle.loop_rules.specs.declared.part.Part.TheVariants.{OfSize, OfFunc}
 use Rattle.loop_rules.specs.Names.{texts}
-use Rattle.loop_rules.specs.Sites.{Site, Spot, site, Declares, in_expr, in_whole, in_decls, in_params, in_list, in_func, in_funcs, in_main, sites, top, tables_of, declared_var, func_spot, main_spot, spot_of_list, spot_after}
+use Rattle.loop_rules.specs.Sites.{Site, Spot, site, Declares, in_expr, in_whole, in_decls}
+use Rattle.loop_rules.specs.Sites.{in_params, in_list, in_func, in_funcs, in_main, sites, top}
+use Rattle.loop_rules.specs.Sites.{tables_of, declared_var, func_spot, main_spot, spot_of_list}
+use Rattle.loop_rules.specs.Sites.{spot_after}
 use Rattle.loop_syntax.specs.declared.Stmt.{Stmt}
 use Rattle.loop_syntax.specs.declared.Stmt.TheVariants.{Let}
 use Rattle.loop_rules.specs.declared.fault.Fault.{Fault}

@@ -1,5 +1,6 @@
 -- The number that digits write.
-use Rattle.std.proofs.Common.{◌≡◌, ℕ, suc, ◌+◌, ◌*◌, ◌-◌, ◌<◌, ◌≤◌, List, [], ◌∷◌, length, get_or, drop, sym, ap, ◌∙◌, arith, drop-cons}
+use Rattle.std.proofs.Common.{◌≡◌, ℕ, suc, ◌+◌, ◌*◌, ◌-◌, ◌<◌, ◌≤◌, List, [], ◌∷◌, length, get_or}
+use Rattle.std.proofs.Common.{drop, sym, ap, ◌∙◌, arith, drop-cons}
 use Rattle.loop_lex.specs.Lexical.{decimal_from}
 
 pub decimal_from-grows : (n : ℕ) (ds : List ℕ) → n ≤ decimal_from n ds

@@ -1,11 +1,13 @@
 -- Which bytes begin what.
-use Rattle.std.proofs.Common.{◌≡◌, ℕ, List, [], ◌∷◌, Bool, true, false, not, ◌&&◌, ◌==◌, nat_le, ◌<◌, length, ◌⊎◌, refl, sym, ap, ◌∙◌, eqb-true, codes, ⊎_elim, arith}
+use Rattle.std.proofs.Common.{◌≡◌, ℕ, List, [], ◌∷◌, Bool, true, false, not, ◌&&◌, ◌==◌, nat_le}
+use Rattle.std.proofs.Common.{◌<◌, length, ◌⊎◌, refl, sym, ap, ◌∙◌, eqb-true, codes, ⊎_elim, arith}
 use Rattle.std.proofs.lemmas.Bool.{and_parts, and_from, or_cases, or_left, or_right, not-true}
 use Rattle.std.proofs.lemmas.Bool.Decides.{nat_tests}
 use Rattle.std.specs.List.{list_all}
 use Rattle.std.specs.Char.{is_ascii_digit}
 use Rattle.loop_lex.specs.Lexical.{Form, IsForm, word, literal, single, double}
-use Rattle.loop_lex.specs.Bytes.{is_one_of, starts_word, continues_word, is_single_sign, is_double_sign}
+use Rattle.loop_lex.specs.Bytes.{is_one_of, starts_word, continues_word, is_single_sign}
+use Rattle.loop_lex.specs.Bytes.{is_double_sign}
 
 -- what holds of all bytes of a list holds of one of them
 pub one_of : (q : ℕ → Bool) (xs : List ℕ) (b : ℕ) → list_all q xs ≡ true → is_one_of xs b ≡ true → q b ≡ true

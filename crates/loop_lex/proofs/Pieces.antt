@@ -1,5 +1,7 @@
 -- What stands at the front of a text.
-use Rattle.std.proofs.Common.{◌≡◌, ◌≢◌, ℕ, ◌<◌, ◌≤◌, List, [], ◌∷◌, ◌++◌, length, take, slice_index, pos, to_z, w64, Bool, true, false, not, ◌==◌, sym, ap, subst, ◌∙◌, arith}
+use Rattle.std.proofs.Common.{◌≡◌, ◌≢◌, ℕ, ◌<◌, ◌≤◌, List, [], ◌∷◌, ◌++◌, length, take, slice_index}
+use Rattle.std.proofs.Common.{pos, to_z, w64, Bool, true, false, not, ◌==◌, sym, ap, subst, ◌∙◌}
+use Rattle.std.proofs.Common.{arith}
 use Rattle.std.proofs.lemmas.Bool.{and_from, or_left}
 use Rattle.std.proofs.lemmas.List.Folds.{length-prefix_len}
 use Rattle.std.proofs.lemmas.List.Sums.{prefix_len-le-length}
@@ -9,8 +11,12 @@ use Rattle.std.proofs.lemmas.Int.{to_z_pos}
 use Rattle.std.specs.Char.{is_ascii_digit}
 use Rattle.loop_lex.specs.declared.token.TokenKind.TheVariants as kinds
 use Rattle.loop_lex.specs.declared.lexer.Piece.TheVariants as pieces
-use Rattle.loop_lex.specs.Bytes.{is_blank, starts_word, continues_word, is_single_sign, begins_double}
-use Rattle.loop_lex.specs.Lexical.{Form, AWord, ALiteral, ASign, IsForm, word, literal, single, double, StandsAt, IsLongest, word_kind, sign_kind, IsPiece, blank_piece, comment_piece, token_piece, bad_piece, large_piece, literal_kind, decimal, greatest}
+use Rattle.loop_lex.specs.Bytes.{is_blank, starts_word, continues_word, is_single_sign}
+use Rattle.loop_lex.specs.Bytes.{begins_double}
+use Rattle.loop_lex.specs.Lexical.{Form, AWord, ALiteral, ASign, IsForm, word, literal, single}
+use Rattle.loop_lex.specs.Lexical.{double, StandsAt, IsLongest, word_kind, sign_kind, IsPiece}
+use Rattle.loop_lex.specs.Lexical.{blank_piece, comment_piece, token_piece, bad_piece, large_piece}
+use Rattle.loop_lex.specs.Lexical.{literal_kind, decimal, greatest}
 use Rattle.loop_lex.proofs.Forms.{single_no_run, double_no_run, digit_no_word, digits_continue}
 use Rattle.loop_lex.proofs.Runs.{prefix_len-cons, run-cons, run_passes, run_reaches, run_ends_line}
 

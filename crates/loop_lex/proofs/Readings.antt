@@ -1,5 +1,7 @@
 -- A text reads as one thing alone, and each token has the text of its span.
-use Rattle.std.proofs.Common.{◌≡◌, ◌≢◌, ℕ, ◌<◌, List, [], ◌∷◌, ◌++◌, length, codes, pos, ⊎_elim, eqb-true, Bool, true, false, not, ◌&&◌, ◌||◌, ◌==◌, if◌then◌else◌, Err, refl, sym, ap, subst, ◌∙◌, arith}
+use Rattle.std.proofs.Common.{◌≡◌, ◌≢◌, ℕ, ◌<◌, List, [], ◌∷◌, ◌++◌, length, codes, pos, ⊎_elim}
+use Rattle.std.proofs.Common.{eqb-true, Bool, true, false, not, ◌&&◌, ◌||◌, ◌==◌, if◌then◌else◌}
+use Rattle.std.proofs.Common.{Err, refl, sym, ap, subst, ◌∙◌, arith}
 use Rattle.std.specs.List.{list_all}
 use Rattle.std.proofs.lemmas.Bool.{and_parts, or_cases, or_left, or_right, not-true}
 use Rattle.loop_lex.specs.declared.token.TokenKind.TheVariants as kinds
@@ -8,7 +10,11 @@ use Rattle.loop_lex.specs.declared.token.TokenKind.{TokenKind}
 use Rattle.loop_lex.specs.declared.token.LexFault.{LexFault}
 use Rattle.loop_lex.specs.declared.token.LexFault.TheVariants as faults
 use Rattle.loop_lex.specs.Bytes.{is_one_of, is_blank, starts_word, is_single_sign, begins_double}
-use Rattle.loop_lex.specs.Lexical.{Form, AWord, ALiteral, ASign, IsForm, word, literal, single, double, IsLongest, IsKind, word_kind, sign_kind, literal_kind, IsComment, EndsLine, IsBad, Reading, before, ReadsAs, at_end, blank, comment, token, bad_byte, too_large, token_after, place_of, decimal, greatest, IsCause, IsOnlyReading}
+use Rattle.loop_lex.specs.Lexical.{Form, AWord, ALiteral, ASign, IsForm, word, literal, single}
+use Rattle.loop_lex.specs.Lexical.{double, IsLongest, IsKind, word_kind, sign_kind, literal_kind}
+use Rattle.loop_lex.specs.Lexical.{IsComment, EndsLine, IsBad, Reading, before, ReadsAs, at_end}
+use Rattle.loop_lex.specs.Lexical.{blank, comment, token, bad_byte, too_large, token_after}
+use Rattle.loop_lex.specs.Lexical.{place_of, decimal, greatest, IsCause, IsOnlyReading}
 use Rattle.loop_lex.proofs.Forms.{one_of, single_no_run, double_no_run, digit_no_word}
 
 -- a token stands at the front

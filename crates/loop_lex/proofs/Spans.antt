@@ -1,8 +1,11 @@
 -- Each token has the text of its span, and the spans are in order.
-use Rattle.std.proofs.Common.{◌≡◌, ℕ, ◌+◌, ◌-◌, ◌≤◌, List, [], ◌∷◌, ◌++◌, length, take, drop, Ok, Err, refl, sym, ap, subst, ◌∙◌, append_assoc, length-append, arith}
+use Rattle.std.proofs.Common.{◌≡◌, ℕ, ◌+◌, ◌-◌, ◌≤◌, List, [], ◌∷◌, ◌++◌, length, take, drop, Ok}
+use Rattle.std.proofs.Common.{Err, refl, sym, ap, subst, ◌∙◌, append_assoc, length-append, arith}
 use Rattle.loop_lex.specs.declared.token.Token.{Token}
 use Rattle.loop_lex.specs.declared.token.TokenKind.{TokenKind}
-use Rattle.loop_lex.specs.Lexical.{Form, IsLongest, IsKind, Reading, before, ReadsAs, at_end, blank, comment, token, bad_byte, too_large, token_after, place_of, text_of, AreInOrder, IsTokenOf, EachIsTokenOf}
+use Rattle.loop_lex.specs.Lexical.{Form, IsLongest, IsKind, Reading, before, ReadsAs, at_end, blank}
+use Rattle.loop_lex.specs.Lexical.{comment, token, bad_byte, too_large, token_after, place_of}
+use Rattle.loop_lex.specs.Lexical.{text_of, AreInOrder, IsTokenOf, EachIsTokenOf}
 use Rattle.loop_lex.proofs.Forms.{form_some}
 
 drop_front : (p y : List ℕ) → drop (length p) (p ++ y) ≡ y

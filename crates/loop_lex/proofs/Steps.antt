@@ -1,5 +1,7 @@
 -- How far a text has been read, one piece further.
-use Rattle.std.proofs.Common.{◌≡◌, ℕ, zero, suc, ◌+◌, ◌<◌, ◌≤◌, List, [], ◌∷◌, ◌++◌, length, take, drop, slice_index, true, Ok, Err, refl, sym, ap, subst, ◌∙◌, zero-add, length-take, length-drop, arith}
+use Rattle.std.proofs.Common.{◌≡◌, ℕ, zero, suc, ◌+◌, ◌<◌, ◌≤◌, List, [], ◌∷◌, ◌++◌, length, take}
+use Rattle.std.proofs.Common.{drop, slice_index, true, Ok, Err, refl, sym, ap, subst, ◌∙◌, zero-add}
+use Rattle.std.proofs.Common.{length-take, length-drop, arith}
 use Rattle.std.proofs.lemmas.List.{take-append-drop, drop_all}
 use Rattle.std.proofs.Math.Seq.{take-add, drop-nil}
 use Rattle.std.specs.List.{list_all}
@@ -9,7 +11,11 @@ use Rattle.loop_lex.specs.declared.token.TokenKind.{TokenKind}
 use Rattle.loop_lex.specs.declared.token.LexFault.{LexFault}
 use Rattle.loop_lex.specs.declared.token.LexFault.TheVariants as faults
 use Rattle.loop_lex.specs.declared.lexer.Piece.TheVariants as pieces
-use Rattle.loop_lex.specs.Lexical.{place_after, place_of, ALiteral, IsLongest, IsComment, IsPiece, blank_piece, comment_piece, token_piece, bad_piece, large_piece, Reading, before, ReadsAs, at_end, blank, comment, token, bad_byte, too_large, token_after, after_tokens, IsReadTo, AreTokensOf, IsFirstFault}
+use Rattle.loop_lex.specs.Lexical.{place_after, place_of, ALiteral, IsLongest, IsComment, IsPiece}
+use Rattle.loop_lex.specs.Lexical.{blank_piece, comment_piece, token_piece, bad_piece, large_piece}
+use Rattle.loop_lex.specs.Lexical.{Reading, before, ReadsAs, at_end, blank, comment, token}
+use Rattle.loop_lex.specs.Lexical.{bad_byte, too_large, token_after, after_tokens, IsReadTo}
+use Rattle.loop_lex.specs.Lexical.{AreTokensOf, IsFirstFault}
 use Rattle.loop_lex.proofs.Forms.{within_line, form_within, form_some}
 use Rattle.loop_lex.proofs.Places.{place_after-append, place_after-line, place_bounds}
 

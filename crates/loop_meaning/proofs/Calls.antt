@@ -1,5 +1,6 @@
 -- How calls end.
-use Rattle.std.proofs.Common.{◌≡◌, ℕ, zero, suc, ◌≤◌, ℤ, List, [], ◌∷◌, Option, Some, None, refl, sym, ap, subst, drop, length}
+use Rattle.std.proofs.Common.{◌≡◌, ℕ, zero, suc, ◌≤◌, ℤ, List, [], ◌∷◌, Option, Some, None, refl}
+use Rattle.std.proofs.Common.{sym, ap, subst, drop, length}
 use Rattle.std.proofs.Math.ListN.{drop_of_length-le}
 use Rattle.tp_value.specs.declared.TrapKind.TheVariants.{Deep}
 use Rattle.tp_value.specs.declared.Place.{Place}
@@ -8,7 +9,8 @@ use Rattle.tp_value.specs.declared.Stop.TheVariants.{Done, Trap, NoFuel}
 use Rattle.loop_syntax.specs.declared.Func.{Func}
 use Rattle.loop_syntax.specs.declared.Name.{Name}
 use Rattle.loop_meaning.specs.State.{State, Note, Ran, done, after, go_on, tick, noted, trapped}
-use Rattle.loop_meaning.specs.Statements.{Setting, Called, given, run_list, two_calls, with_call, set_var}
+use Rattle.loop_meaning.specs.Statements.{Setting, Called, given, run_list, two_calls, with_call}
+use Rattle.loop_meaning.specs.Statements.{set_var}
 use Rattle.loop_meaning.specs.Calls.{call_at, call_on, no_value, enter, bound}
 use Rattle.loop_rules.specs.Names.{func_of}
 use Rattle.loop_meaning.specs.Ends.{Ends, EndAlike, CallEnds}

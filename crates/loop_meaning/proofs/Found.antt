@@ -1,9 +1,12 @@
 -- What a search from the front finds.
-use Rattle.std.proofs.Common.{◌≡◌, ℕ, zero, suc, ◌<◌, ◌≤◌, ℤ, List, [], ◌∷◌, ◌++◌, true, false, length, get_or, take, drop, set, refl, Some, ap, subst, bytes_eq, drop-cons, arith, sym, ◌∙◌, Bool, if◌then◌else◌, ◌-◌, ◌+◌, min}
+use Rattle.std.proofs.Common.{◌≡◌, ℕ, zero, suc, ◌<◌, ◌≤◌, ℤ, List, [], ◌∷◌, ◌++◌, true, false}
+use Rattle.std.proofs.Common.{length, get_or, take, drop, set, refl, Some, ap, subst, bytes_eq}
+use Rattle.std.proofs.Common.{drop-cons, arith, sym, ◌∙◌, Bool, if◌then◌else◌, ◌-◌, ◌+◌, min}
 use Rattle.std.proofs.lemmas.List.{get_or_default, set-get_or, take_min, drop_min}
 use Rattle.tp_value.specs.declared.Table.{Table}
 use Rattle.loop_meaning.specs.declared.value.Variable.{Variable}
-use Rattle.loop_meaning.specs.State.{lookup, assign, table_of, write_cell, with_cell, has_cell, row_lines}
+use Rattle.loop_meaning.specs.State.{lookup, assign, table_of, write_cell, with_cell, has_cell}
+use Rattle.loop_meaning.specs.State.{row_lines}
 use Rattle.table_text.specs.RowText.{row_text}
 use Rattle.loop_rules.specs.Names.{operator_of}
 use Rattle.loop_syntax.specs.declared.Reduce.{Reduce}

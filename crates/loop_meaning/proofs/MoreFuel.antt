@@ -1,5 +1,7 @@
 -- A run that doesn't stop for want of fuel is the same with more fuel.
-use Rattle.std.proofs.Common.{◌≡◌, ◌<◌, ◌≤◌, ◌+◌, ◌-◌, ◌∷◌, [], ℕ, zero, suc, ℤ, pos, negsuc, ◌+ℤ◌, List, Option, Some, None, Bool, true, false, nat_lt, length, refl, sym, ap, ◌∙◌, arith}
+use Rattle.std.proofs.Common.{◌≡◌, ◌<◌, ◌≤◌, ◌+◌, ◌-◌, ◌∷◌, [], ℕ, zero, suc, ℤ, pos, negsuc, ◌+ℤ◌}
+use Rattle.std.proofs.Common.{List, Option, Some, None, Bool, true, false, nat_lt, length, refl}
+use Rattle.std.proofs.Common.{sym, ap, ◌∙◌, arith}
 use Rattle.std.specs.Int.{int_gap}
 use Rattle.std.proofs.lemmas.Bool.{ltb-true}
 use Rattle.std.proofs.lemmas.Bool.Decides.{nat_tests}
@@ -12,17 +14,23 @@ use Rattle.loop_syntax.specs.declared.Expr.{Expr}
 use Rattle.loop_syntax.specs.declared.Name.{Name}
 use Rattle.loop_syntax.specs.declared.Reduce.{Reduce}
 use Rattle.loop_syntax.specs.declared.Stmt.{Stmt, Row_of-Stmt, end_of-Stmt, more_of-Stmt}
-use Rattle.loop_syntax.specs.declared.Stmt.TheVariants.{Let, Set, Put, If', While', Loop', Par', Fold, Call, Both, Print, Emit}
+use Rattle.loop_syntax.specs.declared.Stmt.TheVariants.{Let, Set, Put, If', While', Loop', Par'}
+use Rattle.loop_syntax.specs.declared.Stmt.TheVariants.{Fold, Call, Both, Print, Emit}
 use Rattle.loop_syntax.specs.declared.Func.{Func}
 use Rattle.loop_syntax.specs.declared.Program.{Program}
 use Rattle.loop_rules.specs.Names.{func_of}
 use Rattle.loop_meaning.specs.declared.value.Answer.{Answer}
 use Rattle.loop_meaning.specs.declared.value.Answer.TheVariants.{Number, Traps}
-use Rattle.loop_meaning.specs.State.{declare, State, Note, Chance, Ran, done, noted, after, go_on, tick, leave_block}
+use Rattle.loop_meaning.specs.State.{declare, State, Note, Chance, Ran, done, noted, after, go_on}
+use Rattle.loop_meaning.specs.State.{tick, leave_block}
 use Rattle.loop_meaning.specs.Expressions.{eval}
-use Rattle.loop_meaning.specs.Statements.{Setting, Called, given, given_answer, given_two, given_all, choose, block, turns, iteration, iterate, too_wide, unless_wide, with_call, set_var, two_calls, run, run_all, run_list}
+use Rattle.loop_meaning.specs.Statements.{Setting, Called, given, given_answer, given_two}
+use Rattle.loop_meaning.specs.Statements.{given_all, choose, block, turns, iteration, iterate}
+use Rattle.loop_meaning.specs.Statements.{too_wide, unless_wide, with_call, set_var, two_calls, run}
+use Rattle.loop_meaning.specs.Statements.{run_all, run_list}
 use Rattle.loop_meaning.specs.Calls.{call_at, call_on, enter, bound, returned, setting}
-use Rattle.loop_meaning.specs.Meaning.{make_tables, input_cells, first_state, whole_run, outcome_of, meaning, count_chances, chances}
+use Rattle.loop_meaning.specs.Meaning.{make_tables, input_cells, first_state, whole_run, outcome_of}
+use Rattle.loop_meaning.specs.Meaning.{meaning, count_chances, chances}
 
 -- q is the run r, where that didn't stop for want of fuel
 pub record Same (r q : Ran) : Type 0 where

@@ -1,12 +1,16 @@
 -- Numbers stay in the range of 64 bits.
-use Rattle.std.proofs.Common.{◌≡◌, ◌<◌, ◌+◌, ℕ, zero, suc, ℤ, pos, negsuc, ◌+ℤ◌, ◌-ℤ◌, ◌*ℤ◌, List, [], ◌∷◌, Option, Some, None, Bool, true, false, not, cond, ◌||◌, nat_lt, length, bytes_eq, get_or, int_div, int_rem, int_lt, int_le, unsigned_abs, ◌*◌, All, refl, sym, ◌∙◌, subst, arith}
+use Rattle.std.proofs.Common.{◌≡◌, ◌<◌, ◌+◌, ℕ, zero, suc, ℤ, pos, negsuc, ◌+ℤ◌, ◌-ℤ◌, ◌*ℤ◌, List}
+use Rattle.std.proofs.Common.{[], ◌∷◌, Option, Some, None, Bool, true, false, not, cond, ◌||◌}
+use Rattle.std.proofs.Common.{nat_lt, length, bytes_eq, get_or, int_div, int_rem, int_lt, int_le}
+use Rattle.std.proofs.Common.{unsigned_abs, ◌*◌, All, refl, sym, ◌∙◌, subst, arith}
 use Rattle.std.specs.Int.{int_gap, w64}
 use Rattle.std.specs.Ordering.{int_eq}
 use Rattle.std.specs.Prelude.{⊤}
 use Rattle.std.proofs.lemmas.Bool.{true≢false}
 use Rattle.std.proofs.lemmas.Int.{ints, SFits-int_wrap}
 use Rattle.std.proofs.lemmas.List.{get_or_past}
-use Rattle.std.proofs.lemmas.List.Elements.{All-nil, All-cons, All-head, All-tail, All-append, All-take, All-set, All-get_or, All-replicate}
+use Rattle.std.proofs.lemmas.List.Elements.{All-nil, All-cons, All-head, All-tail, All-append}
+use Rattle.std.proofs.lemmas.List.Elements.{All-take, All-set, All-get_or, All-replicate}
 use native.Mathlib.Decide.{dec_lt}
 use Rattle.tp_value.specs.Number.{truth}
 use Rattle.tp_value.specs.declared.limits.TheConstants.{MAX_TABLE_CELLS}
@@ -23,7 +27,8 @@ use Rattle.loop_syntax.specs.declared.Expr.{Expr}
 use Rattle.loop_syntax.specs.declared.Expr.TheVariants.{Int, Var, Cell', Rows, Cols, Neg', Bin'}
 use Rattle.loop_syntax.specs.declared.Reduce.{Reduce}
 use Rattle.loop_syntax.specs.declared.Stmt.{Stmt, Row_of-Stmt, end_of-Stmt, more_of-Stmt}
-use Rattle.loop_syntax.specs.declared.Stmt.TheVariants.{Let, Set, Put, If', While', Loop', Par', Fold, Call, Both, Print, Emit}
+use Rattle.loop_syntax.specs.declared.Stmt.TheVariants.{Let, Set, Put, If', While', Loop', Par'}
+use Rattle.loop_syntax.specs.declared.Stmt.TheVariants.{Fold, Call, Both, Print, Emit}
 use Rattle.loop_syntax.specs.declared.Func.{Func}
 use Rattle.loop_syntax.specs.declared.TableDecl.{TableDecl}
 use Rattle.loop_syntax.specs.declared.TableDecl.TheVariants.{Input, Made}
@@ -34,12 +39,22 @@ use Rattle.reduce_ops.specs.Laws.{combine_fits}
 use Rattle.loop_meaning.specs.declared.value.Answer.{Answer}
 use Rattle.loop_meaning.specs.declared.value.Answer.TheVariants.{Number, Traps}
 use Rattle.loop_meaning.specs.declared.value.Variable.{Variable}
-use Rattle.loop_meaning.specs.State.{lookup, assign, declare, table_of, has_cell, cell_of, cell_number, with_cell, write_cell, print_line, print_table, State, Note, Emits, Chance, Ran, done, trapped, noted, after, go_on, tick, leave_block}
-use Rattle.loop_meaning.specs.Expressions.{Value, eval, bind, bind_answer, read_cell, calculated, divided}
-use Rattle.loop_meaning.specs.Statements.{Setting, Called, given, given_answer, given_two, given_all, set_var, folded, put_cell, choose, block, turns, iteration, iterate, too_wide, unless_wide, with_call, two_calls, run, run_all, run_list}
+use Rattle.loop_meaning.specs.State.{lookup, assign, declare, table_of, has_cell, cell_of}
+use Rattle.loop_meaning.specs.State.{cell_number, with_cell, write_cell, print_line, print_table}
+use Rattle.loop_meaning.specs.State.{State, Note, Emits, Chance, Ran, done, trapped, noted, after}
+use Rattle.loop_meaning.specs.State.{go_on, tick, leave_block}
+use Rattle.loop_meaning.specs.Expressions.{Value, eval, bind, bind_answer, read_cell, calculated}
+use Rattle.loop_meaning.specs.Expressions.{divided}
+use Rattle.loop_meaning.specs.Statements.{Setting, Called, given, given_answer, given_two}
+use Rattle.loop_meaning.specs.Statements.{given_all, set_var, folded, put_cell, choose, block}
+use Rattle.loop_meaning.specs.Statements.{turns, iteration, iterate, too_wide, unless_wide}
+use Rattle.loop_meaning.specs.Statements.{with_call, two_calls, run, run_all, run_list}
 use Rattle.loop_meaning.specs.Calls.{bound, number_in, enter, no_value, call_on, call_at, setting}
-use Rattle.loop_meaning.specs.Meaning.{input_cells, is_bad_size, is_too_large, zero_table, add_table, unless_large, make_tables, first_state, whole_run}
-use Rattle.loop_meaning.specs.InRange.{InRange, VariableInRange, TableInRange, StateInRange, ExprInRange, StmtInRange, BlockInRange, FuncInRange, DeclInRange, ProgramInRange}
+use Rattle.loop_meaning.specs.Meaning.{input_cells, is_bad_size, is_too_large, zero_table}
+use Rattle.loop_meaning.specs.Meaning.{add_table, unless_large, make_tables, first_state, whole_run}
+use Rattle.loop_meaning.specs.InRange.{InRange, VariableInRange, TableInRange, StateInRange}
+use Rattle.loop_meaning.specs.InRange.{ExprInRange, StmtInRange, BlockInRange, FuncInRange}
+use Rattle.loop_meaning.specs.InRange.{DeclInRange, ProgramInRange}
 
 zero_in : InRange (pos 0)
 zero_in = omega (arith, ints)

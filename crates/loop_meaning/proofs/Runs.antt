@@ -1,5 +1,8 @@
 -- How the ends of runs compose.
-use Rattle.std.proofs.Common.{◌≡◌, ℕ, zero, suc, ◌+◌, ◌-◌, ◌<◌, ◌≤◌, ℤ, pos, negsuc, ◌+ℤ◌, List, [], ◌∷◌, refl, sym, ap, subst, ◌∙◌, arith, SFits, of_z, to_z, ◌%◌, ◌^◌, Bool, true, false, take, drop, length, get_or, drop-cons, Vec, Result, Ok, Err, IfOk}
+use Rattle.std.proofs.Common.{◌≡◌, ℕ, zero, suc, ◌+◌, ◌-◌, ◌<◌, ◌≤◌, ℤ, pos, negsuc, ◌+ℤ◌, List, []}
+use Rattle.std.proofs.Common.{◌∷◌, refl, sym, ap, subst, ◌∙◌, arith, SFits, of_z, to_z, ◌%◌, ◌^◌}
+use Rattle.std.proofs.Common.{Bool, true, false, take, drop, length, get_or, drop-cons, Vec, Result}
+use Rattle.std.proofs.Common.{Ok, Err, IfOk}
 use mathlib.Core.Path.{fun_ext}
 use Rattle.std.specs.Int.{w64}
 use Rattle.std.proofs.lemmas.Int.{ints, to_z-of_z}
@@ -9,7 +12,8 @@ use Rattle.tp_value.specs.declared.Stop.{Stop}
 use Rattle.tp_value.specs.declared.Stop.TheVariants.{Done, Trap, NoFuel}
 use Rattle.loop_syntax.specs.declared.Expr.{Expr}
 use Rattle.std.specs.declared.alloc.Global.{Global}
-use Rattle.loop_syntax.specs.declared.Stmt.{Stmt, Row_of-Stmt, end_of-Stmt, more_of-Stmt, items-the_row-Stmt, items_hidden-the_row-Stmt-0}
+use Rattle.loop_syntax.specs.declared.Stmt.{Stmt, Row_of-Stmt, end_of-Stmt, more_of-Stmt}
+use Rattle.loop_syntax.specs.declared.Stmt.{items-the_row-Stmt, items_hidden-the_row-Stmt-0}
 use Rattle.loop_syntax.specs.declared.Stmt.TheBlock.{hidden-the_row-Stmt-0}
 use Rattle.loop_syntax.specs.declared.Stmt.TheVariants.{If, While, Loop, Par}
 use Rattle.loop_syntax.specs.declared.ParLoop.{ParLoop}
@@ -17,8 +21,11 @@ use Rattle.loop_syntax.specs.declared.Name.{Name}
 use Rattle.std.specs.Int.{int_gap}
 use Rattle.loop_meaning.specs.declared.value.Answer.{Answer}
 use Rattle.loop_meaning.specs.declared.value.Answer.TheVariants.{Number, Traps}
-use Rattle.loop_meaning.specs.State.{State, Note, Chance, Ran, done, after, go_on, tick, leave_block, noted}
-use Rattle.loop_meaning.specs.Statements.{Setting, given, given_two, given_answer, unless_wide, too_wide, choose, run, run_all, run_list, turns, iterate, iteration, block}
+use Rattle.loop_meaning.specs.State.{State, Note, Chance, Ran, done, after, go_on, tick}
+use Rattle.loop_meaning.specs.State.{leave_block, noted}
+use Rattle.loop_meaning.specs.Statements.{Setting, given, given_two, given_answer, unless_wide}
+use Rattle.loop_meaning.specs.Statements.{too_wide, choose, run, run_all, run_list, turns, iterate}
+use Rattle.loop_meaning.specs.Statements.{iteration, block}
 use Rattle.loop_meaning.specs.Expressions.{eval}
 use Rattle.loop_meaning.specs.Ends.{Ends, EndAlike}
 

@@ -1,6 +1,9 @@
 -- What notes in a row tell, and expressions over tables that are seen alike.
-use Rattle.std.proofs.Common.{◌≡◌, ◌<◌, ◌++◌, ◌∷◌, [], ℕ, ℤ, pos, zero, suc, negsuc, List, Bool, true, false, Contains, slice_index_or, int_div, int_rem, ◌⊎◌, inl, inr, refl, sym, ap, subst, ◌∙◌, arith}
-use Rattle.std.proofs.lemmas.List.Elements.{Contains-append_left, Contains-append_right, Contains-append_cases}
+use Rattle.std.proofs.Common.{◌≡◌, ◌<◌, ◌++◌, ◌∷◌, [], ℕ, ℤ, pos, zero, suc, negsuc, List, Bool}
+use Rattle.std.proofs.Common.{true, false, Contains, slice_index_or, int_div, int_rem, ◌⊎◌, inl}
+use Rattle.std.proofs.Common.{inr, refl, sym, ap, subst, ◌∙◌, arith}
+use Rattle.std.proofs.lemmas.List.Elements.{Contains-append_left, Contains-append_right}
+use Rattle.std.proofs.lemmas.List.Elements.{Contains-append_cases}
 use Rattle.tp_value.specs.declared.Place.{Place}
 use Rattle.tp_value.specs.declared.TrapKind.TheVariants.{Index}
 use Rattle.tp_value.specs.declared.Table.{Table}
@@ -12,8 +15,10 @@ use Rattle.loop_syntax.specs.declared.Expr.TheVariants.{Int, Var, Cell', Rows, C
 use Rattle.loop_meaning.specs.declared.value.Answer.{Answer}
 use Rattle.loop_meaning.specs.declared.value.Answer.TheVariants.{Number, Traps}
 use Rattle.loop_meaning.specs.declared.value.Variable.{Variable}
-use Rattle.loop_meaning.specs.State.{table_of, has_cell, cell_of, Note, Reads, Writes, Emits, Chance}
-use Rattle.loop_meaning.specs.Expressions.{Value, number, eval, bind, bind_answer, traps, read_cell, calculated, divided}
+use Rattle.loop_meaning.specs.State.{table_of, has_cell, cell_of, Note, Reads, Writes, Emits}
+use Rattle.loop_meaning.specs.State.{Chance}
+use Rattle.loop_meaning.specs.Expressions.{Value, number, eval, bind, bind_answer, traps, read_cell}
+use Rattle.loop_meaning.specs.Expressions.{calculated, divided}
 use Rattle.loop_meaning.specs.Cells.{Cell, read_cells, write_cells}
 use Rattle.loop_meaning.specs.Told.{Shape, printed_tables, SeenAlike}
 use Rattle.loop_meaning.proofs.WrittenCells.{shape_at, has_at, read_alike}

@@ -1,5 +1,8 @@
 -- Every run keeps within its fuel, and its output only grows.
-use Rattle.std.proofs.Common.{◌≡◌, ◌<◌, ◌≤◌, ◌+◌, ◌*◌, unsigned_abs, ◌++◌, ◌∷◌, [], ℕ, zero, suc, ℤ, pos, negsuc, ◌+ℤ◌, List, Option, Some, None, Bool, true, false, nat_lt, length, refl, sym, ap, ◌∙◌, append_assoc, zero-le, ◌↔◌, ◌⊎◌, inl, inr, arith}
+use Rattle.std.proofs.Common.{◌≡◌, ◌<◌, ◌≤◌, ◌+◌, ◌*◌, unsigned_abs, ◌++◌, ◌∷◌, [], ℕ, zero, suc, ℤ}
+use Rattle.std.proofs.Common.{pos, negsuc, ◌+ℤ◌, List, Option, Some, None, Bool, true, false}
+use Rattle.std.proofs.Common.{nat_lt, length, refl, sym, ap, ◌∙◌, append_assoc, zero-le, ◌↔◌, ◌⊎◌}
+use Rattle.std.proofs.Common.{inl, inr, arith}
 use Rattle.std.specs.Int.{int_gap}
 use Rattle.std.proofs.lemmas.List.{append-nil}
 use Rattle.std.proofs.lemmas.Bool.{ltb-true, ltb-false}
@@ -12,7 +15,8 @@ use Rattle.loop_syntax.specs.declared.Expr.{Expr}
 use Rattle.loop_syntax.specs.declared.Name.{Name}
 use Rattle.loop_syntax.specs.declared.App.{App}
 use Rattle.loop_syntax.specs.declared.Stmt.{Stmt, Row_of-Stmt, end_of-Stmt, more_of-Stmt}
-use Rattle.loop_syntax.specs.declared.Stmt.TheVariants.{Let, Set, Put, If', While', Loop', Par', Fold, Call, Both, Print, Emit}
+use Rattle.loop_syntax.specs.declared.Stmt.TheVariants.{Let, Set, Put, If', While', Loop', Par'}
+use Rattle.loop_syntax.specs.declared.Stmt.TheVariants.{Fold, Call, Both, Print, Emit}
 use Rattle.loop_syntax.specs.declared.Func.{Func}
 use Rattle.loop_syntax.specs.declared.TableDecl.{TableDecl}
 use Rattle.loop_syntax.specs.declared.TableDecl.TheVariants.{Input, Made}
@@ -20,11 +24,16 @@ use Rattle.loop_syntax.specs.declared.Program.{Program}
 use Rattle.loop_rules.specs.Names.{func_of}
 use Rattle.loop_meaning.specs.declared.value.Answer.{Answer}
 use Rattle.loop_meaning.specs.declared.value.Answer.TheVariants.{Number, Traps}
-use Rattle.loop_meaning.specs.State.{table_of, has_cell, declare, State, Note, Emits, Ran, done, trapped, noted, after, go_on, tick, leave_block}
+use Rattle.loop_meaning.specs.State.{table_of, has_cell, declare, State, Note, Emits, Ran, done}
+use Rattle.loop_meaning.specs.State.{trapped, noted, after, go_on, tick, leave_block}
 use Rattle.loop_meaning.specs.Expressions.{eval}
-use Rattle.loop_meaning.specs.Statements.{Setting, Called, given, given_answer, given_two, given_all, choose, block, turns, iteration, iterate, unless_wide, put_cell, run_call, run_both, run, run_all, run_list}
+use Rattle.loop_meaning.specs.Statements.{Setting, Called, given, given_answer, given_two}
+use Rattle.loop_meaning.specs.Statements.{given_all, choose, block, turns, iteration, iterate}
+use Rattle.loop_meaning.specs.Statements.{unless_wide, put_cell, run_call, run_both, run, run_all}
+use Rattle.loop_meaning.specs.Statements.{run_list}
 use Rattle.loop_meaning.specs.Calls.{call_at, call_on, enter, bound, setting}
-use Rattle.loop_meaning.specs.Meaning.{make_tables, unless_large, add_table, zero_table, is_too_large, input_cells, first_state, whole_run, meaning}
+use Rattle.loop_meaning.specs.Meaning.{make_tables, unless_large, add_table, zero_table}
+use Rattle.loop_meaning.specs.Meaning.{is_too_large, input_cells, first_state, whole_run, meaning}
 
 -- a run from a state within the fuel
 pub record Sound (fuel : ℕ) (s : State) (r : Ran) : Type 0 where

@@ -1,12 +1,14 @@
 -- The notes tell all that a run does to tables, and what is before a run moves its ticks and its output.
-use Rattle.std.proofs.Common.{◌≡◌, ◌<◌, ◌≤◌, ◌+◌, ◌-◌, ◌∷◌, [], ℕ, ℤ, List, true, false, Contains, All, inl, inr, refl, sym, ap, subst, ◌∙◌, arith}
+use Rattle.std.proofs.Common.{◌≡◌, ◌<◌, ◌≤◌, ◌+◌, ◌-◌, ◌∷◌, [], ℕ, ℤ, List, true, false, Contains}
+use Rattle.std.proofs.Common.{All, inl, inr, refl, sym, ap, subst, ◌∙◌, arith}
 use Rattle.std.proofs.lemmas.List.Elements.{All-nil, All-cons, All-head, All-tail}
 use Rattle.tp_value.specs.declared.limits.TheConstants.{MAX_CALL_DEPTH}
 use Rattle.tp_value.specs.declared.Place.{Place}
 use Rattle.tp_value.specs.declared.Table.{Table}
 use Rattle.loop_syntax.specs.declared.Reduce.{Reduce}
 use Rattle.loop_syntax.specs.declared.Stmt.{Stmt, Row_of-Stmt, end_of-Stmt, more_of-Stmt}
-use Rattle.loop_syntax.specs.declared.Stmt.TheVariants.{Let, Set, Put, If', While', Loop', Par', Fold, Call, Both, Print, Emit}
+use Rattle.loop_syntax.specs.declared.Stmt.TheVariants.{Let, Set, Put, If', While', Loop', Par'}
+use Rattle.loop_syntax.specs.declared.Stmt.TheVariants.{Fold, Call, Both, Print, Emit}
 use Rattle.loop_syntax.specs.declared.Func.{Func}
 use Rattle.loop_syntax.specs.declared.Program.{Program}
 use Rattle.loop_meaning.specs.State.{State, Note, Ran}
@@ -14,9 +16,12 @@ use Rattle.loop_meaning.specs.Statements.{Called, iterate, run_list}
 use Rattle.loop_meaning.specs.Calls.{call_at, setting}
 use Rattle.loop_meaning.specs.Cells.{Cell, write_cells}
 use Rattle.loop_meaning.specs.Only.{StmtOnly, BlockOnly, PrintsNothing, OnlyCounts}
-use Rattle.loop_meaning.specs.Told.{shapes, number_at, SeenAlike, AlikeOver, NotesTell, CallNotesTell, moved, moved_ran, Spent, Moves, CallMoves}
-use Rattle.loop_meaning.proofs.Seen.{no_writes_is, writes_left, writes_right, writes_cases, contains_none, contains_only}
-use Rattle.loop_meaning.proofs.Traces.{Tells, Traced, CallsTraced, traced_iterate, traced_list, traced_call, any_list, any_funcs}
+use Rattle.loop_meaning.specs.Told.{shapes, number_at, SeenAlike, AlikeOver, NotesTell}
+use Rattle.loop_meaning.specs.Told.{CallNotesTell, moved, moved_ran, Spent, Moves, CallMoves}
+use Rattle.loop_meaning.proofs.Seen.{no_writes_is, writes_left, writes_right, writes_cases}
+use Rattle.loop_meaning.proofs.Seen.{contains_none, contains_only}
+use Rattle.loop_meaning.proofs.Traces.{Tells, Traced, CallsTraced, traced_iterate, traced_list}
+use Rattle.loop_meaning.proofs.Traces.{traced_call, any_list, any_funcs}
 use Rattle.loop_meaning.proofs.Twins.{Within, shift, Like, Twin, Twins, twins_iterate}
 use Rattle.loop_meaning.proofs.TwinCalls.{TwinCalls, CallsTwin, twins_list, twins_call}
 use Rattle.loop_meaning.proofs.WrittenCells.{shapes_written, number_kept}

@@ -1,5 +1,7 @@
 -- What every run does to tables and output, and what it notes, put together from what one note tells.
-use Rattle.std.proofs.Common.{◌≡◌, ◌+◌, ◌++◌, ◌∷◌, [], ℕ, zero, suc, ℤ, pos, negsuc, ◌+ℤ◌, List, Option, Some, None, Bool, true, false, cond, nat_lt, length, bytes_eq, int_div, int_rem, All, refl}
+use Rattle.std.proofs.Common.{◌≡◌, ◌+◌, ◌++◌, ◌∷◌, [], ℕ, zero, suc, ℤ, pos, negsuc, ◌+ℤ◌, List}
+use Rattle.std.proofs.Common.{Option, Some, None, Bool, true, false, cond, nat_lt, length, bytes_eq}
+use Rattle.std.proofs.Common.{int_div, int_rem, All, refl}
 use Rattle.std.specs.Int.{int_gap}
 use Rattle.std.specs.Prelude.{⊤}
 use Rattle.std.proofs.lemmas.List.Elements.{All-nil, All-cons, All-head, All-tail}
@@ -15,15 +17,22 @@ use Rattle.loop_syntax.specs.declared.Expr.{Expr}
 use Rattle.loop_syntax.specs.declared.Expr.TheVariants.{Int, Var, Cell', Rows, Cols, Neg', Bin'}
 use Rattle.loop_syntax.specs.declared.Reduce.{Reduce}
 use Rattle.loop_syntax.specs.declared.Stmt.{Stmt, Row_of-Stmt, end_of-Stmt, more_of-Stmt}
-use Rattle.loop_syntax.specs.declared.Stmt.TheVariants.{Let, Set, Put, If', While', Loop', Par', Fold, Call, Both, Print, Emit}
+use Rattle.loop_syntax.specs.declared.Stmt.TheVariants.{Let, Set, Put, If', While', Loop', Par'}
+use Rattle.loop_syntax.specs.declared.Stmt.TheVariants.{Fold, Call, Both, Print, Emit}
 use Rattle.loop_syntax.specs.declared.Func.{Func}
 use Rattle.loop_rules.specs.Names.{func_of}
 use Rattle.loop_meaning.specs.declared.value.Answer.{Answer}
 use Rattle.loop_meaning.specs.declared.value.Answer.TheVariants.{Number, Traps}
 use Rattle.loop_meaning.specs.declared.value.Variable.{Variable}
-use Rattle.loop_meaning.specs.State.{declare, table_of, has_cell, write_cell, State, Note, Reads, Writes, Emits, Chance, Ran, done, trapped, noted, after, go_on, tick, leave_block}
-use Rattle.loop_meaning.specs.Expressions.{Value, eval, bind, bind_answer, read_cell, calculated, divided}
-use Rattle.loop_meaning.specs.Statements.{Setting, Called, given, given_answer, given_two, given_all, set_var, put_cell, choose, block, turns, iteration, iterate, too_wide, unless_wide, with_call, two_calls, run, run_all, run_list}
+use Rattle.loop_meaning.specs.State.{declare, table_of, has_cell, write_cell, State, Note, Reads}
+use Rattle.loop_meaning.specs.State.{Writes, Emits, Chance, Ran, done, trapped, noted, after, go_on}
+use Rattle.loop_meaning.specs.State.{tick, leave_block}
+use Rattle.loop_meaning.specs.Expressions.{Value, eval, bind, bind_answer, read_cell, calculated}
+use Rattle.loop_meaning.specs.Expressions.{divided}
+use Rattle.loop_meaning.specs.Statements.{Setting, Called, given, given_answer, given_two}
+use Rattle.loop_meaning.specs.Statements.{given_all, set_var, put_cell, choose, block, turns}
+use Rattle.loop_meaning.specs.Statements.{iteration, iterate, too_wide, unless_wide, with_call}
+use Rattle.loop_meaning.specs.Statements.{two_calls, run, run_all, run_list}
 use Rattle.loop_meaning.specs.Calls.{bound, enter, no_value, call_on, call_at}
 use Rattle.loop_meaning.specs.Only.{StmtOnly, BlockOnly}
 

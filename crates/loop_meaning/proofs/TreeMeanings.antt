@@ -1,5 +1,6 @@
 -- The run of a program, its meaning and its chances, by its tree alone.
-use Rattle.std.proofs.Common.{◌≡◌, ◌∷◌, [], ℕ, zero, suc, ◌+◌, ◌*◌, ℤ, pos, Bool, true, false, cond, List, map, Option, Some, None, bytes_eq, refl, sym, ap, ◌∙◌}
+use Rattle.std.proofs.Common.{◌≡◌, ◌∷◌, [], ℕ, zero, suc, ◌+◌, ◌*◌, ℤ, pos, Bool, true, false, cond}
+use Rattle.std.proofs.Common.{List, map, Option, Some, None, bytes_eq, refl, sym, ap, ◌∙◌}
 use mathlib.Core.Path.{fun_ext}
 use Rattle.std.specs.Prelude.{◌-ℤ◌, ◌-◌, unsigned_abs, option_map, replicate}
 use Rattle.std.specs.Int.{int_gap}
@@ -11,25 +12,40 @@ use Rattle.tp_value.specs.declared.values.Table.{Table}
 use Rattle.tp_value.specs.declared.values.TrapKind.TheVariants.{Index, Deep}
 use Rattle.loop_syntax.specs.declared.expression.Name.{Name}
 use Rattle.loop_syntax.specs.declared.expression.Expr.{Expr}
-use Rattle.loop_syntax.specs.declared.expression.Expr.TheVariants.{Int, Var, Cell', Rows, Cols, Neg', Bin'}
+use Rattle.loop_syntax.specs.declared.expression.Expr.TheVariants.{Int, Var, Cell', Rows, Cols}
+use Rattle.loop_syntax.specs.declared.expression.Expr.TheVariants.{Neg', Bin'}
 use Rattle.loop_syntax.specs.declared.statement.Reduce.{Reduce}
 use Rattle.loop_syntax.specs.declared.statement.Stmt.{Stmt, Row_of-Stmt, end_of-Stmt, more_of-Stmt}
-use Rattle.loop_syntax.specs.declared.statement.Stmt.TheVariants.{Let, Set, Put, If', While', Loop', Par', Fold, Call, Both, Print, Emit}
+use Rattle.loop_syntax.specs.declared.statement.Stmt.TheVariants.{Let, Set, Put, If', While', Loop'}
+use Rattle.loop_syntax.specs.declared.statement.Stmt.TheVariants.{Par', Fold, Call, Both, Print}
+use Rattle.loop_syntax.specs.declared.statement.Stmt.TheVariants.{Emit}
 use Rattle.loop_syntax.specs.declared.program.Func.{Func}
 use Rattle.loop_syntax.specs.declared.program.Program.{Program}
 use Rattle.loop_syntax.specs.declared.program.TableDecl.{TableDecl}
 use Rattle.loop_syntax.specs.declared.program.TableDecl.TheVariants.{Input, Made}
-use Rattle.loop_syntax.specs.Tree.{Spelled, spelled, Tree, TInt, TVar, TCell, TRows, TCols, TNeg, TBin, tree_of, ReduceTree, reduce_of, AppTree, app_of, ParHead, Node, NLet, NSet, NPut, NIf, NWhile, NLoop, NPar, NFold, NCall, NBoth, NPrint, NEmit, Nodes, Last, Then, node_of, nodes_of, TableTree, TInput, TMade, FuncTree, ProgramTree, program_of}
+use Rattle.loop_syntax.specs.Tree.{Spelled, spelled, Tree, TInt, TVar, TCell, TRows, TCols, TNeg}
+use Rattle.loop_syntax.specs.Tree.{TBin, tree_of, ReduceTree, reduce_of, AppTree, app_of, ParHead}
+use Rattle.loop_syntax.specs.Tree.{Node, NLet, NSet, NPut, NIf, NWhile, NLoop, NPar, NFold, NCall}
+use Rattle.loop_syntax.specs.Tree.{NBoth, NPrint, NEmit, Nodes, Last, Then, node_of, nodes_of}
+use Rattle.loop_syntax.specs.Tree.{TableTree, TInput, TMade, FuncTree, ProgramTree, program_of}
 use Rattle.loop_syntax.specs.Tree as trees
 use Rattle.loop_rules.specs.Names.{func_of, operator_of}
 use Rattle.loop_rules.proofs.TreeNodes.{node_rows, rows_of, row_nodes}
 use Rattle.loop_meaning.specs.declared.value.Answer.TheVariants.{Number}
 use Rattle.loop_meaning.specs.declared.value.Variable.{Variable}
-use Rattle.loop_meaning.specs.Calls.{bound, number_in, returned, enter, no_value, call_on, call_at, setting}
+use Rattle.loop_meaning.specs.Calls.{bound, number_in, returned, enter, no_value, call_on, call_at}
+use Rattle.loop_meaning.specs.Calls.{setting}
 use Rattle.loop_meaning.specs.Expressions.{Value, number, traps, bind, calculated, eval}
-use Rattle.loop_meaning.specs.Meaning.{cell_count, input_cells, is_too_large, zero_table, add_table, unless_large, make_tables, first_state, whole_run, outcome_of, meaning, count_chances, chances}
-use Rattle.loop_meaning.specs.State.{lookup, assign, declare, table_of, has_cell, cell_of, write_cell, print_line, print_table, State, Note, Reads, Writes, Emits, Chance, Ran, done, trapped, out_of_fuel, noted, after, tick}
-use Rattle.loop_meaning.specs.Statements.{given_answer, given, given_two, given_all, folded, choose, block, turns, iterate, unless_wide, too_wide, Called, with_call, Setting, two_calls, run, run_all, run_list}
+use Rattle.loop_meaning.specs.Meaning.{cell_count, input_cells, is_too_large, zero_table, add_table}
+use Rattle.loop_meaning.specs.Meaning.{unless_large, make_tables, first_state, whole_run}
+use Rattle.loop_meaning.specs.Meaning.{outcome_of, meaning, count_chances, chances}
+use Rattle.loop_meaning.specs.State.{lookup, assign, declare, table_of, has_cell, cell_of}
+use Rattle.loop_meaning.specs.State.{write_cell, print_line, print_table, State, Note, Reads}
+use Rattle.loop_meaning.specs.State.{Writes, Emits, Chance, Ran, done, trapped, out_of_fuel, noted}
+use Rattle.loop_meaning.specs.State.{after, tick}
+use Rattle.loop_meaning.specs.Statements.{given_answer, given, given_two, given_all, folded, choose}
+use Rattle.loop_meaning.specs.Statements.{block, turns, iterate, unless_wide, too_wide, Called}
+use Rattle.loop_meaning.specs.Statements.{with_call, Setting, two_calls, run, run_all, run_list}
 
 -- ---- expressions
 

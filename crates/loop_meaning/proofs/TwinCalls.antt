@@ -1,5 +1,6 @@
 -- Two runs of statements and of calls: over other tables that are seen alike, with more ticks and output before.
-use Rattle.std.proofs.Common.{◌≡◌, ◌+◌, ◌++◌, ◌∷◌, [], ℕ, zero, suc, ℤ, List, Option, Some, None, inl, inr, refl, sym, ap, subst, ◌∙◌}
+use Rattle.std.proofs.Common.{◌≡◌, ◌+◌, ◌++◌, ◌∷◌, [], ℕ, zero, suc, ℤ, List, Option, Some, None}
+use Rattle.std.proofs.Common.{inl, inr, refl, sym, ap, subst, ◌∙◌}
 use mathlib.Core.Path.{fun_ext}
 use Rattle.std.specs.Int.{int_gap}
 use Rattle.tp_value.specs.declared.Place.{Place}
@@ -10,16 +11,24 @@ use Rattle.tp_value.specs.declared.Table.{Table}
 use Rattle.loop_syntax.specs.declared.Name.{Name}
 use Rattle.loop_syntax.specs.declared.Reduce.{Reduce}
 use Rattle.loop_syntax.specs.declared.Stmt.{Stmt, Row_of-Stmt, end_of-Stmt, more_of-Stmt}
-use Rattle.loop_syntax.specs.declared.Stmt.TheVariants.{Let, Set, Put, If', While', Loop', Par', Fold, Call, Both, Print, Emit}
+use Rattle.loop_syntax.specs.declared.Stmt.TheVariants.{Let, Set, Put, If', While', Loop', Par'}
+use Rattle.loop_syntax.specs.declared.Stmt.TheVariants.{Fold, Call, Both, Print, Emit}
 use Rattle.loop_syntax.specs.declared.Func.{Func}
 use Rattle.loop_rules.specs.Names.{func_of, operator_of}
-use Rattle.loop_meaning.specs.State.{assign, declare, State, Note, Chance, Ran, done, trapped, noted, after, go_on, tick}
+use Rattle.loop_meaning.specs.State.{assign, declare, State, Note, Chance, Ran, done, trapped}
+use Rattle.loop_meaning.specs.State.{noted, after, go_on, tick}
 use Rattle.loop_meaning.specs.Expressions.{Value, eval}
-use Rattle.loop_meaning.specs.Statements.{Setting, Called, given, given_all, set_var, folded, block, too_wide, with_call, two_calls, run, run_all, run_list}
+use Rattle.loop_meaning.specs.Statements.{Setting, Called, given, given_all, set_var, folded, block}
+use Rattle.loop_meaning.specs.Statements.{too_wide, with_call, two_calls, run, run_all, run_list}
 use Rattle.loop_meaning.specs.Calls.{bound, number_in, enter, no_value, call_on, call_at}
 use Rattle.loop_meaning.specs.Told.{SeenAlike}
 use Rattle.loop_meaning.proofs.Seen.{NoWrites, no_writes_none, seen_front, seen_back, eval_same}
-use Rattle.loop_meaning.proofs.Twins.{Within, shift, over, Twin, Twins, twins_vars, twins_done, twins_print, twins_emit, twins_trap, twins_put, twins_noted, twins_pre, twins_end, seen_after, seen_next, within_back, twins_seq, seen_given, twins_given, twins_two, twins_args, twins_choose, twins_wide, twins_leave, twins_tick, twins_turns, twins_iterate}
+use Rattle.loop_meaning.proofs.Twins.{Within, shift, over, Twin, Twins, twins_vars, twins_done}
+use Rattle.loop_meaning.proofs.Twins.{twins_print, twins_emit, twins_trap, twins_put, twins_noted}
+use Rattle.loop_meaning.proofs.Twins.{twins_pre, twins_end, seen_after, seen_next, within_back}
+use Rattle.loop_meaning.proofs.Twins.{twins_seq, seen_given, twins_given, twins_two, twins_args}
+use Rattle.loop_meaning.proofs.Twins.{twins_choose, twins_wide, twins_leave, twins_tick}
+use Rattle.loop_meaning.proofs.Twins.{twins_turns, twins_iterate}
 
 -- what comes after a run plays a part only where that is done
 swap_after : (q : Ran) (f g : State → Ran) → (q.stop ≡ Done → f ≡ g) → after q f ≡ after q g

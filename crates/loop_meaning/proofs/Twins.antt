@@ -1,5 +1,7 @@
 -- Two runs: the second is over other tables that are seen alike, and with more ticks and more output before it.
-use Rattle.std.proofs.Common.{◌≡◌, ◌<◌, ◌≤◌, ◌+◌, ◌++◌, ◌∷◌, [], ℕ, zero, suc, ℤ, pos, negsuc, ◌+ℤ◌, List, Bool, true, false, nat_lt, length, take, Contains, ◌⊎◌, inl, inr, refl, sym, ap, subst, ◌∙◌, append_assoc, arith}
+use Rattle.std.proofs.Common.{◌≡◌, ◌<◌, ◌≤◌, ◌+◌, ◌++◌, ◌∷◌, [], ℕ, zero, suc, ℤ, pos, negsuc, ◌+ℤ◌}
+use Rattle.std.proofs.Common.{List, Bool, true, false, nat_lt, length, take, Contains, ◌⊎◌, inl}
+use Rattle.std.proofs.Common.{inr, refl, sym, ap, subst, ◌∙◌, append_assoc, arith}
 use Rattle.std.proofs.lemmas.Bool.{ltb-true, ltb-false}
 use Rattle.std.proofs.lemmas.Bool.Decides.{nat_tests}
 use native.Mathlib.Decide.{ℕ_discrete}
@@ -14,14 +16,19 @@ use Rattle.loop_syntax.specs.declared.Expr.{Expr}
 use Rattle.loop_meaning.specs.declared.value.Answer.{Answer}
 use Rattle.loop_meaning.specs.declared.value.Answer.TheVariants.{Number, Traps}
 use Rattle.loop_meaning.specs.declared.value.Variable.{Variable}
-use Rattle.loop_meaning.specs.State.{declare, table_of, has_cell, write_cell, print_table, State, Note, Emits, Ran, done, trapped, out_of_fuel, noted, after, go_on, tick, leave_block}
+use Rattle.loop_meaning.specs.State.{declare, table_of, has_cell, write_cell, print_table, State}
+use Rattle.loop_meaning.specs.State.{Note, Emits, Ran, done, trapped, out_of_fuel, noted, after}
+use Rattle.loop_meaning.specs.State.{go_on, tick, leave_block}
 use Rattle.loop_meaning.specs.Expressions.{Value, eval}
-use Rattle.loop_meaning.specs.Statements.{given, given_answer, given_two, given_all, put_cell, choose, turns, iteration, iterate, unless_wide}
+use Rattle.loop_meaning.specs.Statements.{given, given_answer, given_two, given_all, put_cell}
+use Rattle.loop_meaning.specs.Statements.{choose, turns, iteration, iterate, unless_wide}
 use Rattle.loop_meaning.specs.Cells.{Cell, write_cells}
 use Rattle.loop_meaning.specs.Told.{shapes, number_at, SeenAlike, Spent}
 use Rattle.loop_meaning.proofs.Ticks.{tick_allowed, tick_refused}
-use Rattle.loop_meaning.proofs.WrittenCells.{shapes_written, has_at, number_set, number_alike, table_alike}
-use Rattle.loop_meaning.proofs.Seen.{NoWrites, no_writes_none, seen_front, seen_back, eval_same, eval_writes, writes_cases, emit_seen, only_cell}
+use Rattle.loop_meaning.proofs.WrittenCells.{shapes_written, has_at, number_set, number_alike}
+use Rattle.loop_meaning.proofs.WrittenCells.{table_alike}
+use Rattle.loop_meaning.proofs.Seen.{NoWrites, no_writes_none, seen_front, seen_back, eval_same}
+use Rattle.loop_meaning.proofs.Seen.{eval_writes, writes_cases, emit_seen, only_cell}
 
 module _ (fuel t : ℕ) (o : List ℕ) where
   -- with so many ticks a run may be moved

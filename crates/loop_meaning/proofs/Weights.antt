@@ -1,5 +1,6 @@
 -- A measure for the evaluator: how many calls may still be opened, and how deep the statements are.
-use Rattle.std.proofs.Common.{◌≡◌, ℕ, suc, ◌+◌, ◌-◌, ◌*◌, ◌<◌, ◌≤◌, List, [], ◌∷◌, max, Some, Bool, true, false, bytes_eq, refl, arith, subst}
+use Rattle.std.proofs.Common.{◌≡◌, ℕ, suc, ◌+◌, ◌-◌, ◌*◌, ◌<◌, ◌≤◌, List, [], ◌∷◌, max, Some, Bool}
+use Rattle.std.proofs.Common.{true, false, bytes_eq, refl, arith, subst}
 use denote.Param.Weighed.{most}
 use Rattle.loop_syntax.specs.declared.Stmt.{size-Stmt}
 use Rattle.loop_syntax.specs.declared.Func.{Func}

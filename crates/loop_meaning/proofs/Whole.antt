@@ -1,5 +1,6 @@
 -- The run of a whole program.
-use Rattle.std.proofs.Common.{◌≡◌, ◌<◌, ℕ, ℤ, Bool, true, false, min, nat_lt, List, [], ◌∷◌, refl, sym, ap, arith}
+use Rattle.std.proofs.Common.{◌≡◌, ◌<◌, ℕ, ℤ, Bool, true, false, min, nat_lt, List, [], ◌∷◌, refl}
+use Rattle.std.proofs.Common.{sym, ap, arith}
 use Rattle.tp_value.specs.declared.Stop.{Stop}
 use Rattle.tp_value.specs.declared.Stop.TheVariants.{Done}
 use Rattle.tp_value.specs.declared.Table.{Table}
@@ -8,7 +9,8 @@ use Rattle.loop_syntax.specs.declared.Program.{Program}
 use Rattle.loop_syntax.specs.declared.TableDecl.{TableDecl}
 use Rattle.loop_syntax.specs.declared.TableDecl.TheVariants.{Input, Made}
 use Rattle.loop_meaning.specs.State.{table_of, State, Ran}
-use Rattle.loop_meaning.specs.Meaning.{whole_run, meaning, outcome_of, make_tables, add_table, is_too_large, input_cells, first_state}
+use Rattle.loop_meaning.specs.Meaning.{whole_run, meaning, outcome_of, make_tables, add_table}
+use Rattle.loop_meaning.specs.Meaning.{is_too_large, input_cells, first_state}
 use Rattle.loop_meaning.specs.Statements.{given_two, run_list}
 use Rattle.loop_meaning.specs.Calls.{setting}
 use Rattle.std.proofs.lemmas.Bool.{ltb-true, ltb-false}

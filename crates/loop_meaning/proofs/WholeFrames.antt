@@ -1,5 +1,6 @@
 -- A frame of the whole range of a `par`, and one of both calls of a `both`.
-use Rattle.std.proofs.Common.{◌≡◌, ℕ, zero, suc, Bool, true, false, ℤ, pos, ◌+ℤ◌, List, [], ◌∷◌, cond, map, length, nat_lt, bytes_eq, append_assoc, refl, sym, ap, ◌∙◌}
+use Rattle.std.proofs.Common.{◌≡◌, ℕ, zero, suc, Bool, true, false, ℤ, pos, ◌+ℤ◌, List, [], ◌∷◌}
+use Rattle.std.proofs.Common.{cond, map, length, nat_lt, bytes_eq, append_assoc, refl, sym, ap, ◌∙◌}
 use mathlib.Core.Path.{fun_ext}
 use Rattle.std.specs.Prelude.{if◌then◌else◌}
 use Rattle.std.specs.Int.{int_gap}
@@ -15,8 +16,10 @@ use Rattle.loop_syntax.specs.declared.Program.{Program}
 use Rattle.loop_syntax.specs.declared.Stmt.TheVariants.{Par, Both}
 use Rattle.loop_meaning.specs.declared.frame.Frame.TheVariants.{Range, Pair}
 use Rattle.loop_meaning.specs.declared.value.Variable.{Variable}
-use Rattle.loop_meaning.specs.State.{lookup, assign, declare, State, Note, Chance, Ran, done, noted, after, go_on, leave_block}
-use Rattle.loop_meaning.specs.Statements.{Called, given_two, given_all, too_wide, unless_wide, iteration, iterate, set_var, two_calls, run, run_list}
+use Rattle.loop_meaning.specs.State.{lookup, assign, declare, State, Note, Chance, Ran, done, noted}
+use Rattle.loop_meaning.specs.State.{after, go_on, leave_block}
+use Rattle.loop_meaning.specs.Statements.{Called, given_two, given_all, too_wide, unless_wide}
+use Rattle.loop_meaning.specs.Statements.{iteration, iterate, set_var, two_calls, run, run_list}
 use Rattle.loop_meaning.specs.Calls.{setting}
 use Rattle.loop_meaning.specs.Frames.{OfPar, OfBoth, with_accs, accs_of, two_calls_of, run_frame}
 use Rattle.loop_meaning.specs.WholeFrames.{iterations, first_chance, then_set, both_by_frame}

@@ -1,5 +1,6 @@
 -- Worked programs, computed from the definitions, so that a reader sees what these say.
-use Rattle.std.proofs.Common.{◌≡◌, ℕ, ◌<◌, ◌^◌, ℤ, pos, negsuc, Vec, Box, List, [], ◌∷◌, refl, length, arith, lit<, codes}
+use Rattle.std.proofs.Common.{◌≡◌, ℕ, ◌<◌, ◌^◌, ℤ, pos, negsuc, Vec, Box, List, [], ◌∷◌, refl}
+use Rattle.std.proofs.Common.{length, arith, lit<, codes}
 use Rattle.std.specs.Int.{int_wrap}
 use Rattle.std.specs.Fmt.{digits}
 use Rattle.std.specs.declared.alloc.Global.{Global}
@@ -15,7 +16,8 @@ use Rattle.loop_syntax.specs.declared.Expr.TheVariants.{Int, Var, Cell, Bin}
 use Rattle.loop_syntax.specs.declared.App.{App}
 use Rattle.loop_syntax.specs.declared.Stmt.{Stmt}
 use Rattle.loop_syntax.specs.declared.Stmt.TheBlock.{hidden-the_row-Stmt-0, shape-the_row-Stmt-0}
-use Rattle.loop_syntax.specs.declared.Stmt.TheVariants.{Let, Set, Put, If, Loop, Par, Fold, Call, Both, Print, Emit}
+use Rattle.loop_syntax.specs.declared.Stmt.TheVariants.{Let, Set, Put, If, Loop, Par, Fold, Call}
+use Rattle.loop_syntax.specs.declared.Stmt.TheVariants.{Both, Print, Emit}
 use Rattle.loop_syntax.specs.declared.Func.{Func}
 use Rattle.loop_syntax.specs.declared.Reduce.{Reduce}
 use Rattle.loop_syntax.specs.declared.TableDecl.TheVariants.{Made}

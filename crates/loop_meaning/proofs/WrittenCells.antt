@@ -1,5 +1,7 @@
 -- The sizes of tables, and the numbers in their cells, after a write.
-use Rattle.std.proofs.Common.{◌≡◌, ◌≢◌, ℕ, ◌+◌, ◌*◌, ◌/◌, ◌%◌, ◌<◌, ◌≤◌, Bool, true, false, cond, ℤ, pos, negsuc, List, [], ◌∷◌, length, get_or, set, None, Some, bytes_eq, refl, ap, sym, ◌∙◌, subst, arith}
+use Rattle.std.proofs.Common.{◌≡◌, ◌≢◌, ℕ, ◌+◌, ◌*◌, ◌/◌, ◌%◌, ◌<◌, ◌≤◌, Bool, true, false, cond, ℤ}
+use Rattle.std.proofs.Common.{pos, negsuc, List, [], ◌∷◌, length, get_or, set, None, Some, bytes_eq}
+use Rattle.std.proofs.Common.{refl, ap, sym, ◌∙◌, subst, arith}
 use Rattle.std.specs.Prelude.{◌&&◌, nat_lt, unsigned_abs}
 use Rattle.std.proofs.lemmas.Bool.{true≢false}
 use Rattle.std.proofs.lemmas.Bool.Decides.{nat_tests}
@@ -8,7 +10,8 @@ use Rattle.std.proofs.lemmas.List.{get_or-set_same, get_or-set_other, get_or_pas
 use Rattle.std.proofs.lemmas.Nat.{div-mul-add, mod-mul-add}
 use native.Mathlib.Decide.{dec_lt, ℕ_discrete}
 use Rattle.tp_value.specs.declared.Table.{Table}
-use Rattle.loop_meaning.specs.State.{table_of, is_below, has_cell, cell_of, cell_number, with_cell, write_cell}
+use Rattle.loop_meaning.specs.State.{table_of, is_below, has_cell, cell_of, cell_number, with_cell}
+use Rattle.loop_meaning.specs.State.{write_cell}
 use Rattle.loop_meaning.specs.Cells.{Cell}
 use Rattle.loop_meaning.specs.Told.{Shape, shape_of, shapes, number_in_cell, number_at}
 

@@ -1,5 +1,6 @@
 -- What is in the grammar is read, or is refused as too deep; what is too deep is refused, there or before.
-use Rattle.std.proofs.Common.{◌≡◌, ℕ, zero, suc, ◌<◌, ◌≤◌, List, [], ◌∷◌, length, Ok, Err, Bool, true, false, inl, inr, refl, sym, ap, subst, ◌∙◌, arith}
+use Rattle.std.proofs.Common.{◌≡◌, ℕ, zero, suc, ◌<◌, ◌≤◌, List, [], ◌∷◌, length, Ok, Err, Bool}
+use Rattle.std.proofs.Common.{true, false, inl, inr, refl, sym, ap, subst, ◌∙◌, arith}
 use Rattle.tp_value.specs.declared.values.Place.{Place}
 use Rattle.loop_syntax.specs.Tree.{Spelled, Tree}
 use Rattle.loop_parse.specs.declared.terminal.Fixed.{Fixed}
@@ -7,9 +8,14 @@ use Rattle.loop_parse.specs.declared.terminal.Fixed.TheVariants.{OpenBrace}
 use Rattle.loop_parse.specs.Terms.{Kind, Token, Is}
 use Rattle.loop_parse.specs.Expressions.{IsExpr}
 use Rattle.loop_parse.specs.Grammar.{Item, The, At, AName, AnExpr, ABrace, Fits, DeepIn}
-use Rattle.loop_parse.specs.Reading.{Reply, Reader, Fault, Form, Deep, ◌>>=◌, tag, is_fixed, expect, Limits, starts, begins_with, many_of, after_comma, further}
+use Rattle.loop_parse.specs.Reading.{Reply, Reader, Fault, Form, Deep, ◌>>=◌, tag, is_fixed, expect}
+use Rattle.loop_parse.specs.Reading.{Limits, starts, begins_with, many_of, after_comma, further}
 use Rattle.loop_parse.specs.Reading
-use Rattle.loop_parse.proofs.Items.{Out, Full, Bad, left, Part, whole, bad, Parts, Headed, deep_head, head, headed, parts_length, part_length, TheHead, the_head, head_the, AtHead, at_head, head_at, NameHead, name_head, head_name, none_left, First, ends, stop_first, fits_expr, deep_expr, fits_brace, deep_brace_at}
+use Rattle.loop_parse.proofs.Items.{Out, Full, Bad, left, Part, whole, bad, Parts, Headed}
+use Rattle.loop_parse.proofs.Items.{deep_head, head, headed, parts_length, part_length, TheHead}
+use Rattle.loop_parse.proofs.Items.{the_head, head_the, AtHead, at_head, head_at, NameHead}
+use Rattle.loop_parse.proofs.Items.{name_head, head_name, none_left, First, ends, stop_first}
+use Rattle.loop_parse.proofs.Items.{fits_expr, deep_expr, fits_brace, deep_brace_at}
 use Rattle.loop_parse.proofs.Complete.{Stop, expect_at, name_read, bind_at, shorter_expr}
 use Rattle.loop_parse.proofs.Limits as limits
 use Rattle.loop_parse.proofs.Outer.{TooLong}

@@ -1,20 +1,32 @@
 -- Each form that is in the grammar is read, or is refused as too deep.
-use Rattle.std.proofs.Common.{◌≡◌, ℕ, ◌<◌, ◌≤◌, List, [], ◌∷◌, length, Some, None, Ok, Err, Bool, true, false, inl, inr, if◌then◌else◌, refl, ap, subst, ◌∙◌, arith}
+use Rattle.std.proofs.Common.{◌≡◌, ℕ, ◌<◌, ◌≤◌, List, [], ◌∷◌, length, Some, None, Ok, Err, Bool}
+use Rattle.std.proofs.Common.{true, false, inl, inr, if◌then◌else◌, refl, ap, subst, ◌∙◌, arith}
 use Rattle.tp_value.specs.declared.values.Op.{Op}
 use Rattle.tp_value.specs.declared.values.Op.TheVariants as reducers
 use Rattle.loop_syntax.specs.Tree.{Spelled, ReduceTree}
 use Rattle.loop_parse.specs.declared.terminal.Fixed.{Fixed}
 use Rattle.loop_parse.specs.declared.terminal.Fixed.TheVariants as words
-use Rattle.loop_parse.specs.declared.terminal.Fixed.TheVariants.{Comma, OpenBrace, CloseBrace, OpenRound, CloseRound, OpenSquare, CloseSquare}
+use Rattle.loop_parse.specs.declared.terminal.Fixed.TheVariants.{Comma, OpenBrace, CloseBrace}
+use Rattle.loop_parse.specs.declared.terminal.Fixed.TheVariants.{OpenRound, CloseRound, OpenSquare}
+use Rattle.loop_parse.specs.declared.terminal.Fixed.TheVariants.{CloseSquare}
 use Rattle.loop_parse.specs.Terms as kinds
 use Rattle.loop_parse.specs.Terms.{Kind, Token, Is, IsName, IsLiteral}
-use Rattle.loop_parse.specs.Grammar.{Item, The, AName, Params, MoreNames, ReduceList, MoreReduces, AReduce, AnOp, Makes, no_param, params, no_name, names, no_reduce, reduces, no_more_reduce, more_reduces, red, add_op, mul_op, min_op, max_op, affine_op, none, next_item, in_first}
-use Rattle.loop_parse.specs.Reading.{Reply, Reader, Fault, Form, Deep, ◌>>=◌, tag, is_fixed, expect, Limits, starts, begins_with, many_of, after_comma, further}
+use Rattle.loop_parse.specs.Grammar.{Item, The, AName, Params, MoreNames, ReduceList, MoreReduces}
+use Rattle.loop_parse.specs.Grammar.{AReduce, AnOp, Makes, no_param, params, no_name, names}
+use Rattle.loop_parse.specs.Grammar.{no_reduce, reduces, no_more_reduce, more_reduces, red, add_op}
+use Rattle.loop_parse.specs.Grammar.{mul_op, min_op, max_op, affine_op, none, next_item, in_first}
+use Rattle.loop_parse.specs.Reading.{Reply, Reader, Fault, Form, Deep, ◌>>=◌, tag, is_fixed, expect}
+use Rattle.loop_parse.specs.Reading.{Limits, starts, begins_with, many_of, after_comma, further}
 use Rattle.loop_parse.specs.Reading
-use Rattle.loop_parse.proofs.Items.{Out, Full, Bad, Part, whole, bad, Parts, wholes, bads, Headed, deep_head, head, headed, Opened, opened, open_part, part_length, TheHead, the_head, head_the, NameHead, name_head, head_name, none_left, First, ends, starts_first}
+use Rattle.loop_parse.proofs.Items.{Out, Full, Bad, Part, whole, bad, Parts, wholes, bads, Headed}
+use Rattle.loop_parse.proofs.Items.{deep_head, head, headed, Opened, opened, open_part, part_length}
+use Rattle.loop_parse.proofs.Items.{TheHead, the_head, head_the, NameHead, name_head, head_name}
+use Rattle.loop_parse.proofs.Items.{none_left, First, ends, starts_first}
 use Rattle.loop_parse.proofs.Complete.{expect_at}
 use Rattle.loop_parse.proofs.Limits as limits
-use Rattle.loop_parse.proofs.Answering.{Deeps, Answers, answers_along, the_then, name_then, item_then, finished, sole, made, Follows, follow_full, follow_bad, Split, stop, halt, go_on, many_answers}
+use Rattle.loop_parse.proofs.Answering.{Deeps, Answers, answers_along, the_then, name_then}
+use Rattle.loop_parse.proofs.Answering.{item_then, finished, sole, made, Follows, follow_full}
+use Rattle.loop_parse.proofs.Answering.{follow_bad, Split, stop, halt, go_on, many_answers}
 
 -- what comes after an item begins with such a word
 pub data Next (test : Fixed → Bool) : Out → Type 0 where

@@ -1,21 +1,52 @@
 -- Statements, blocks, declarations and programs are read, or are refused as too deep.
-use Rattle.std.proofs.Common.{◌≡◌, ℕ, ℤ, zero, suc, ◌<◌, ◌≤◌, List, [], ◌∷◌, length, Ok, Bool, true, false, if◌then◌else◌, refl, sym, ap, subst, ◌∙◌, arith}
+use Rattle.std.proofs.Common.{◌≡◌, ℕ, ℤ, zero, suc, ◌<◌, ◌≤◌, List, [], ◌∷◌, length, Ok, Bool, true}
+use Rattle.std.proofs.Common.{false, if◌then◌else◌, refl, sym, ap, subst, ◌∙◌, arith}
 use Rattle.tp_value.specs.declared.values.Place.{Place}
-use Rattle.loop_syntax.specs.Tree.{Spelled, Tree, RowTree, RVar, RInt, CarryTree, CRows, CCells, ReduceTree, AppTree, Node, NLet, NSet, NPut, NIf, NWhile, NLoop, NPar, NFold, NCall, NBoth, NPrint, NEmit, Nodes, Last, nodes, TInput, TMade}
+use Rattle.loop_syntax.specs.Tree.{Spelled, Tree, RowTree, RVar, RInt, CarryTree, CRows, CCells}
+use Rattle.loop_syntax.specs.Tree.{ReduceTree, AppTree, Node, NLet, NSet, NPut, NIf, NWhile, NLoop}
+use Rattle.loop_syntax.specs.Tree.{NPar, NFold, NCall, NBoth, NPrint, NEmit, Nodes, Last, nodes}
+use Rattle.loop_syntax.specs.Tree.{TInput, TMade}
 use Rattle.loop_parse.specs.declared.terminal.Fixed.{Fixed}
 use Rattle.loop_parse.specs.declared.terminal.Fixed.TheVariants as words
-use Rattle.loop_parse.specs.declared.terminal.Fixed.TheVariants.{Comma, OpenBrace, CloseBrace, OpenRound, CloseRound, OpenSquare, CloseSquare}
+use Rattle.loop_parse.specs.declared.terminal.Fixed.TheVariants.{Comma, OpenBrace, CloseBrace}
+use Rattle.loop_parse.specs.declared.terminal.Fixed.TheVariants.{OpenRound, CloseRound, OpenSquare}
+use Rattle.loop_parse.specs.declared.terminal.Fixed.TheVariants.{CloseSquare}
 use Rattle.loop_parse.specs.Terms as kinds
 use Rattle.loop_parse.specs.Terms.{Kind, Token, Is, IsName, IsLiteral}
 use Rattle.loop_parse.specs.Expressions.{IsExpr}
-use Rattle.loop_parse.specs.Grammar.{DeclTree, DTable, DFunc, tree_from, Item, The, At, AName, ALiteral, AnExpr, ABrace, AProgram, Decls, ADecl, Params, ABlock, Stmts, AStmt, Other, CarryList, MoreCarries, ACarry, ReduceList, AnApp, Args, MoreArgs, Makes, program, no_decl, decls, input_decl, table_decl, fn_decl, block, no_stmt, stmts, let_stmt, set_stmt, put_stmt, if_stmt, while_stmt, loop_stmt, par_stmt, fold_stmt, call_stmt, both_stmt, print_stmt, emit_stmt, no_other, other, no_carry, carries, no_more_carry, more_carries, rows_item, cells_item, literal_item, app, no_arg, args, no_more_arg, more_args, FitAll, next_item}
-use Rattle.loop_parse.specs.Reading.{Reply, Reader, Fault, Form, Deep, ◌>>=◌, tag, is_fixed, expect, Limits, starts, begins_with, many_of, after_comma, further}
+use Rattle.loop_parse.specs.Grammar.{DeclTree, DTable, DFunc, tree_from, Item, The, At, AName}
+use Rattle.loop_parse.specs.Grammar.{ALiteral, AnExpr, ABrace, AProgram, Decls, ADecl, Params}
+use Rattle.loop_parse.specs.Grammar.{ABlock, Stmts, AStmt, Other, CarryList, MoreCarries, ACarry}
+use Rattle.loop_parse.specs.Grammar.{ReduceList, AnApp, Args, MoreArgs, Makes, program, no_decl}
+use Rattle.loop_parse.specs.Grammar.{decls, input_decl, table_decl, fn_decl, block, no_stmt, stmts}
+use Rattle.loop_parse.specs.Grammar.{let_stmt, set_stmt, put_stmt, if_stmt, while_stmt, loop_stmt}
+use Rattle.loop_parse.specs.Grammar.{par_stmt, fold_stmt, call_stmt, both_stmt, print_stmt}
+use Rattle.loop_parse.specs.Grammar.{emit_stmt, no_other, other, no_carry, carries, no_more_carry}
+use Rattle.loop_parse.specs.Grammar.{more_carries, rows_item, cells_item, literal_item, app, no_arg}
+use Rattle.loop_parse.specs.Grammar.{args, no_more_arg, more_args, FitAll, next_item}
+use Rattle.loop_parse.specs.Reading.{Reply, Reader, Fault, Form, Deep, ◌>>=◌, tag, is_fixed, expect}
+use Rattle.loop_parse.specs.Reading.{Limits, starts, begins_with, many_of, after_comma, further}
 use Rattle.loop_parse.specs.Reading
-use Rattle.loop_parse.specs.Expressions.{plain, compare, one, more, factor, times, primary, negated, literal, variable, cell, rows, cols, bracketed, IsSum, IsProduct, IsUnary, IsPrimary}
-use Rattle.loop_parse.proofs.Items.{Out, Full, Bad, Part, whole, bad, Parts, wholes, Headed, deep_head, head, headed, Opened, opened, open_part, TheHead, the_head, head_the, AtHead, at_head, head_at, NameHead, name_head, head_name, LiteralHead, literal_head, head_literal, none_left, First, first_the, first_block, first_more_args, first_carries, first_reduces, ends, stop_first, starts_first, fits_expr, deep_expr, all_length, fits_the, fits_at, fits_name}
+use Rattle.loop_parse.specs.Expressions.{plain, compare, one, more, factor, times, primary, negated}
+use Rattle.loop_parse.specs.Expressions.{literal, variable, cell, rows, cols, bracketed, IsSum}
+use Rattle.loop_parse.specs.Expressions.{IsProduct, IsUnary, IsPrimary}
+use Rattle.loop_parse.proofs.Items.{Out, Full, Bad, Part, whole, bad, Parts, wholes, Headed}
+use Rattle.loop_parse.proofs.Items.{deep_head, head, headed, Opened, opened, open_part, TheHead}
+use Rattle.loop_parse.proofs.Items.{the_head, head_the, AtHead, at_head, head_at, NameHead}
+use Rattle.loop_parse.proofs.Items.{name_head, head_name, LiteralHead, literal_head, head_literal}
+use Rattle.loop_parse.proofs.Items.{none_left, First, first_the, first_block, first_more_args}
+use Rattle.loop_parse.proofs.Items.{first_carries, first_reduces, ends, stop_first, starts_first}
+use Rattle.loop_parse.proofs.Items.{fits_expr, deep_expr, all_length, fits_the, fits_at, fits_name}
 use Rattle.loop_parse.proofs.Outer.{TooLong}
-use Rattle.loop_parse.proofs.Answering.{Answers, answers_along, the_then, at_then, name_then, expr_then, brace_then, item_then, finished, sole, made, Follows, follow_full, follow_bad, follows_at, Split, stop, halt, go_on, many_answers, BaseAnswers}
-use Rattle.loop_parse.proofs.Answers.{Next, next_of, first_after, first_weaken, follows_next, closing, heading, opening, ending, closing_ends, closing_comma, heading_comma, heading_carry, heading_after, after_carry, after_square, comma_go, none_before, params_answers, reduce_list_answers}
+use Rattle.loop_parse.proofs.Answering.{Answers, answers_along, the_then, at_then, name_then}
+use Rattle.loop_parse.proofs.Answering.{expr_then, brace_then, item_then, finished, sole, made}
+use Rattle.loop_parse.proofs.Answering.{Follows, follow_full, follow_bad, follows_at, Split, stop}
+use Rattle.loop_parse.proofs.Answering.{halt, go_on, many_answers, BaseAnswers}
+use Rattle.loop_parse.proofs.Answers.{Next, next_of, first_after, first_weaken, follows_next}
+use Rattle.loop_parse.proofs.Answers.{closing, heading, opening, ending, closing_ends}
+use Rattle.loop_parse.proofs.Answers.{closing_comma, heading_comma, heading_carry, heading_after}
+use Rattle.loop_parse.proofs.Answers.{after_carry, after_square, comma_go, none_before}
+use Rattle.loop_parse.proofs.Answers.{params_answers, reduce_list_answers}
 
 -- no expression begins with a closing bracket
 mutual

@@ -1,5 +1,6 @@
 -- The two limits of a reading: within them, and without.
-use Rattle.std.proofs.Common.{◌≡◌, ℕ, ◌<◌, ◌≤◌, List, ◌∷◌, length, drop, Ok, Err, Bool, true, false, ◌⊎◌, inl, inr, nat_le, if◌then◌else◌, refl, sym, ap, subst, arith}
+use Rattle.std.proofs.Common.{◌≡◌, ℕ, ◌<◌, ◌≤◌, List, ◌∷◌, length, drop, Ok, Err, Bool, true, false}
+use Rattle.std.proofs.Common.{◌⊎◌, inl, inr, nat_le, if◌then◌else◌, refl, sym, ap, subst, arith}
 use Rattle.std.proofs.lemmas.Bool.Decides.{nat_tests}
 use Rattle.tp_value.specs.declared.values.Place.{Place}
 use Rattle.loop_parse.specs.declared.terminal.Fixed.TheVariants.{OpenBrace}

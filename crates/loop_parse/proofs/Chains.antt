@@ -1,5 +1,6 @@
 -- How far a chain of operators has been read, and its next step.
-use Rattle.std.proofs.Common.{◌≡◌, ℕ, zero, suc, ◌<◌, ◌≤◌, List, [], ◌∷◌, length, Option, Some, None, Ok, Err, refl, ap, subst, ◌∙◌, arith}
+use Rattle.std.proofs.Common.{◌≡◌, ℕ, zero, suc, ◌<◌, ◌≤◌, List, [], ◌∷◌, length, Option, Some}
+use Rattle.std.proofs.Common.{None, Ok, Err, refl, ap, subst, ◌∙◌, arith}
 use Rattle.loop_parse.specs.Terms.{Kind, Token}
 use Rattle.loop_syntax.specs.declared.expression.BinOp.{BinOp}
 use Rattle.loop_syntax.specs.Tree.{Tree, TBin}

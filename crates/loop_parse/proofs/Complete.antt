@@ -1,14 +1,23 @@
 -- What is in the grammar is read, and with that tree alone.
-use Rattle.std.proofs.Common.{◌≡◌, ℕ, ℤ, zero, suc, ◌<◌, ◌≤◌, List, [], ◌∷◌, length, Option, Some, None, Ok, true, false, nat_eq, refl, sym, ap, ◌∙◌, eq-eqb, arith}
+use Rattle.std.proofs.Common.{◌≡◌, ℕ, ℤ, zero, suc, ◌<◌, ◌≤◌, List, [], ◌∷◌, length, Option, Some}
+use Rattle.std.proofs.Common.{None, Ok, true, false, nat_eq, refl, sym, ap, ◌∙◌, eq-eqb, arith}
 use Rattle.loop_syntax.specs.declared.expression.BinOp.{BinOp}
 use Rattle.loop_syntax.specs.Tree.{Spelled, Tree, TInt, TVar, TCell, TRows, TCols, TNeg, TBin}
 use Rattle.loop_parse.specs.declared.terminal.Fixed.{Fixed}
-use Rattle.loop_parse.specs.declared.terminal.Fixed.TheVariants.{Rows, Cols, OpenRound, CloseRound, OpenSquare, CloseSquare, Plus, Minus, Star, Slash, Percent}
+use Rattle.loop_parse.specs.declared.terminal.Fixed.TheVariants.{Rows, Cols, OpenRound, CloseRound}
+use Rattle.loop_parse.specs.declared.terminal.Fixed.TheVariants.{OpenSquare, CloseSquare, Plus}
+use Rattle.loop_parse.specs.declared.terminal.Fixed.TheVariants.{Minus, Star, Slash, Percent}
 use Rattle.loop_parse.specs.Terms.{Kind, Token, Is, IsName, IsLiteral}
-use Rattle.loop_parse.specs.Expressions.{IsExpr, plain, compare, IsSum, one, more, IsProduct, factor, times, IsUnary, primary, negated, IsPrimary, literal, variable, cell, rows, cols, bracketed, compare_fixed, sum_fixed, product_fixed}
-use Rattle.loop_parse.specs.Reading.{Reply, Fault, Form, ◌>>=◌, tag, is_fixed, by_fixed, expect, compare_op_of, sum_op_of, product_op_of, chain_rest, chain, name_rest, primary_at, primary_of, unary_of, expr_of, nested}
+use Rattle.loop_parse.specs.Expressions.{IsExpr, plain, compare, IsSum, one, more, IsProduct}
+use Rattle.loop_parse.specs.Expressions.{factor, times, IsUnary, primary, negated, IsPrimary}
+use Rattle.loop_parse.specs.Expressions.{literal, variable, cell, rows, cols, bracketed}
+use Rattle.loop_parse.specs.Expressions.{compare_fixed, sum_fixed, product_fixed}
+use Rattle.loop_parse.specs.Reading.{Reply, Fault, Form, ◌>>=◌, tag, is_fixed, by_fixed, expect}
+use Rattle.loop_parse.specs.Reading.{compare_op_of, sum_op_of, product_op_of, chain_rest, chain}
+use Rattle.loop_parse.specs.Reading.{name_rest, primary_at, primary_of, unary_of, expr_of, nested}
 use Rattle.loop_parse.specs.Reading
-use Rattle.loop_parse.proofs.Chains.{Continues, Continues-start, Continues-step, Continues-end, Continues-stop, chain_end, chain_stop}
+use Rattle.loop_parse.proofs.Chains.{Continues, Continues-start, Continues-step, Continues-end}
+use Rattle.loop_parse.proofs.Chains.{Continues-stop, chain_end, chain_stop}
 
 mutual
   pub shorter_expr : {ts rest : List Token} {e : Tree} → IsExpr ts e rest → length rest < length ts

@@ -1,13 +1,31 @@
 -- Each stack of the machine can be completed, so what it has taken begins a program.
-use Rattle.std.proofs.Common.{◌≡◌, pos, List, [], ◌∷◌, ◌++◌, Option, Some, None, Bool, true, false, ◌&&◌, ◌||◌, ⊎_elim, if◌then◌else◌, refl, ap, subst, ◌∙◌}
+use Rattle.std.proofs.Common.{◌≡◌, pos, List, [], ◌∷◌, ◌++◌, Option, Some, None, Bool, true, false}
+use Rattle.std.proofs.Common.{◌&&◌, ◌||◌, ⊎_elim, if◌then◌else◌, refl, ap, subst, ◌∙◌}
 use Rattle.std.proofs.lemmas.Bool.{or_cases}
 use Rattle.tp_value.specs.declared.values.Op.{Op}
 use Rattle.loop_parse.specs.declared.terminal.Fixed.{Fixed}
-use Rattle.loop_parse.specs.declared.terminal.Fixed.TheVariants.{Input, Table, Fn, Return, Main, Let, If, Else, While, Loop, Par, Carry, Reduce, Fold, Call, Both, Print, Emit, Rows, Cols, Add, OpenRound, CloseRound, OpenBrace, CloseBrace, OpenSquare, CloseSquare, Comma, Semi, Assign, Plus, Minus, Star, Slash, Percent, Same, Differs, Less, AtMost, Greater, AtLeast}
+use Rattle.loop_parse.specs.declared.terminal.Fixed.TheVariants.{Input, Table, Fn, Return, Main}
+use Rattle.loop_parse.specs.declared.terminal.Fixed.TheVariants.{Let, If, Else, While, Loop, Par}
+use Rattle.loop_parse.specs.declared.terminal.Fixed.TheVariants.{Carry, Reduce, Fold, Call, Both}
+use Rattle.loop_parse.specs.declared.terminal.Fixed.TheVariants.{Print, Emit, Rows, Cols, Add}
+use Rattle.loop_parse.specs.declared.terminal.Fixed.TheVariants.{OpenRound, CloseRound, OpenBrace}
+use Rattle.loop_parse.specs.declared.terminal.Fixed.TheVariants.{CloseBrace, OpenSquare}
+use Rattle.loop_parse.specs.declared.terminal.Fixed.TheVariants.{CloseSquare, Comma, Semi, Assign}
+use Rattle.loop_parse.specs.declared.terminal.Fixed.TheVariants.{Plus, Minus, Star, Slash, Percent}
+use Rattle.loop_parse.specs.declared.terminal.Fixed.TheVariants.{Same, Differs, Less, AtMost}
+use Rattle.loop_parse.specs.declared.terminal.Fixed.TheVariants.{Greater, AtLeast}
 use Rattle.loop_parse.specs.Terms as kinds
 use Rattle.loop_parse.specs.Terms.{Kind, Token}
-use Rattle.loop_parse.specs.Reading.{is_fixed, begins_with, compare_op_of, sum_op_of, product_op_of, reducer_of}
-use Rattle.loop_parse.proofs.Machine.{Symbol, Want, AName, Unary, NameRest, ProductRest, SumRest, CompareRest, Stmt, Stmts, AssignRest, ElseRest, Args, MoreArgs, Params, MoreNames, Row, ColumnRest, CarryList, MoreCarries, ReduceList, MoreReduces, Reducer, Decl, Decls, Move, Take, Skip, Refuse, an_expr, step, offer, moved, may_end, finished, run, fixed_move, primary_move, unary_move, rest_move, name_move, stmt_move, assign_move, row_move, reducer_move, decl_move, or_skip, if_name}
+use Rattle.loop_parse.specs.Reading.{is_fixed, begins_with, compare_op_of, sum_op_of, product_op_of}
+use Rattle.loop_parse.specs.Reading.{reducer_of}
+use Rattle.loop_parse.proofs.Machine.{Symbol, Want, AName, Unary, NameRest, ProductRest, SumRest}
+use Rattle.loop_parse.proofs.Machine.{CompareRest, Stmt, Stmts, AssignRest, ElseRest, Args}
+use Rattle.loop_parse.proofs.Machine.{MoreArgs, Params, MoreNames, Row, ColumnRest, CarryList}
+use Rattle.loop_parse.proofs.Machine.{MoreCarries, ReduceList, MoreReduces, Reducer, Decl, Decls}
+use Rattle.loop_parse.proofs.Machine.{Move, Take, Skip, Refuse, an_expr, step, offer, moved}
+use Rattle.loop_parse.proofs.Machine.{may_end, finished, run, fixed_move, primary_move, unary_move}
+use Rattle.loop_parse.proofs.Machine.{rest_move, name_move, stmt_move, assign_move, row_move}
+use Rattle.loop_parse.proofs.Machine.{reducer_move, decl_move, or_skip, if_name}
 use Rattle.loop_parse.proofs.Exact.{is_found}
 use Rattle.loop_parse.proofs.Complete.{same_tag}
 

@@ -1,16 +1,36 @@
 -- The readings of expressions are sound, shorten the list, and stop where the machine stops.
-use Rattle.std.proofs.Common.{◌≡◌, ℕ, zero, suc, ◌<◌, ◌≤◌, List, [], ◌∷◌, ◌++◌, length, Option, Some, None, Ok, Err, Bool, true, false, nat_eq, cond, if◌then◌else◌, refl, sym, ap, subst, ◌∙◌, eqb-true, arith}
+use Rattle.std.proofs.Common.{◌≡◌, ℕ, zero, suc, ◌<◌, ◌≤◌, List, [], ◌∷◌, ◌++◌, length, Option}
+use Rattle.std.proofs.Common.{Some, None, Ok, Err, Bool, true, false, nat_eq, cond, if◌then◌else◌}
+use Rattle.std.proofs.Common.{refl, sym, ap, subst, ◌∙◌, eqb-true, arith}
 use Rattle.tp_value.specs.declared.values.Place.{Place}
 use Rattle.loop_syntax.specs.declared.expression.BinOp.{BinOp}
 use Rattle.loop_syntax.specs.Tree.{Spelled, Tree, TVar, TCell, TRows, TCols, TNeg, TBin}
 use Rattle.loop_parse.specs.declared.terminal.Fixed.{Fixed}
-use Rattle.loop_parse.specs.declared.terminal.Fixed.TheVariants.{Input, Table, Fn, Return, Main, Let, If, Else, While, Loop, Par, In, Carry, Reduce, By, Fold, With, Call, Both, Print, Emit, Rows, Cols, Add, Mul, Min, Max, Affine, Leave, OpenRound, CloseRound, OpenBrace, CloseBrace, OpenSquare, CloseSquare, Comma, Semi, Assign, Plus, Minus, Star, Slash, Percent, Same, Differs, Less, AtMost, Greater, AtLeast, DotDot}
+use Rattle.loop_parse.specs.declared.terminal.Fixed.TheVariants.{Input, Table, Fn, Return, Main}
+use Rattle.loop_parse.specs.declared.terminal.Fixed.TheVariants.{Let, If, Else, While, Loop, Par}
+use Rattle.loop_parse.specs.declared.terminal.Fixed.TheVariants.{In, Carry, Reduce, By, Fold, With}
+use Rattle.loop_parse.specs.declared.terminal.Fixed.TheVariants.{Call, Both, Print, Emit, Rows}
+use Rattle.loop_parse.specs.declared.terminal.Fixed.TheVariants.{Cols, Add, Mul, Min, Max, Affine}
+use Rattle.loop_parse.specs.declared.terminal.Fixed.TheVariants.{Leave, OpenRound, CloseRound}
+use Rattle.loop_parse.specs.declared.terminal.Fixed.TheVariants.{OpenBrace, CloseBrace, OpenSquare}
+use Rattle.loop_parse.specs.declared.terminal.Fixed.TheVariants.{CloseSquare, Comma, Semi, Assign}
+use Rattle.loop_parse.specs.declared.terminal.Fixed.TheVariants.{Plus, Minus, Star, Slash, Percent}
+use Rattle.loop_parse.specs.declared.terminal.Fixed.TheVariants.{Same, Differs, Less, AtMost}
+use Rattle.loop_parse.specs.declared.terminal.Fixed.TheVariants.{Greater, AtLeast, DotDot}
 use Rattle.loop_parse.specs.Terms as kinds
 use Rattle.loop_parse.specs.Terms.{Kind, Token, Is, IsName, IsLiteral}
-use Rattle.loop_parse.specs.Expressions.{IsExpr, plain, compare, IsSum, one, more, IsProduct, factor, times, IsUnary, primary, negated, IsPrimary, literal, variable, cell, rows, cols, bracketed, compare_fixed, sum_fixed, product_fixed}
-use Rattle.loop_parse.specs.Reading.{Reply, Fault, Form, Deep, ◌>>=◌, tag, is_fixed, by_fixed, expect, compare_op_of, sum_op_of, product_op_of, chain_rest, chain, name_rest, primary_at, fixed_at, primary_of, unary_of, expr_of, nested}
+use Rattle.loop_parse.specs.Expressions.{IsExpr, plain, compare, IsSum, one, more, IsProduct}
+use Rattle.loop_parse.specs.Expressions.{factor, times, IsUnary, primary, negated, IsPrimary}
+use Rattle.loop_parse.specs.Expressions.{literal, variable, cell, rows, cols, bracketed}
+use Rattle.loop_parse.specs.Expressions.{compare_fixed, sum_fixed, product_fixed}
+use Rattle.loop_parse.specs.Reading.{Reply, Fault, Form, Deep, ◌>>=◌, tag, is_fixed, by_fixed}
+use Rattle.loop_parse.specs.Reading.{expect, compare_op_of, sum_op_of, product_op_of, chain_rest}
+use Rattle.loop_parse.specs.Reading.{chain, name_rest, primary_at, fixed_at, primary_of, unary_of}
+use Rattle.loop_parse.specs.Reading.{expr_of, nested}
 use Rattle.loop_parse.specs.Reading
-use Rattle.loop_parse.proofs.Machine.{Symbol, Want, AName, Unary, NameRest, ProductRest, SumRest, CompareRest, Move, Take, Skip, Refuse, an_expr, step, offer, moved, run, primary_move, fixed_move, name_move}
+use Rattle.loop_parse.proofs.Machine.{Symbol, Want, AName, Unary, NameRest, ProductRest, SumRest}
+use Rattle.loop_parse.proofs.Machine.{CompareRest, Move, Take, Skip, Refuse, an_expr, step, offer}
+use Rattle.loop_parse.proofs.Machine.{moved, run, primary_move, fixed_move, name_move}
 
 -- the machine takes the first of these tokens
 abbrev pub Past : Option (List Token) → List Token → Type 0

@@ -1,15 +1,25 @@
 -- Items and what is read of them: whole, or up to where something is too deep.
-use Rattle.std.proofs.Common.{◌≡◌, ℕ, ℤ, ◌≤◌, List, [], ◌∷◌, length, None, Bool, true, false, ◌⊎◌, inl, inr, ⊎_elim, nat_eq, refl, sym, ap, subst, ◌∙◌, length-drop, arith}
+use Rattle.std.proofs.Common.{◌≡◌, ℕ, ℤ, ◌≤◌, List, [], ◌∷◌, length, None, Bool, true, false, ◌⊎◌}
+use Rattle.std.proofs.Common.{inl, inr, ⊎_elim, nat_eq, refl, sym, ap, subst, ◌∙◌, length-drop}
+use Rattle.std.proofs.Common.{arith}
 use Rattle.tp_value.specs.declared.values.Place.{Place}
 use Rattle.loop_syntax.specs.Tree.{Spelled, Tree, CarryTree, ReduceTree, Nodes}
 use Rattle.loop_parse.specs.declared.terminal.Fixed.{Fixed}
 use Rattle.loop_parse.specs.declared.terminal.Fixed.TheVariants as words
-use Rattle.loop_parse.specs.declared.terminal.Fixed.TheVariants.{Comma, OpenBrace, CloseBrace, OpenRound, CloseRound, OpenSquare, CloseSquare}
+use Rattle.loop_parse.specs.declared.terminal.Fixed.TheVariants.{Comma, OpenBrace, CloseBrace}
+use Rattle.loop_parse.specs.declared.terminal.Fixed.TheVariants.{OpenRound, CloseRound, OpenSquare}
+use Rattle.loop_parse.specs.declared.terminal.Fixed.TheVariants.{CloseSquare}
 use Rattle.loop_parse.specs.Terms as kinds
 use Rattle.loop_parse.specs.Terms.{Kind, Token, Is, IsName, IsLiteral}
 use Rattle.loop_parse.specs.Expressions.{IsExpr}
-use Rattle.loop_parse.specs.Grammar.{Item, The, At, AName, ALiteral, AnExpr, ABrace, ABlock, CarryList, ReduceList, MoreArgs, Makes, program, block, no_carry, carries, no_reduce, reduces, no_more_arg, more_args, Fits, the, at_place, a_name, a_literal, an_expr, a_brace, by, FitAll, none, next_item, Comes, here, inside, ComesIn, in_first, in_later, IsTooDeep, long_expr, deep_brace, DeepIn}
-use Rattle.loop_parse.specs.Reading.{Reply, Reader, Fault, Form, Deep, ◌>>=◌, tag, is_fixed, expect, Limits, starts, begins_with, many_of, after_comma, further}
+use Rattle.loop_parse.specs.Grammar.{Item, The, At, AName, ALiteral, AnExpr, ABrace, ABlock}
+use Rattle.loop_parse.specs.Grammar.{CarryList, ReduceList, MoreArgs, Makes, program, block}
+use Rattle.loop_parse.specs.Grammar.{no_carry, carries, no_reduce, reduces, no_more_arg, more_args}
+use Rattle.loop_parse.specs.Grammar.{Fits, the, at_place, a_name, a_literal, an_expr, a_brace, by}
+use Rattle.loop_parse.specs.Grammar.{FitAll, none, next_item, Comes, here, inside, ComesIn}
+use Rattle.loop_parse.specs.Grammar.{in_first, in_later, IsTooDeep, long_expr, deep_brace, DeepIn}
+use Rattle.loop_parse.specs.Reading.{Reply, Reader, Fault, Form, Deep, ◌>>=◌, tag, is_fixed, expect}
+use Rattle.loop_parse.specs.Reading.{Limits, starts, begins_with, many_of, after_comma, further}
 use Rattle.loop_parse.specs.Reading
 use Rattle.loop_parse.proofs.Complete.{shorter_expr, Stop, stop_sign}
 use Rattle.loop_parse.proofs.Outer.{TooLong}

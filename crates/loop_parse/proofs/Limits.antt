@@ -1,5 +1,8 @@
 -- An outermost expression that is in the grammar is read, or is too long; and one that is too long is refused.
-use Rattle.std.proofs.Common.{◌≡◌, ℕ, zero, suc, ◌+◌, ◌-◌, ◌<◌, ◌≤◌, List, [], ◌∷◌, ◌++◌, length, take, drop, Some, None, Ok, Err, Bool, true, false, ◌&&◌, ◌⊎◌, inl, inr, nat_le, refl, sym, ap, subst, ◌∙◌, append_assoc, length-append, length-take, length-drop, arith}
+use Rattle.std.proofs.Common.{◌≡◌, ℕ, zero, suc, ◌+◌, ◌-◌, ◌<◌, ◌≤◌, List, [], ◌∷◌, ◌++◌, length}
+use Rattle.std.proofs.Common.{take, drop, Some, None, Ok, Err, Bool, true, false, ◌&&◌, ◌⊎◌, inl}
+use Rattle.std.proofs.Common.{inr, nat_le, refl, sym, ap, subst, ◌∙◌, append_assoc, length-append}
+use Rattle.std.proofs.Common.{length-take, length-drop, arith}
 use Rattle.std.proofs.lemmas.Bool.Decides.{nat_tests}
 use Rattle.loop_syntax.specs.Tree.{Tree}
 use Rattle.loop_parse.specs.Terms.{Token}

@@ -1,13 +1,18 @@
 -- What is read of a front of the tokens is read of all of them, where the reading leaves a token of the front.
-use Rattle.std.proofs.Common.{◌≡◌, ℕ, zero, suc, List, [], ◌∷◌, ◌++◌, Option, Some, None, Ok, Err, Bool, true, false, if◌then◌else◌, refl, sym, ap, subst}
+use Rattle.std.proofs.Common.{◌≡◌, ℕ, zero, suc, List, [], ◌∷◌, ◌++◌, Option, Some, None, Ok, Err}
+use Rattle.std.proofs.Common.{Bool, true, false, if◌then◌else◌, refl, sym, ap, subst}
 use Rattle.tp_value.specs.declared.values.Place.{Place}
 use Rattle.loop_syntax.specs.declared.expression.BinOp.{BinOp}
 use Rattle.loop_syntax.specs.Tree.{Spelled, Tree, TInt, TVar, TCell, TNeg, TBin}
 use Rattle.loop_parse.specs.declared.terminal.Fixed.{Fixed}
-use Rattle.loop_parse.specs.declared.terminal.Fixed.TheVariants.{Rows, Cols, OpenRound, CloseRound, OpenSquare, CloseSquare, Minus}
+use Rattle.loop_parse.specs.declared.terminal.Fixed.TheVariants.{Rows, Cols, OpenRound, CloseRound}
+use Rattle.loop_parse.specs.declared.terminal.Fixed.TheVariants.{OpenSquare, CloseSquare, Minus}
 use Rattle.loop_parse.specs.Terms as kinds
 use Rattle.loop_parse.specs.Terms.{Kind, Token, Is, IsName, IsLiteral}
-use Rattle.loop_parse.specs.Reading.{Reply, Fault, Form, Deep, ◌>>=◌, tag, is_fixed, expect, compare_op_of, sum_op_of, product_op_of, chain_rest, chain, name_rest, primary_at, fixed_at, primary_of, unary_of, expr_of, nested}
+use Rattle.loop_parse.specs.Reading.{Reply, Fault, Form, Deep, ◌>>=◌, tag, is_fixed, expect}
+use Rattle.loop_parse.specs.Reading.{compare_op_of, sum_op_of, product_op_of, chain_rest, chain}
+use Rattle.loop_parse.specs.Reading.{name_rest, primary_at, fixed_at, primary_of, unary_of, expr_of}
+use Rattle.loop_parse.specs.Reading.{nested}
 use Rattle.loop_parse.specs.Reading
 
 -- the reply leaves nothing

@@ -1,9 +1,16 @@
 -- A machine that goes over the tokens, with a stack of what it waits for. It says at which token no program
 -- continues, and what would complete one.
-use Rattle.std.proofs.Common.{List, [], ◌∷◌, ◌++◌, Option, Some, None, Bool, true, false, ◌&&◌, if◌then◌else◌}
+use Rattle.std.proofs.Common.{List, [], ◌∷◌, ◌++◌, Option, Some, None, Bool, true, false, ◌&&◌}
+use Rattle.std.proofs.Common.{if◌then◌else◌}
 use Rattle.tp_value.specs.declared.values.Op.{Op}
 use Rattle.loop_parse.specs.declared.terminal.Fixed.{Fixed}
-use Rattle.loop_parse.specs.declared.terminal.Fixed.TheVariants.{Input, Table, Fn, Return, Let, If, Else, While, Loop, Par, In, Carry, Reduce, By, Fold, With, Call, Both, Print, Emit, Rows, Cols, OpenRound, CloseRound, OpenBrace, CloseBrace, OpenSquare, CloseSquare, Comma, Semi, Assign, Minus, DotDot}
+use Rattle.loop_parse.specs.declared.terminal.Fixed.TheVariants.{Input, Table, Fn, Return, Let, If}
+use Rattle.loop_parse.specs.declared.terminal.Fixed.TheVariants.{Else, While, Loop, Par, In, Carry}
+use Rattle.loop_parse.specs.declared.terminal.Fixed.TheVariants.{Reduce, By, Fold, With, Call, Both}
+use Rattle.loop_parse.specs.declared.terminal.Fixed.TheVariants.{Print, Emit, Rows, Cols, OpenRound}
+use Rattle.loop_parse.specs.declared.terminal.Fixed.TheVariants.{CloseRound, OpenBrace, CloseBrace}
+use Rattle.loop_parse.specs.declared.terminal.Fixed.TheVariants.{OpenSquare, CloseSquare, Comma}
+use Rattle.loop_parse.specs.declared.terminal.Fixed.TheVariants.{Semi, Assign, Minus, DotDot}
 use Rattle.loop_parse.specs.Terms as kinds
 use Rattle.loop_parse.specs.Terms.{Kind, Token}
 use Rattle.loop_parse.specs.Reading.{is_fixed, compare_op_of, sum_op_of, product_op_of, reducer_of}

@@ -1,9 +1,12 @@
 -- How far items have been read one after another, and the next one.
-use Rattle.std.proofs.Common.{◌≡◌, ℕ, zero, suc, ◌<◌, ◌≤◌, List, [], ◌∷◌, ◌++◌, length, map, Ok, Err, Bool, true, false, if◌then◌else◌, refl, sym, ap, ◌∙◌, append_assoc, arith}
+use Rattle.std.proofs.Common.{◌≡◌, ℕ, zero, suc, ◌<◌, ◌≤◌, List, [], ◌∷◌, ◌++◌, length, map, Ok}
+use Rattle.std.proofs.Common.{Err, Bool, true, false, if◌then◌else◌, refl, sym, ap, ◌∙◌}
+use Rattle.std.proofs.Common.{append_assoc, arith}
 use Rattle.loop_parse.specs.Terms.{Kind, Token}
 use Rattle.loop_parse.specs.declared.reader.Halt.{Halt}
 use Rattle.loop_parse.specs.declared.reader.Halt.TheVariants as halts
-use Rattle.loop_parse.specs.Reading.{Reply, Reader, Fault, Fails, ◌>>=◌, starts, many_of, with_front}
+use Rattle.loop_parse.specs.Reading.{Reply, Reader, Fault, Fails, ◌>>=◌, starts, many_of}
+use Rattle.loop_parse.specs.Reading.{with_front}
 
 -- what is read from here on completes what is read
 pub record Many {A : Type 0} (read : Reply (List A)) (begins : Kind → Bool) (item : Reader A) (front : List A) (rest : List Token) : Type 0 where

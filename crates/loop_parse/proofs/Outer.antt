@@ -1,12 +1,16 @@
 -- An outermost expression is read as without the limit, or it is too long.
-use Rattle.std.proofs.Common.{◌≡◌, ℕ, zero, suc, ◌-◌, ◌≤◌, List, [], ◌∷◌, ◌++◌, length, take, drop, Option, Some, None, Ok, Err, Bool, true, false, ◌&&◌, nat_le, if◌then◌else◌, refl, sym, ap, subst, ◌∙◌, length-append, length-take, append_assoc, arith}
+use Rattle.std.proofs.Common.{◌≡◌, ℕ, zero, suc, ◌-◌, ◌≤◌, List, [], ◌∷◌, ◌++◌, length, take, drop}
+use Rattle.std.proofs.Common.{Option, Some, None, Ok, Err, Bool, true, false, ◌&&◌, nat_le}
+use Rattle.std.proofs.Common.{if◌then◌else◌, refl, sym, ap, subst, ◌∙◌, length-append, length-take}
+use Rattle.std.proofs.Common.{append_assoc, arith}
 use Rattle.std.proofs.lemmas.List.{take_all}
 use Rattle.std.proofs.lemmas.Bool.Decides.{nat_tests}
 use Rattle.loop_syntax.specs.Tree.{Tree}
 use Rattle.loop_parse.specs.Terms.{Kind, Token}
 use Rattle.loop_parse.specs.Expressions.{IsExpr, BeginsExpr}
 use Rattle.loop_parse.specs.Reading.{Reply, Form, Deep, expr, outer, limited, is_empty}
-use Rattle.loop_parse.proofs.Machine.{Symbol, Move, Take, Skip, Refuse, an_expr, step, offer, moved, run}
+use Rattle.loop_parse.proofs.Machine.{Symbol, Move, Take, Skip, Refuse, an_expr, step, offer, moved}
+use Rattle.loop_parse.proofs.Machine.{run}
 use Rattle.loop_parse.proofs.Exact.{Told, Ends, Never, Past, expr_law}
 use Rattle.loop_parse.proofs.Continue.{completion, completed, reach, reach_good, reach_run, fronts}
 use Rattle.loop_parse.proofs.Local.{Kept, expr_keeps}

@@ -2,7 +2,9 @@
 use Rattle.std.proofs.Common.{◌≡◌, List, [], ◌∷◌, ◌++◌, refl, sym, ap, subst, ◌∙◌, append_assoc}
 use Rattle.loop_syntax.specs.Tree.{Tree}
 use Rattle.loop_parse.specs.Terms.{Token}
-use Rattle.loop_parse.specs.Expressions.{IsExpr, plain, compare, IsSum, one, more, IsProduct, factor, times, IsUnary, primary, negated, IsPrimary, literal, variable, cell, rows, cols, bracketed}
+use Rattle.loop_parse.specs.Expressions.{IsExpr, plain, compare, IsSum, one, more, IsProduct}
+use Rattle.loop_parse.specs.Expressions.{factor, times, IsUnary, primary, negated, IsPrimary}
+use Rattle.loop_parse.specs.Expressions.{literal, variable, cell, rows, cols, bracketed}
 
 pub record Shift (X : List Token → Tree → List Token → Type 0) (ts : List Token) (e : Tree) (rest : List Token) : Type 0 where
   pub front : List Token

@@ -1,20 +1,44 @@
 -- The readings of statements and declarations are sound, and stop where the machine stops.
-use Rattle.std.proofs.Common.{◌≡◌, ℕ, ℤ, zero, suc, ◌<◌, ◌≤◌, List, [], ◌∷◌, ◌++◌, length, Option, Some, None, Ok, Err, Bool, true, false, if◌then◌else◌, refl, sym, ap, subst, ◌∙◌, arith}
+use Rattle.std.proofs.Common.{◌≡◌, ℕ, ℤ, zero, suc, ◌<◌, ◌≤◌, List, [], ◌∷◌, ◌++◌, length, Option}
+use Rattle.std.proofs.Common.{Some, None, Ok, Err, Bool, true, false, if◌then◌else◌, refl, sym, ap}
+use Rattle.std.proofs.Common.{subst, ◌∙◌, arith}
 use Rattle.tp_value.specs.declared.values.Place.{Place}
 use Rattle.tp_value.specs.declared.values.Op.{Op}
 use Rattle.tp_value.specs.declared.values.Op.TheVariants as reducers
-use Rattle.loop_syntax.specs.Tree.{Spelled, Tree, RowTree, RVar, RInt, CarryTree, CRows, CCells, ReduceTree, NLet, NSet, NPut, NFold, NCall, NBoth, NPrint}
+use Rattle.loop_syntax.specs.Tree.{Spelled, Tree, RowTree, RVar, RInt, CarryTree, CRows, CCells}
+use Rattle.loop_syntax.specs.Tree.{ReduceTree, NLet, NSet, NPut, NFold, NCall, NBoth, NPrint}
 use Rattle.loop_parse.specs.declared.terminal.Fixed.{Fixed}
 use Rattle.loop_parse.specs.declared.terminal.Fixed.TheVariants as words
-use Rattle.loop_parse.specs.declared.terminal.Fixed.TheVariants.{Comma, OpenBrace, CloseBrace, OpenRound, CloseRound, OpenSquare, CloseSquare}
+use Rattle.loop_parse.specs.declared.terminal.Fixed.TheVariants.{Comma, OpenBrace, CloseBrace}
+use Rattle.loop_parse.specs.declared.terminal.Fixed.TheVariants.{OpenRound, CloseRound, OpenSquare}
+use Rattle.loop_parse.specs.declared.terminal.Fixed.TheVariants.{CloseSquare}
 use Rattle.loop_parse.specs.Terms as kinds
 use Rattle.loop_parse.specs.Terms.{Kind, Token, Is, IsName, IsLiteral}
-use Rattle.loop_parse.specs.Grammar.{Item, The, At, AName, ALiteral, AnExpr, ABrace, Params, MoreNames, AStmt, CarryList, MoreCarries, ACarry, ReduceList, MoreReduces, AReduce, AnOp, AnApp, Args, MoreArgs, no_param, params, no_name, names, let_stmt, set_stmt, put_stmt, fold_stmt, call_stmt, both_stmt, print_stmt, emit_stmt, no_carry, carries, no_more_carry, more_carries, rows_item, cells_item, literal_item, no_reduce, reduces, no_more_reduce, more_reduces, red, add_op, mul_op, min_op, max_op, affine_op, app, no_arg, args, no_more_arg, more_args, Fits, the, at_place, a_name, a_literal, by, FitAll, none, next_item, DeepIn}
-use Rattle.loop_parse.specs.Reading.{Reply, Reader, Fault, Form, Deep, ◌>>=◌, tag, is_fixed, expect, Limits, starts, begins_with, many_of, after_comma, further}
+use Rattle.loop_parse.specs.Grammar.{Item, The, At, AName, ALiteral, AnExpr, ABrace, Params}
+use Rattle.loop_parse.specs.Grammar.{MoreNames, AStmt, CarryList, MoreCarries, ACarry, ReduceList}
+use Rattle.loop_parse.specs.Grammar.{MoreReduces, AReduce, AnOp, AnApp, Args, MoreArgs, no_param}
+use Rattle.loop_parse.specs.Grammar.{params, no_name, names, let_stmt, set_stmt, put_stmt}
+use Rattle.loop_parse.specs.Grammar.{fold_stmt, call_stmt, both_stmt, print_stmt, emit_stmt}
+use Rattle.loop_parse.specs.Grammar.{no_carry, carries, no_more_carry, more_carries, rows_item}
+use Rattle.loop_parse.specs.Grammar.{cells_item, literal_item, no_reduce, reduces, no_more_reduce}
+use Rattle.loop_parse.specs.Grammar.{more_reduces, red, add_op, mul_op, min_op, max_op, affine_op}
+use Rattle.loop_parse.specs.Grammar.{app, no_arg, args, no_more_arg, more_args, Fits, the, at_place}
+use Rattle.loop_parse.specs.Grammar.{a_name, a_literal, by, FitAll, none, next_item, DeepIn}
+use Rattle.loop_parse.specs.Reading.{Reply, Reader, Fault, Form, Deep, ◌>>=◌, tag, is_fixed, expect}
+use Rattle.loop_parse.specs.Reading.{Limits, starts, begins_with, many_of, after_comma, further}
 use Rattle.loop_parse.specs.Reading
 use Rattle.loop_parse.proofs.Items.{Deeply, under, now, ◌▸◌, ◌◂◌}
-use Rattle.loop_parse.proofs.Machine.{Symbol, Want, AName as Naming, Unary, ProductRest, SumRest, CompareRest, AssignRest, Args as Arguing, MoreArgs as Further, Params as Naming_all, MoreNames as Further_names, Row, ColumnRest, CarryList as Carrying, MoreCarries as Further_carries, ReduceList as Reducing, MoreReduces as Further_reduces, Reducer, Take, Skip, Refuse, an_expr as expr_on, an_app, a_carry, a_column, a_reduce, step, offer, moved, run, unary_move, primary_move, fixed_move, assign_move, row_move, reducer_move, on_fixed, if_name}
-use Rattle.loop_parse.proofs.Exact.{Ends, done, stopped, bind, along, weaken, wider, deeper, expects, taken, took, refused, skipped, name_law, AtFixed}
+use Rattle.loop_parse.proofs.Machine.{Symbol, Want, AName as Naming, Unary, ProductRest, SumRest}
+use Rattle.loop_parse.proofs.Machine.{CompareRest, AssignRest, Args as Arguing, MoreArgs as Further}
+use Rattle.loop_parse.proofs.Machine.{Params as Naming_all, MoreNames as Further_names, Row}
+use Rattle.loop_parse.proofs.Machine.{ColumnRest, CarryList as Carrying}
+use Rattle.loop_parse.proofs.Machine.{MoreCarries as Further_carries, ReduceList as Reducing}
+use Rattle.loop_parse.proofs.Machine.{MoreReduces as Further_reduces, Reducer, Take, Skip, Refuse}
+use Rattle.loop_parse.proofs.Machine.{an_expr as expr_on, an_app, a_carry, a_column, a_reduce, step}
+use Rattle.loop_parse.proofs.Machine.{offer, moved, run, unary_move, primary_move, fixed_move}
+use Rattle.loop_parse.proofs.Machine.{assign_move, row_move, reducer_move, on_fixed, if_name}
+use Rattle.loop_parse.proofs.Exact.{Ends, done, stopped, bind, along, weaken, wider, deeper}
+use Rattle.loop_parse.proofs.Exact.{expects, taken, took, refused, skipped, name_law, AtFixed}
 
 pub the_law : {W : List Token → Type 0} (s : Fixed) (ts : List Token) → Ends (λ p rest. Fits (The s) ts rest) (λ st. run (Want s ∷ st) ts) W (length ts) (expect s ts)
 the_law s ts = weaken (λ p rest z. subst (λ (us : List Token). Fits (The s) us rest) (sym z.2) (the z.1)) (expects s ts)

@@ -1,17 +1,33 @@
 -- The readings of blocks, statements, declarations and programs are sound, and stop where the machine stops.
-use Rattle.std.proofs.Common.{◌≡◌, ℕ, pos, zero, suc, ◌<◌, ◌≤◌, List, [], ◌∷◌, length, Ok, Bool, true, false, if◌then◌else◌, refl, sym, ap, ◌∙◌, arith}
-use Rattle.loop_syntax.specs.Tree.{TInt, Node, NIf, NWhile, NLoop, NPar, Nodes, Last, nodes, TMade, ProgramTree}
+use Rattle.std.proofs.Common.{◌≡◌, ℕ, pos, zero, suc, ◌<◌, ◌≤◌, List, [], ◌∷◌, length, Ok, Bool}
+use Rattle.std.proofs.Common.{true, false, if◌then◌else◌, refl, sym, ap, ◌∙◌, arith}
+use Rattle.loop_syntax.specs.Tree.{TInt, Node, NIf, NWhile, NLoop, NPar, Nodes, Last, nodes, TMade}
+use Rattle.loop_syntax.specs.Tree.{ProgramTree}
 use Rattle.loop_parse.specs.declared.terminal.Fixed.TheVariants as words
-use Rattle.loop_parse.specs.declared.terminal.Fixed.TheVariants.{Comma, OpenBrace, CloseBrace, OpenRound, CloseRound, OpenSquare, CloseSquare}
+use Rattle.loop_parse.specs.declared.terminal.Fixed.TheVariants.{Comma, OpenBrace, CloseBrace}
+use Rattle.loop_parse.specs.declared.terminal.Fixed.TheVariants.{OpenRound, CloseRound, OpenSquare}
+use Rattle.loop_parse.specs.declared.terminal.Fixed.TheVariants.{CloseSquare}
 use Rattle.loop_parse.specs.Terms as kinds
 use Rattle.loop_parse.specs.Terms.{Kind, Token, Is, IsName, IsLiteral}
-use Rattle.loop_parse.specs.Grammar.{DeclTree, DTable, DFunc, tree_from, AProgram, Decls, ADecl, ABlock, Stmts, AStmt, Other, program, no_decl, decls, input_decl, table_decl, fn_decl, block, no_stmt, stmts, if_stmt, while_stmt, loop_stmt, par_stmt, no_other, other, Fits, the, at_place, a_name, by, none, DeepIn}
-use Rattle.loop_parse.specs.Reading.{Reply, Reader, Fault, Form, Deep, ◌>>=◌, tag, is_fixed, expect, Limits, starts, begins_with, many_of, after_comma, further}
+use Rattle.loop_parse.specs.Grammar.{DeclTree, DTable, DFunc, tree_from, AProgram, Decls, ADecl}
+use Rattle.loop_parse.specs.Grammar.{ABlock, Stmts, AStmt, Other, program, no_decl, decls}
+use Rattle.loop_parse.specs.Grammar.{input_decl, table_decl, fn_decl, block, no_stmt, stmts}
+use Rattle.loop_parse.specs.Grammar.{if_stmt, while_stmt, loop_stmt, par_stmt, no_other, other}
+use Rattle.loop_parse.specs.Grammar.{Fits, the, at_place, a_name, by, none, DeepIn}
+use Rattle.loop_parse.specs.Reading.{Reply, Reader, Fault, Form, Deep, ◌>>=◌, tag, is_fixed, expect}
+use Rattle.loop_parse.specs.Reading.{Limits, starts, begins_with, many_of, after_comma, further}
 use Rattle.loop_parse.specs.Reading
 use Rattle.loop_parse.proofs.Items.{Deeply, under, now, ◌▸◌, ◌◂◌}
-use Rattle.loop_parse.proofs.Machine.{Symbol, Want, AName as Naming, Stmt, Stmts as Stating, ElseRest, Params as Naming_all, CarryList as Carrying, ReduceList as Reducing, Decl, Decls as Declaring, Take, Skip, Refuse, an_expr as expr_on, a_block, step, run, stmt_move, decl_move, or_skip}
-use Rattle.loop_parse.proofs.Exact.{Ends, done, stopped, bind, along, weaken, wider, deeper, took, refused, skipped}
-use Rattle.loop_parse.proofs.Sound.{Base, Listing, many_law, the_law, name_item, params_law, let_law, fold_law, call_law, both_law, print_law, emit_law, assign_law, carry_list_law, reduce_list_law}
+use Rattle.loop_parse.proofs.Machine.{Symbol, Want, AName as Naming, Stmt, Stmts as Stating}
+use Rattle.loop_parse.proofs.Machine.{ElseRest, Params as Naming_all, CarryList as Carrying}
+use Rattle.loop_parse.proofs.Machine.{ReduceList as Reducing, Decl, Decls as Declaring, Take, Skip}
+use Rattle.loop_parse.proofs.Machine.{Refuse, an_expr as expr_on, a_block, step, run, stmt_move}
+use Rattle.loop_parse.proofs.Machine.{decl_move, or_skip}
+use Rattle.loop_parse.proofs.Exact.{Ends, done, stopped, bind, along, weaken, wider, deeper, took}
+use Rattle.loop_parse.proofs.Exact.{refused, skipped}
+use Rattle.loop_parse.proofs.Sound.{Base, Listing, many_law, the_law, name_item, params_law}
+use Rattle.loop_parse.proofs.Sound.{let_law, fold_law, call_law, both_law, print_law, emit_law}
+use Rattle.loop_parse.proofs.Sound.{assign_law, carry_list_law, reduce_list_law}
 
 stmts_cons : (level : ℕ) (s : Node) (ss : List Node) (ts mid rest : List Token) → Fits (AStmt level s) ts mid → Fits (Stmts level ss) mid rest → Fits (Stmts level (s ∷ ss)) ts rest
 stmts_cons level s ss ts mid rest z zs = by stmts (z ◂ zs ◂ none)

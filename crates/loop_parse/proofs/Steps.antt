@@ -1,11 +1,14 @@
 -- One reading in terms of another.
-use Rattle.std.proofs.Common.{◌≡◌, ℕ, zero, suc, ◌<◌, ◌≤◌, List, ◌∷◌, length, false, Result, refl, ap, sym, ◌∙◌, arith}
+use Rattle.std.proofs.Common.{◌≡◌, ℕ, zero, suc, ◌<◌, ◌≤◌, List, ◌∷◌, length, false, Result, refl}
+use Rattle.std.proofs.Common.{ap, sym, ◌∙◌, arith}
 use Rattle.loop_parse.specs.declared.terminal.Fixed.TheVariants.{Minus}
 use Rattle.loop_parse.specs.Terms as kinds
 use Rattle.loop_parse.specs.Terms.{Kind, Token, Is, IsName, IsLiteral}
 use Rattle.loop_parse.specs.declared.reader.Halt.{Halt}
 use Rattle.loop_syntax.specs.Tree.{Tree, Node}
-use Rattle.loop_parse.specs.Reading.{Reply, Gives, is_fixed, primary_of, unary_of, primary, unary, product, sum, expr, nested, name, name_at, name_rest, name_cell, primary_at, ◌>>=◌, stmts, stmt, inner_stmts, within}
+use Rattle.loop_parse.specs.Reading.{Reply, Gives, is_fixed, primary_of, unary_of, primary, unary}
+use Rattle.loop_parse.specs.Reading.{product, sum, expr, nested, name, name_at, name_rest}
+use Rattle.loop_parse.specs.Reading.{name_cell, primary_at, ◌>>=◌, stmts, stmt, inner_stmts, within}
 
 unary_of_primary : (inner : List Token → Reply Tree) (t : Token) (ts : List Token) → is_fixed Minus t.kind ≡ false → unary_of inner (t ∷ ts) ≡ primary_of inner (t ∷ ts)
 unary_of_primary inner t ts h = rw (h, unary_of) refl

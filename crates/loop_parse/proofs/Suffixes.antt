@@ -1,7 +1,11 @@
 -- What is left of a list is its end, and two ends of one length are one.
-use Rattle.std.proofs.Common.{◌≡◌, List, [], ◌∷◌, ◌++◌, length, take, refl, sym, ap, ◌∙◌, append_assoc, length-append, arith}
+use Rattle.std.proofs.Common.{◌≡◌, List, [], ◌∷◌, ◌++◌, length, take, refl, sym, ap, ◌∙◌}
+use Rattle.std.proofs.Common.{append_assoc, length-append, arith}
 use Rattle.loop_parse.specs.Terms.{Token}
-use Rattle.loop_parse.specs.Grammar.{Item, Fits, the, at_place, a_name, a_literal, an_expr, a_brace, by, FitAll, none, next_item, Comes, here, inside, ComesIn, in_first, in_later, IsTooDeep, long_expr, deep_brace, DeepFault}
+use Rattle.loop_parse.specs.Grammar.{Item, Fits, the, at_place, a_name, a_literal, an_expr, a_brace}
+use Rattle.loop_parse.specs.Grammar.{by, FitAll, none, next_item, Comes, here, inside, ComesIn}
+use Rattle.loop_parse.specs.Grammar.{in_first, in_later, IsTooDeep, long_expr, deep_brace}
+use Rattle.loop_parse.specs.Grammar.{DeepFault}
 use Rattle.loop_parse.proofs.Shift.{shift_expr}
 use Rattle.loop_parse.proofs.Outer.{take_rest}
 

@@ -1,5 +1,6 @@
 -- The parser's answers on a whole text, from what its reading says of the tokens.
-use Rattle.std.proofs.Common.{◌≡◌, ℕ, ◌<◌, ◌≤◌, List, [], ◌∷◌, length, Ok, Err, refl, sym, ap, subst, ◌∙◌, arith}
+use Rattle.std.proofs.Common.{◌≡◌, ℕ, ◌<◌, ◌≤◌, List, [], ◌∷◌, length, Ok, Err, refl, sym, ap}
+use Rattle.std.proofs.Common.{subst, ◌∙◌, arith}
 use Rattle.tp_value.specs.declared.values.Place.{Place}
 use Rattle.loop_lex.specs.declared.token.Token as lexed
 use Rattle.loop_lex.specs.declared.token.LexFault.{LexFault}
@@ -13,11 +14,14 @@ use Rattle.loop_parse.specs.declared.parser.ParseFault.{ParseFault}
 use Rattle.loop_parse.specs.declared.parser.ParseFault.TheVariants as parsing
 use Rattle.loop_parse.specs.Terms.{Token, tokens_of, seen}
 use Rattle.loop_parse.specs.Grammar.{IsProgram, FormFault, DeepFault}
-use Rattle.loop_parse.specs.Text.{Reads, place_at, IsFormPlace, IsDeepPlace, TextFault, Form, Deep, FirstTextFault, byte, range, form, deep, IsOnlyTree, IsCause, IsOnlyCause}
+use Rattle.loop_parse.specs.Text.{Reads, place_at, IsFormPlace, IsDeepPlace, TextFault, Form, Deep}
+use Rattle.loop_parse.specs.Text.{FirstTextFault, byte, range, form, deep, IsOnlyTree, IsCause}
+use Rattle.loop_parse.specs.Text.{IsOnlyCause}
 use Rattle.loop_parse.specs.Reading as reading
 use Rattle.loop_parse.specs.Reading.{Fails, within}
 use Rattle.loop_parse.specs.Parsing.{Finishes, IsPlaced}
-use Rattle.loop_parse.proofs.Top.{one_tree, program_no_fault, no_two_faults, read_program, shallow, fault_after, fault_at, deep_at}
+use Rattle.loop_parse.proofs.Top.{one_tree, program_no_fault, no_two_faults, read_program, shallow}
+use Rattle.loop_parse.proofs.Top.{fault_after, fault_at, deep_at}
 use Rattle.loop_parse.proofs.Suffixes.{EndOf, same_end, fault_end}
 
 -- a text has its tokens alone

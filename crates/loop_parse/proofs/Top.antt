@@ -1,10 +1,13 @@
 -- What is read from the start, in the words of the grammar.
-use Rattle.std.proofs.Common.{◌≡◌, ◌<◌, ◌≤◌, List, [], ◌∷◌, ◌++◌, length, Option, Some, None, Ok, Err, Bool, true, false, ◌⊎◌, inl, inr, refl, sym, ap, subst, ◌∙◌, append_assoc, length-append, nat_lt, arith}
+use Rattle.std.proofs.Common.{◌≡◌, ◌<◌, ◌≤◌, List, [], ◌∷◌, ◌++◌, length, Option, Some, None, Ok}
+use Rattle.std.proofs.Common.{Err, Bool, true, false, ◌⊎◌, inl, inr, refl, sym, ap, subst, ◌∙◌}
+use Rattle.std.proofs.Common.{append_assoc, length-append, nat_lt, arith}
 use Rattle.std.proofs.lemmas.Bool.Decides.{nat_tests}
 use Rattle.loop_syntax.specs.Tree.{ProgramTree, Last}
 use Rattle.loop_parse.specs.declared.terminal.Fixed.TheVariants.{Main}
 use Rattle.loop_parse.specs.Terms.{Token}
-use Rattle.loop_parse.specs.Grammar.{tree_from, IsProgram, Begins, NoneContinues, FormFault, DeepFault}
+use Rattle.loop_parse.specs.Grammar.{tree_from, IsProgram, Begins, NoneContinues, FormFault}
+use Rattle.loop_parse.specs.Grammar.{DeepFault}
 use Rattle.loop_parse.specs.Reading.{Reply, Fault, Form, Deep, within, unlimited}
 use Rattle.loop_parse.specs.Reading
 use Rattle.loop_parse.proofs.Machine.{Symbol, Want, Decls, a_block, run}
@@ -14,7 +17,8 @@ use Rattle.loop_parse.proofs.SoundBlocks.{AtProgram, DeepProgram, program_law}
 use Rattle.loop_parse.proofs.Answering.{Deeps}
 use Rattle.loop_parse.proofs.AnswersBlocks.{program_answers}
 use Rattle.loop_parse.proofs.Bases.{within_base, unlimited_base, within_answers, unlimited_answers}
-use Rattle.loop_parse.proofs.Continue.{completion, completed, reach, reach_good, reach_run, fronts, Stuck, stuck_run, stuck_end}
+use Rattle.loop_parse.proofs.Continue.{completion, completed, reach, reach_good, reach_run, fronts}
+use Rattle.loop_parse.proofs.Continue.{Stuck, stuck_run, stuck_end}
 
 abbrev pub start : List Symbol
 start = Decls ∷ Want Main ∷ a_block []

@@ -1,5 +1,6 @@
 -- What the window of an outermost expression says of the whole.
-use Rattle.std.proofs.Common.{◌≡◌, ℕ, ◌-◌, List, length, take, drop, Ok, Err, true, false, ◌&&◌, nat_le, refl, ap, ◌∙◌}
+use Rattle.std.proofs.Common.{◌≡◌, ℕ, ◌-◌, List, length, take, drop, Ok, Err, true, false, ◌&&◌}
+use Rattle.std.proofs.Common.{nat_le, refl, ap, ◌∙◌}
 use Rattle.loop_parse.specs.Terms.{Token}
 use Rattle.loop_syntax.specs.Tree.{Tree}
 use Rattle.loop_parse.specs.Reading.{Form, Deep, expr, outer, limited, window, is_empty}

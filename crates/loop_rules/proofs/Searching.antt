@@ -1,5 +1,6 @@
 -- Going over sites one after the other.
-use Rattle.std.proofs.Common.{◌≡◌, ◌<◌, ◌≤◌, ◌+◌, ◌++◌, ◌∷◌, [], ℕ, zero, suc, List, map, not, drop, drop-cons, add-one, length, get_or, Option, refl, sym, ap, arith}
+use Rattle.std.proofs.Common.{◌≡◌, ◌<◌, ◌≤◌, ◌+◌, ◌++◌, ◌∷◌, [], ℕ, zero, suc, List, map, not, drop}
+use Rattle.std.proofs.Common.{drop-cons, add-one, length, get_or, Option, refl, sym, ap, arith}
 use Rattle.tp_value.specs.declared.Place.{Place}
 use Rattle.loop_syntax.specs.declared.Name.{Name}
 use Rattle.loop_syntax.specs.declared.RowAt.TheVariants as row

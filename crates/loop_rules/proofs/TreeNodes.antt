@@ -6,15 +6,22 @@ use Rattle.tp_value.specs.declared.values.Place.{Place}
 use Rattle.loop_syntax.specs.declared.expression.Name.{Name}
 use Rattle.loop_syntax.specs.declared.expression.Expr.{Expr}
 use Rattle.loop_syntax.specs.declared.statement.App.{App}
-use Rattle.loop_syntax.specs.declared.statement.Stmt.{Stmt, Row_of-Stmt, end_of-Stmt, more_of-Stmt, items-the_row-Stmt, map-Stmt}
+use Rattle.loop_syntax.specs.declared.statement.Stmt.{Stmt, Row_of-Stmt, end_of-Stmt, more_of-Stmt}
+use Rattle.loop_syntax.specs.declared.statement.Stmt.{items-the_row-Stmt, map-Stmt}
 use Rattle.loop_syntax.specs.declared.statement.Stmt.TheViews.{out-Stmt}
 use Rattle.loop_syntax.specs.declared.statement.Stmt.TheOpen as layers
-use Rattle.loop_syntax.specs.declared.statement.Stmt.TheFolds.{fold-ParLoop, fold_out-Stmt, fold-roll-ParLoop}
-use Rattle.loop_syntax.specs.declared.statement.Stmt.TheVariants.{Let, Set, Put, If', While', Loop', Par', Fold, Call, Both, Print, Emit}
+use Rattle.loop_syntax.specs.declared.statement.Stmt.TheFolds.{fold-ParLoop, fold_out-Stmt}
+use Rattle.loop_syntax.specs.declared.statement.Stmt.TheFolds.{fold-roll-ParLoop}
+use Rattle.loop_syntax.specs.declared.statement.Stmt.TheVariants.{Let, Set, Put, If', While', Loop'}
+use Rattle.loop_syntax.specs.declared.statement.Stmt.TheVariants.{Par', Fold, Call, Both, Print}
+use Rattle.loop_syntax.specs.declared.statement.Stmt.TheVariants.{Emit}
 use Rattle.loop_syntax.specs.declared.statement.Stmt.TheBlock.{shown-the_row-Stmt-0}
 use Rattle.loop_syntax.specs.declared.Stmt.{items_shown-the_row-Stmt-0}
 use Rattle.loop_syntax.specs.declared.statement.ParLoop.{ParLoop, roll-ParLoop}
-use Rattle.loop_syntax.specs.Tree.{spelled, tree_of, app_of, carry_of, reduce_of, Node, NLet, NSet, NPut, NIf, NWhile, NLoop, NPar, NFold, NCall, NBoth, NPrint, NEmit, Nodes, Last, Then, ParHead, stmt_step, par_step, nodes, node_of, nodes_of}
+use Rattle.loop_syntax.specs.Tree.{spelled, tree_of, app_of, carry_of, reduce_of, Node, NLet, NSet}
+use Rattle.loop_syntax.specs.Tree.{NPut, NIf, NWhile, NLoop, NPar, NFold, NCall, NBoth, NPrint}
+use Rattle.loop_syntax.specs.Tree.{NEmit, Nodes, Last, Then, ParHead, stmt_step, par_step, nodes}
+use Rattle.loop_syntax.specs.Tree.{node_of, nodes_of}
 
 abbrev pub node_step : Stmt → Node
 node_step s = stmt_step (map-Stmt Stmt (layers.ParLoop-F Stmt (Unit {0})) Node (ParHead × Nodes) node_of (fold-ParLoop Node (ParHead × Nodes) stmt_step par_step) (out-Stmt s))

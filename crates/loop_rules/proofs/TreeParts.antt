@@ -1,12 +1,18 @@
 -- The first broken rule of a program is that of its tree.
-use Rattle.std.proofs.Common.{◌≡◌, ◌+◌, ◌++◌, ◌∷◌, [], ℕ, zero, suc, Bool, true, false, cond, ◌||◌, not, List, map, drop, length, Option, Some, None, bytes_eq, nat_lt, max, refl, sym, ap, ◌∙◌}
+use Rattle.std.proofs.Common.{◌≡◌, ◌+◌, ◌++◌, ◌∷◌, [], ℕ, zero, suc, Bool, true, false, cond, ◌||◌}
+use Rattle.std.proofs.Common.{not, List, map, drop, length, Option, Some, None, bytes_eq, nat_lt}
+use Rattle.std.proofs.Common.{max, refl, sym, ap, ◌∙◌}
 use Rattle.std.specs.Prelude.{nat_eq, nat_le}
 use Rattle.std.proofs.lemmas.List.{length-map, map-append}
 use Rattle.tp_value.specs.declared.values.Place.{Place}
-use Rattle.tp_value.specs.declared.limits.TheConstants.{MAX_EXPRESSION_HEIGHT, MAX_DECLARED_VARIABLES, MAX_PARAMETERS, MAX_REDUCTIONS, MAX_CARRIES, MAX_PAR_NESTING, MAX_TABLES, MAX_FUNCTIONS}
+use Rattle.tp_value.specs.declared.limits.TheConstants.{MAX_EXPRESSION_HEIGHT}
+use Rattle.tp_value.specs.declared.limits.TheConstants.{MAX_DECLARED_VARIABLES, MAX_PARAMETERS}
+use Rattle.tp_value.specs.declared.limits.TheConstants.{MAX_REDUCTIONS, MAX_CARRIES}
+use Rattle.tp_value.specs.declared.limits.TheConstants.{MAX_PAR_NESTING, MAX_TABLES, MAX_FUNCTIONS}
 use Rattle.loop_syntax.specs.declared.expression.Name.{Name}
 use Rattle.loop_syntax.specs.declared.expression.Expr.{Expr}
-use Rattle.loop_syntax.specs.declared.expression.Expr.TheVariants.{Int, Var, Cell', Rows, Cols, Neg', Bin'}
+use Rattle.loop_syntax.specs.declared.expression.Expr.TheVariants.{Int, Var, Cell', Rows, Cols}
+use Rattle.loop_syntax.specs.declared.expression.Expr.TheVariants.{Neg', Bin'}
 use Rattle.loop_syntax.specs.declared.statement.RowAt.TheVariants as row
 use Rattle.loop_syntax.specs.declared.statement.Carry.{Carry}
 use Rattle.loop_syntax.specs.declared.statement.Carry.TheVariants as carry
@@ -20,11 +26,19 @@ use Rattle.loop_rules.specs.declared.part.Part.{Part}
 use Rattle.loop_rules.specs.Keeps.{in_function, carry_word}
 use Rattle.loop_rules.specs.Limits.{height, first_place, earlier, past, first_name}
 use Rattle.loop_rules.specs.Names.{is_in, texts, func_names, first_named, func_of, table_name}
-use Rattle.loop_rules.specs.Scopes.{misfits, is_func_before, is_table_by, unseen_targets, loop_targets}
+use Rattle.loop_rules.specs.Scopes.{misfits, is_func_before, is_table_by, unseen_targets}
+use Rattle.loop_rules.specs.Scopes.{loop_targets}
 use Rattle.loop_rules.specs.Search.{lowest, lowest_at, lowest_in, resolved_rules}
-use Rattle.loop_rules.specs.Sites.{Site, Spot, site, the_loop, Uses, NamesTable, ReadsCell, Calls, Evaluates, Declares, Parallel, in_expr, in_whole, in_args, in_app, in_carries}
+use Rattle.loop_rules.specs.Sites.{Site, Spot, site, the_loop, Uses, NamesTable, ReadsCell, Calls}
+use Rattle.loop_rules.specs.Sites.{Evaluates, Declares, Parallel, in_expr, in_whole, in_args}
+use Rattle.loop_rules.specs.Sites.{in_app, in_carries}
 use Rattle.loop_rules.proofs.Searching.{lowest_in_append}
-use Rattle.loop_rules.proofs.TreeRules.{Sig, TreeSpot, at_name, texts_of, sig_names, sig_of, first_of, sig_misfits, is_sig_before, is_name_by, first_places, past_of, height_of, place_of, low_uses, low_table, low_expr, low_height, low_whole, low_args, low_call, low_app, low_carries, unseen, looped, word_of, carried, low_par, low_declares}
+use Rattle.loop_rules.proofs.TreeRules.{Sig, TreeSpot, at_name, texts_of, sig_names, sig_of}
+use Rattle.loop_rules.proofs.TreeRules.{first_of, sig_misfits, is_sig_before, is_name_by}
+use Rattle.loop_rules.proofs.TreeRules.{first_places, past_of, height_of, place_of, low_uses}
+use Rattle.loop_rules.proofs.TreeRules.{low_table, low_expr, low_height, low_whole, low_args}
+use Rattle.loop_rules.proofs.TreeRules.{low_call, low_app, low_carries, unseen, looped, word_of}
+use Rattle.loop_rules.proofs.TreeRules.{carried, low_par, low_declares}
 
 -- ---- names
 

@@ -1,34 +1,49 @@
 -- The first broken rule of a whole program is that of its tree.
-use Rattle.std.proofs.Common.{◌≡◌, ◌++◌, ◌∷◌, [], ℕ, suc, Bool, ◌||◌, List, map, length, Option, None, refl, sym, ap, ◌∙◌}
+use Rattle.std.proofs.Common.{◌≡◌, ◌++◌, ◌∷◌, [], ℕ, suc, Bool, ◌||◌, List, map, length, Option}
+use Rattle.std.proofs.Common.{None, refl, sym, ap, ◌∙◌}
 use Rattle.std.specs.Prelude.{nat_eq}
 use Rattle.std.proofs.lemmas.List.{length-map, map-append}
 use denote.Hole.Carrier
 use Rattle.tp_value.specs.declared.values.Place.{Place}
-use Rattle.tp_value.specs.declared.limits.TheConstants.{MAX_TABLES, MAX_FUNCTIONS, MAX_PARAMETERS, MAX_DECLARED_VARIABLES}
+use Rattle.tp_value.specs.declared.limits.TheConstants.{MAX_TABLES, MAX_FUNCTIONS, MAX_PARAMETERS}
+use Rattle.tp_value.specs.declared.limits.TheConstants.{MAX_DECLARED_VARIABLES}
 use Rattle.loop_syntax.specs.declared.expression.Name.{Name}
 use Rattle.loop_syntax.specs.declared.expression.Expr.{Expr}
 use Rattle.loop_syntax.specs.declared.statement.Stmt.{Stmt, Row_of-Stmt, end_of-Stmt, more_of-Stmt}
 use Rattle.loop_syntax.specs.declared.statement.Stmt.TheViews.{out-Stmt}
-use Rattle.loop_syntax.specs.declared.statement.Stmt.TheVariants.{Let, Set, Put, If', While', Loop', Par', Fold, Call, Both, Print, Emit}
+use Rattle.loop_syntax.specs.declared.statement.Stmt.TheVariants.{Let, Set, Put, If', While', Loop'}
+use Rattle.loop_syntax.specs.declared.statement.Stmt.TheVariants.{Par', Fold, Call, Both, Print}
+use Rattle.loop_syntax.specs.declared.statement.Stmt.TheVariants.{Emit}
 use Rattle.loop_syntax.specs.declared.program.Func.{Func}
 use Rattle.loop_syntax.specs.declared.program.TableDecl.{TableDecl}
 use Rattle.loop_syntax.specs.declared.program.TableDecl.TheVariants.{Input, Made}
 use Rattle.loop_syntax.specs.declared.program.Program.{Program}
-use Rattle.loop_syntax.specs.Tree.{Spelled, spelled, tree_of, Nodes, node_of, nodes_of, table_of, func_of, ProgramTree, program_of}
+use Rattle.loop_syntax.specs.Tree.{Spelled, spelled, tree_of, Nodes, node_of, nodes_of, table_of}
+use Rattle.loop_syntax.specs.Tree.{func_of, ProgramTree, program_of}
 use Rattle.loop_rules.specs.declared.rule.Rule.TheVariants.{Names, Limits}
 use Rattle.loop_rules.specs.declared.fault.Fault.{Fault}
 use Rattle.loop_rules.specs.declared.part.Part.TheVariants.{OfSize, OfFunc, OfMain}
-use Rattle.loop_rules.specs.Declarations.{declared_in, declared_all, declared_list, table_of_decl, tables_of_decls}
+use Rattle.loop_rules.specs.Declarations.{declared_in, declared_all, declared_list, table_of_decl}
+use Rattle.loop_rules.specs.Declarations.{tables_of_decls}
 use Rattle.loop_rules.specs.Limits.{past}
 use Rattle.loop_rules.specs.Names.{is_in, texts, func_names, first_named}
 use Rattle.loop_rules.specs.Names as names
 use Rattle.loop_rules.specs.Scopes.{is_func_before, is_table_by}
 use Rattle.loop_rules.specs.Search.{lowest, lowest_at, lowest_in, resolved_rules}
-use Rattle.loop_rules.specs.Sites.{Spot, site, top, tables_of, Declares, DeclaresTable, DeclaresFunc, DeclaresAll, declared_var, in_stmt, in_whole, in_list, in_params, in_decl, in_decls, in_func, in_funcs, in_main, func_spot, main_spot, sites, spot_after, spot_of_list}
-use Rattle.loop_rules.proofs.TreeParts.{sig_in, spot_tree, texts_same, names_same, before_same, by_same, past_same, chain, first, whole_low, declares_low}
+use Rattle.loop_rules.specs.Sites.{Spot, site, top, tables_of, Declares, DeclaresTable}
+use Rattle.loop_rules.specs.Sites.{DeclaresFunc, DeclaresAll, declared_var, in_stmt, in_whole}
+use Rattle.loop_rules.specs.Sites.{in_list, in_params, in_decl, in_decls, in_func, in_funcs}
+use Rattle.loop_rules.specs.Sites.{in_main, func_spot, main_spot, sites, spot_after, spot_of_list}
+use Rattle.loop_rules.proofs.TreeParts.{sig_in, spot_tree, texts_same, names_same, before_same}
+use Rattle.loop_rules.proofs.TreeParts.{by_same, past_same, chain, first, whole_low, declares_low}
 use Rattle.loop_rules.proofs.TreeNodes.{node_rows, rows_of, row_nodes}
 use Rattle.loop_rules.proofs.TreeStatements.{stmt_low, after_low}
-use Rattle.loop_rules.proofs.TreeRules.{Sig, TreeSpot, at_name, texts_of, sig_names, sig_of, is_sig_before, is_name_by, first_of, past_of, low_whole, low_declares, low_node, low_nodes, behind_all, vars_of, vars_in, outside, name_of, sig, low_new_table, low_decl, low_decls, low_new_func, low_params, inside, low_vars, low_func, low_funcs, low_main, low_program}
+use Rattle.loop_rules.proofs.TreeRules.{Sig, TreeSpot, at_name, texts_of, sig_names, sig_of}
+use Rattle.loop_rules.proofs.TreeRules.{is_sig_before, is_name_by, first_of, past_of, low_whole}
+use Rattle.loop_rules.proofs.TreeRules.{low_declares, low_node, low_nodes, behind_all, vars_of}
+use Rattle.loop_rules.proofs.TreeRules.{vars_in, outside, name_of, sig, low_new_table, low_decl}
+use Rattle.loop_rules.proofs.TreeRules.{low_decls, low_new_func, low_params, inside, low_vars}
+use Rattle.loop_rules.proofs.TreeRules.{low_func, low_funcs, low_main, low_program}
 
 -- ---- variables that are declared
 

@@ -1,9 +1,19 @@
 -- The first broken rule of a tree, one part after the other: the rules by trees alone.
-use Rattle.std.specs.Prelude.{ℕ, suc, Bool, true, false, cond, not, ◌||◌, List, [], ◌∷◌, ◌++◌, map, length, drop, Option, Some, None, bytes_eq, nat_lt, nat_le, nat_eq, max}
+use Rattle.std.specs.Prelude.{ℕ, suc, Bool, true, false, cond, not, ◌||◌, List, [], ◌∷◌, ◌++◌, map}
+use Rattle.std.specs.Prelude.{length, drop, Option, Some, None, bytes_eq, nat_lt, nat_le, nat_eq}
+use Rattle.std.specs.Prelude.{max}
 use Rattle.tp_value.specs.declared.values.Place.{Place}
-use Rattle.tp_value.specs.declared.limits.TheConstants.{MAX_TABLES, MAX_FUNCTIONS, MAX_PARAMETERS, MAX_DECLARED_VARIABLES, MAX_EXPRESSION_HEIGHT, MAX_PAR_NESTING, MAX_REDUCTIONS, MAX_CARRIES}
-use Rattle.loop_syntax.specs.Tree.{Spelled, Tree, TInt, TVar, TCell, TRows, TCols, TNeg, TBin, RVar, RInt, CarryTree, CRows, CCells, ReduceTree, AppTree, ParHead, Node, NLet, NSet, NPut, NIf, NWhile, NLoop, NPar, NFold, NCall, NBoth, NPrint, NEmit, Nodes, Last, Then, TableTree, TInput, TMade, FuncTree, ProgramTree}
-use Rattle.loop_rules.specs.declared.rule.Rule.TheVariants.{Names, Functions, Output, LoopVariables, Limits}
+use Rattle.tp_value.specs.declared.limits.TheConstants.{MAX_TABLES, MAX_FUNCTIONS, MAX_PARAMETERS}
+use Rattle.tp_value.specs.declared.limits.TheConstants.{MAX_DECLARED_VARIABLES}
+use Rattle.tp_value.specs.declared.limits.TheConstants.{MAX_EXPRESSION_HEIGHT, MAX_PAR_NESTING}
+use Rattle.tp_value.specs.declared.limits.TheConstants.{MAX_REDUCTIONS, MAX_CARRIES}
+use Rattle.loop_syntax.specs.Tree.{Spelled, Tree, TInt, TVar, TCell, TRows, TCols, TNeg, TBin, RVar}
+use Rattle.loop_syntax.specs.Tree.{RInt, CarryTree, CRows, CCells, ReduceTree, AppTree, ParHead}
+use Rattle.loop_syntax.specs.Tree.{Node, NLet, NSet, NPut, NIf, NWhile, NLoop, NPar, NFold, NCall}
+use Rattle.loop_syntax.specs.Tree.{NBoth, NPrint, NEmit, Nodes, Last, Then, TableTree, TInput}
+use Rattle.loop_syntax.specs.Tree.{TMade, FuncTree, ProgramTree}
+use Rattle.loop_rules.specs.declared.rule.Rule.TheVariants.{Names, Functions, Output, LoopVariables}
+use Rattle.loop_rules.specs.declared.rule.Rule.TheVariants.{Limits}
 use Rattle.loop_rules.specs.declared.fault.Fault.{Fault}
 use Rattle.loop_rules.specs.declared.part.Part.{Part}
 use Rattle.loop_rules.specs.declared.part.Part.TheVariants.{OfSize, OfFunc, OfMain}

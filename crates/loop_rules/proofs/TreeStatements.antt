@@ -1,18 +1,29 @@
 -- The first broken rule of statements and of whole programs is that of their trees.
-use Rattle.std.proofs.Common.{◌≡◌, ◌++◌, ◌∷◌, [], ℕ, suc, List, map, length, Option, refl, sym, ap, ◌∙◌}
+use Rattle.std.proofs.Common.{◌≡◌, ◌++◌, ◌∷◌, [], ℕ, suc, List, map, length, Option, refl, sym, ap}
+use Rattle.std.proofs.Common.{◌∙◌}
 use denote.Hole.Carrier
 use Rattle.loop_syntax.specs.declared.expression.Name.{Name}
 use Rattle.loop_syntax.specs.declared.statement.Stmt.{Stmt, Row_of-Stmt, end_of-Stmt, more_of-Stmt}
 use Rattle.loop_syntax.specs.declared.statement.Stmt.TheViews.{out-Stmt}
-use Rattle.loop_syntax.specs.declared.statement.Stmt.TheVariants.{Let, Set, Put, If', While', Loop', Par', Fold, Call, Both, Print, Emit}
-use Rattle.loop_syntax.specs.Tree.{spelled, tree_of, app_of, carry_of, reduce_of, ParHead, Node, Nodes, node_of, nodes_of}
+use Rattle.loop_syntax.specs.declared.statement.Stmt.TheVariants.{Let, Set, Put, If', While', Loop'}
+use Rattle.loop_syntax.specs.declared.statement.Stmt.TheVariants.{Par', Fold, Call, Both, Print}
+use Rattle.loop_syntax.specs.declared.statement.Stmt.TheVariants.{Emit}
+use Rattle.loop_syntax.specs.Tree.{spelled, tree_of, app_of, carry_of, reduce_of, ParHead, Node}
+use Rattle.loop_syntax.specs.Tree.{Nodes, node_of, nodes_of}
 use Rattle.loop_rules.specs.declared.fault.Fault.{Fault}
 use Rattle.loop_rules.specs.Declarations.{declared_in, declared_all, declared_list}
 use Rattle.loop_rules.specs.Search.{lowest_at, lowest_in, resolved_rules}
-use Rattle.loop_rules.specs.Sites.{Site, Spot, site, the_loop, Assigns, Folds, AssignsBoth, Declares, NamesTable, WritesCell, Shows, Parallel, in_whole, in_app, in_carries, in_stmt, in_all, in_list, in_loop, in_par, spot_after, spot_of_list}
-use Rattle.loop_rules.proofs.TreeParts.{spot_tree, chain, first, table_low, whole_low, app_low, carries_low, declares_low, par_low}
+use Rattle.loop_rules.specs.Sites.{Site, Spot, site, the_loop, Assigns, Folds, AssignsBoth}
+use Rattle.loop_rules.specs.Sites.{Declares, NamesTable, WritesCell, Shows, Parallel, in_whole}
+use Rattle.loop_rules.specs.Sites.{in_app, in_carries, in_stmt, in_all, in_list, in_loop, in_par}
+use Rattle.loop_rules.specs.Sites.{spot_after, spot_of_list}
+use Rattle.loop_rules.proofs.TreeParts.{spot_tree, chain, first, table_low, whole_low, app_low}
+use Rattle.loop_rules.proofs.TreeParts.{carries_low, declares_low, par_low}
 use Rattle.loop_rules.proofs.TreeNodes.{node_rows, rows_of, row_nodes}
-use Rattle.loop_rules.proofs.TreeRules.{TreeSpot, low_table, low_whole, low_app, low_carries, low_par, low_declares, low_assigns, low_both, low_put, low_shows, behind, behind_all, low_node, low_nodes, with_loop, with_par}
+use Rattle.loop_rules.proofs.TreeRules.{TreeSpot, low_table, low_whole, low_app, low_carries}
+use Rattle.loop_rules.proofs.TreeRules.{low_par, low_declares, low_assigns, low_both, low_put}
+use Rattle.loop_rules.proofs.TreeRules.{low_shows, behind, behind_all, low_node, low_nodes}
+use Rattle.loop_rules.proofs.TreeRules.{with_loop, with_par}
 
 -- ---- where a statement ends
 

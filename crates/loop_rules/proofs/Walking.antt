@@ -1,5 +1,7 @@
 -- The walk over statements: sites in order, and where it stands after them.
-use Rattle.std.proofs.Common.{◌≡◌, ◌<◌, ◌+◌, ◌++◌, ◌∷◌, [], ℕ, suc, List, take, drop, drop-cons, add-one, length, get_or, Option, Some, None, MatchOption, Vec, Result, Ok, Err, IfOk, refl, sym, ap, ◌∙◌, append_assoc, arith}
+use Rattle.std.proofs.Common.{◌≡◌, ◌<◌, ◌+◌, ◌++◌, ◌∷◌, [], ℕ, suc, List, take, drop, drop-cons}
+use Rattle.std.proofs.Common.{add-one, length, get_or, Option, Some, None, MatchOption, Vec, Result}
+use Rattle.std.proofs.Common.{Ok, Err, IfOk, refl, sym, ap, ◌∙◌, append_assoc, arith}
 use Rattle.std.proofs.lemmas.List.{append-nil}
 use Rattle.std.proofs.Math.Seq.{take-append_seam}
 use Rattle.std.specs.declared.alloc.Global.{Global}
@@ -7,11 +9,15 @@ use Rattle.loop_syntax.specs.declared.Name.{Name}
 use Rattle.loop_syntax.specs.declared.Expr.{Expr}
 use Rattle.loop_syntax.specs.declared.App.{App}
 use Rattle.loop_syntax.specs.declared.ParLoop.{ParLoop}
-use Rattle.loop_syntax.specs.declared.Stmt.{Stmt, Row_of-Stmt, end_of-Stmt, more_of-Stmt, items-the_row-Stmt, items_hidden-the_row-Stmt-0}
+use Rattle.loop_syntax.specs.declared.Stmt.{Stmt, Row_of-Stmt, end_of-Stmt, more_of-Stmt}
+use Rattle.loop_syntax.specs.declared.Stmt.{items-the_row-Stmt, items_hidden-the_row-Stmt-0}
 use Rattle.loop_syntax.specs.declared.Stmt.TheBlock.{hidden-the_row-Stmt-0}
 use Rattle.loop_syntax.specs.declared.Stmt.TheVariants.{Let, Put, If, While, Loop, Par, Both}
 use Rattle.loop_rules.specs.declared.fault.Fault.{Fault}
-use Rattle.loop_rules.specs.Sites.{Site, Spot, site, Declares, Assigns, AssignsBoth, NamesTable, WritesCell, Parallel, in_whole, in_app, in_carries, in_stmt, in_all, in_list, in_loop, in_par, the_loop, spot_after, spot_of_list}
+use Rattle.loop_rules.specs.Sites.{Site, Spot, site, Declares, Assigns, AssignsBoth, NamesTable}
+use Rattle.loop_rules.specs.Sites.{WritesCell, Parallel, in_whole, in_app, in_carries, in_stmt}
+use Rattle.loop_rules.specs.Sites.{in_all, in_list, in_loop, in_par, the_loop, spot_after}
+use Rattle.loop_rules.specs.Sites.{spot_of_list}
 use Rattle.loop_rules.specs.Search.{Asked, lowest_at, lowest_in, resolved_rules}
 use Rattle.loop_rules.proofs.Apart.{bare, rounds_apart}
 use Rattle.loop_rules.proofs.Searching.{lowest_in_append}

@@ -1,5 +1,7 @@
 -- Going over declarations one after the other.
-use Rattle.std.proofs.Common.{◌≡◌, ◌<◌, ◌+◌, ◌++◌, ◌∷◌, [], ℕ, suc, List, take, drop, drop-cons, take-suc, add-one, length, get_or, Option, refl, sym, ap, ◌∙◌, append_assoc}
+use Rattle.std.proofs.Common.{◌≡◌, ◌<◌, ◌+◌, ◌++◌, ◌∷◌, [], ℕ, suc, List, take, drop, drop-cons}
+use Rattle.std.proofs.Common.{take-suc, add-one, length, get_or, Option, refl, sym, ap, ◌∙◌}
+use Rattle.std.proofs.Common.{append_assoc}
 use Rattle.std.proofs.lemmas.List.{append-nil, map-append}
 use Rattle.loop_syntax.specs.declared.Name.{Name}
 use Rattle.loop_syntax.specs.declared.Func.{Func}
@@ -9,7 +11,8 @@ use Rattle.loop_rules.specs.declared.fault.Fault.{Fault}
 use Rattle.loop_rules.specs.declared.part.Part.TheVariants.{OfFunc}
 use Rattle.loop_rules.specs.Declarations.{table_of_decl, tables_of_decls}
 use Rattle.loop_rules.specs.Names.{texts, func_names}
-use Rattle.loop_rules.specs.Sites.{Spot, site, top, tables_of, declared_var, in_decl, in_decls, in_func, in_funcs, DeclaresFunc}
+use Rattle.loop_rules.specs.Sites.{Spot, site, top, tables_of, declared_var, in_decl, in_decls}
+use Rattle.loop_rules.specs.Sites.{in_func, in_funcs, DeclaresFunc}
 use Rattle.loop_rules.specs.Search.{lowest_in, resolved_rules}
 use Rattle.loop_rules.specs.Walk.{spot_of_params}
 use Rattle.loop_rules.proofs.Searching.{lowest_in_append}

@@ -1,7 +1,7 @@
-//! Runs a code written by hand, so many times, and writes what it printed and the steps of all runs:
-//! the load of `bench/machine.sh`. `sum` adds the squares of a table of 1000 by 1000 cells, `fib`
-//! calls itself on its stack. It stands on `tpal_machine`. Without a name and a number as arguments
-//! it writes nothing.
+//! Runs a code written by hand, so many times, and writes what it printed and the steps of all
+//! runs: the load of `bench/machine.sh`. `sum` adds the squares of a table of 1000 by 1000 cells,
+//! `fib` calls itself on its stack. It stands on `tpal_machine`. Without a name and a number as
+//! arguments it writes nothing.
 #![tactic(auto)]
 
 ghost use Rattle.std.specs.Prelude.{◌≡◌, length, IfOk, IfSome};

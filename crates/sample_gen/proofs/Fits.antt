@@ -9,7 +9,8 @@ use Rattle.std.proofs.lemmas.List.FromFn.{length-range_with_len}
 use Rattle.std.proofs.lemmas.List.Folds.{flat_map-map}
 use Rattle.std.proofs.lemmas.Nat.{mod_below}
 use Rattle.std.proofs.lemmas.Simd.{map-map}
-use Rattle.tp_value.specs.declared.limits.TheConstants.{MAX_SIDE, MAX_SOURCE_BYTES, MAX_TABLES_BYTES}
+use Rattle.tp_value.specs.declared.limits.TheConstants.{MAX_SIDE, MAX_SOURCE_BYTES}
+use Rattle.tp_value.specs.declared.limits.TheConstants.{MAX_TABLES_BYTES}
 use Rattle.table_text.specs.RowText.{row_text}
 use Rattle.sample_gen.specs.declared.sampling.TheConstants.{MAX_SAMPLE_CELLS}
 use Rattle.sample_gen.specs.Cells.{cell_of, sample_cell, row_cells}

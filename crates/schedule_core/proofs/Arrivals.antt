@@ -1,9 +1,13 @@
 -- Each record has one left and one right arrival between its opening and its freeing.
 use Rattle.std.proofs.Common.{◌≡◌, ℕ, ◌*◌, ◌≤◌, List, Option, Some, None, refl, sym, ap, ◌∙◌, subst}
 use Rattle.schedule_core.specs.Machine.{left, right, Machine, Lawful}
-use Rattle.schedule_core.specs.Core.{put, top, ended, Cell, free, taken, opened, met, Config, Event, AnyFree, CoreStep, goes, beats, ends, asks, forks, opens, claims, arrives_left, arrives_right, frees, finishes, given, left_arrives, right_arrives}
+use Rattle.schedule_core.specs.Core.{put, top, ended, Cell, free, taken, opened, met, Config, Event}
+use Rattle.schedule_core.specs.Core.{AnyFree, CoreStep, goes, beats, ends, asks, forks, opens}
+use Rattle.schedule_core.specs.Core.{claims, arrives_left, arrives_right, frees, finishes, given}
+use Rattle.schedule_core.specs.Core.{left_arrives, right_arrives}
 use Rattle.schedule_core.specs.Sound.{Sound, IsOpen}
-use Rattle.schedule_core.specs.Run.{CoreRun, here, on, Arrivals, one_left, one_right, counted, counted_in}
+use Rattle.schedule_core.specs.Run.{CoreRun, here, on, Arrivals, one_left, one_right, counted}
+use Rattle.schedule_core.specs.Run.{counted_in}
 use Rattle.schedule_core.proofs.Puts.{put_here, put_else, at_put}
 use Rattle.schedule_core.proofs.View.{View, view_of}
 use Rattle.schedule_core.proofs.Frames.{seat_nobody, seat_record}

@@ -1,5 +1,6 @@
 -- What an event asks of a configuration, and what its answer says.
-use Rattle.std.proofs.Common.{◌≡◌, ℕ, ◌*◌, ◌<◌, ◌≤◌, ◌^◌, length, Option, Some, None, refl, sym, ap, subst, arith}
+use Rattle.std.proofs.Common.{◌≡◌, ℕ, ◌*◌, ◌<◌, ◌≤◌, ◌^◌, length, Option, Some, None, refl, sym, ap}
+use Rattle.std.proofs.Common.{subst, arith}
 use Rattle.std.specs.Prelude.{true, Result, Ok, Err, IfOk, nat_lt}
 use Rattle.std.proofs.Math.Nat.{mul-le-mul_right}
 use Rattle.tpal_syntax.specs.Conditions.{IsCode}
@@ -18,12 +19,15 @@ use Rattle.schedule_core.specs.declared.seats.Cell.{Cell}
 use Rattle.schedule_core.specs.declared.seats.Cell.TheVariants as cell
 use Rattle.schedule_core.specs.Core as core
 use Rattle.schedule_core.specs.Core.{top, is_allowed, Config, AnyFree, LeastFree, CoreStep}
-use Rattle.schedule_core.specs.Apply.{SeatBelongs, CellBelongs, AreSidesOf, Belongs, SidesFit, Steps, Gives, WhereNotEnabled, WhereStuck, IsStuckAt, SeatStuck, IsEnabled, IsSound, event_of}
+use Rattle.schedule_core.specs.Apply.{SeatBelongs, CellBelongs, AreSidesOf, Belongs, SidesFit}
+use Rattle.schedule_core.specs.Apply.{Steps, Gives, WhereNotEnabled, WhereStuck, IsStuckAt}
+use Rattle.schedule_core.specs.Apply.{SeatStuck, IsEnabled, IsSound, event_of}
 use Rattle.schedule_core.specs.Effects.{can, fits, worker_of, CanRun, CellCanMerge, CanMerge}
 use Rattle.schedule_core.specs.Enabled.{MetWith, HasMet}
 use Rattle.schedule_core.specs.Machine.{Machine}
 use Rattle.schedule_core.specs.Sound.{Sound}
-use Rattle.schedule_core.specs.Standing.{Standing, SameRun, IsStanding, seat_of, cell_of, worker_at, cell_at, stands}
+use Rattle.schedule_core.specs.Standing.{Standing, SameRun, IsStanding, seat_of, cell_of, worker_at}
+use Rattle.schedule_core.specs.Standing.{cell_at, stands}
 use Rattle.schedule_core.specs.Tasks.{tasks, turn_of}
 use Rattle.schedule_core.proofs.Belonging.{event_belongs}
 use Rattle.schedule_core.proofs.Enabling.{and_left, lt_is}

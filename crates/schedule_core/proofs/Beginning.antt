@@ -1,5 +1,6 @@
 -- The first configuration.
-use Rattle.std.proofs.Common.{◌≡◌, ℕ, ◌*◌, ◌<◌, ◌≤◌, [], length, replicate, None, refl, sym, ap, ◌∙◌, subst, ⊎_elim, arith}
+use Rattle.std.proofs.Common.{◌≡◌, ℕ, ◌*◌, ◌<◌, ◌≤◌, [], length, replicate, None, refl, sym, ap}
+use Rattle.std.proofs.Common.{◌∙◌, subst, ⊎_elim, arith}
 use Rattle.std.specs.Prelude.{false, slice_set, slice_index_or}
 use Rattle.std.proofs.lemmas.Bool.{cases_lt}
 use Rattle.std.proofs.lemmas.List.{length-set, length-replicate, get_or-replicate, get_or_past}
@@ -18,7 +19,8 @@ use Rattle.schedule_core.specs.Apply.{IsJob, IsRunOf, Belongs, SeatBelongs, Firs
 use Rattle.schedule_core.specs.Core as core
 use Rattle.schedule_core.specs.Core.{put, first, Config}
 use Rattle.schedule_core.specs.Sound.{Sound}
-use Rattle.schedule_core.specs.Standing.{Standing, IsStanding, seat_of, cell_of, worker_at, cell_at, no_worker, stands}
+use Rattle.schedule_core.specs.Standing.{Standing, IsStanding, seat_of, cell_of, worker_at, cell_at}
+use Rattle.schedule_core.specs.Standing.{no_worker, stands}
 use Rattle.schedule_core.specs.Tasks.{tasks}
 use Rattle.schedule_core.proofs.Every.{first_sound}
 use Rattle.schedule_core.proofs.Puts.{at_put}

@@ -18,7 +18,11 @@ use Rattle.tpal_machine.specs.Step.{Step, step}
 use Rattle.tpal_machine.proofs.Belonging.{step_of}
 use Rattle.tpal_machine.proofs.Given.{answered_of, joined_of_code}
 use Rattle.schedule_core.specs.Machine.{Turn, Goes, Beats, Ends, Asks, Forks, Stuck, Merged}
-use Rattle.schedule_core.specs.Core.{put, Seat, resting, running, forked, ended, Cell, free, taken, opened, met, Config, Event, Choice, CoreStep, goes, beats, ends, asks, forks, opens, claims, arrives_left, arrives_right, frees, finishes, left_arrives, right_arrives, merged_seat, given}
+use Rattle.schedule_core.specs.Core.{put, Seat, resting, running, forked, ended, Cell, free, taken}
+use Rattle.schedule_core.specs.Core.{opened, met, Config, Event, Choice, CoreStep, goes, beats}
+use Rattle.schedule_core.specs.Core.{ends, asks, forks, opens, claims, arrives_left, arrives_right}
+use Rattle.schedule_core.specs.Core.{frees, finishes, left_arrives, right_arrives, merged_seat}
+use Rattle.schedule_core.specs.Core.{given}
 use Rattle.schedule_core.specs.Apply.{SeatBelongs, CellBelongs, Belongs}
 use Rattle.schedule_core.specs.Tasks.{turn_of, merged_of, MergesSides, MergesTo, tasks}
 use Rattle.schedule_core.proofs.Puts.{at_put}

@@ -14,8 +14,10 @@ use Rattle.schedule_core.specs.declared.seats.Cell.{Cell}
 use Rattle.schedule_core.specs.declared.seats.Cell.TheVariants as cell
 use Rattle.schedule_core.specs.Machine.{root}
 use Rattle.schedule_core.specs.Apply.{IsEnabled}
-use Rattle.schedule_core.specs.Effects.{can, runs, has_forked, rests, comes_to_record, ends_run, is_unclaimed, is_met, has_met}
-use Rattle.schedule_core.specs.Enabled.{Runs, HasForked, Rests, HasEnded, IsUnclaimed, MetWith, HasMet}
+use Rattle.schedule_core.specs.Effects.{can, runs, has_forked, rests, comes_to_record, ends_run}
+use Rattle.schedule_core.specs.Effects.{is_unclaimed, is_met, has_met}
+use Rattle.schedule_core.specs.Enabled.{Runs, HasForked, Rests, HasEnded, IsUnclaimed, MetWith}
+use Rattle.schedule_core.specs.Enabled.{HasMet}
 use Rattle.schedule_core.specs.Standing.{Standing, seat_of, cell_of, cell_at, worker_at, stands}
 use Rattle.schedule_core.specs.Tasks.{end_number}
 

@@ -1,5 +1,6 @@
 -- What the code makes of a configuration is an event of the core.
-use Rattle.std.proofs.Common.{◌≡◌, ℕ, ◌<◌, ◌≤◌, ◌⊎◌, List, [], ◌∷◌, ◌++◌, length, Option, Some, None, refl, sym, ap, ◌∙◌, subst, ⊎_elim, inl, inr, arith}
+use Rattle.std.proofs.Common.{◌≡◌, ℕ, ◌<◌, ◌≤◌, ◌⊎◌, List, [], ◌∷◌, ◌++◌, length, Option, Some}
+use Rattle.std.proofs.Common.{None, refl, sym, ap, ◌∙◌, subst, ⊎_elim, inl, inr, arith}
 use Rattle.std.specs.Prelude.{Bool, true, false, ◌&&◌, nat_lt, Result, Ok, Err}
 use Rattle.std.proofs.lemmas.Bool.{cases_lt}
 use Rattle.std.proofs.lemmas.List.{length-set}
@@ -27,15 +28,23 @@ use Rattle.schedule_core.specs.declared.seats.Cell.{Cell}
 use Rattle.schedule_core.specs.declared.seats.Cell.TheVariants as cell
 use Rattle.schedule_core.specs.declared.seats.Worker.{Worker}
 use Rattle.schedule_core.specs.Core as core
-use Rattle.schedule_core.specs.Core.{put, one_more, without, is_allowed, Config, LeastFree, CoreStep}
+use Rattle.schedule_core.specs.Core.{put, one_more, without, is_allowed, Config, LeastFree}
+use Rattle.schedule_core.specs.Core.{CoreStep}
 use Rattle.schedule_core.specs.Apply.{Steps, Gives, SeatStuck, event_of}
 use Rattle.schedule_core.specs.Effects as effects
-use Rattle.schedule_core.specs.Effects.{can, fits, runs, has_forked, rests, comes_to_record, ends_run, is_unclaimed, is_met, has_met, least_free, emptied, counted, diverted_on, given_on, opened, claimed, met_left, met_right, met_side, met_at, arrived, finished, freed, freed_of, IsNow, IsStuckBy, Stepped, SeatStepped, Mergeable, CellCanMerge, CanMerge}
-use Rattle.schedule_core.specs.Standing.{Standing, SameRun, seat_of, left_of, right_of, cell_of, worker_at, cell_at, stands, with_seat, with_cell}
+use Rattle.schedule_core.specs.Effects.{can, fits, runs, has_forked, rests, comes_to_record}
+use Rattle.schedule_core.specs.Effects.{ends_run, is_unclaimed, is_met, has_met, least_free}
+use Rattle.schedule_core.specs.Effects.{emptied, counted, diverted_on, given_on, opened, claimed}
+use Rattle.schedule_core.specs.Effects.{met_left, met_right, met_side, met_at, arrived, finished}
+use Rattle.schedule_core.specs.Effects.{freed, freed_of, IsNow, IsStuckBy, Stepped, SeatStepped}
+use Rattle.schedule_core.specs.Effects.{Mergeable, CellCanMerge, CanMerge}
+use Rattle.schedule_core.specs.Standing.{Standing, SameRun, seat_of, left_of, right_of, cell_of}
+use Rattle.schedule_core.specs.Standing.{worker_at, cell_at, stands, with_seat, with_cell}
 use Rattle.schedule_core.specs.Tasks.{turn_of, merged_of, tasks}
 use Rattle.schedule_core.proofs.Enabling.{and_left, and_right, lt_is}
 use Rattle.schedule_core.proofs.Free.{least_is}
-use Rattle.schedule_core.proofs.Stands.{put_is, put_twice, seats_put, beats_put, beats_stay, stands_seat, stands_cell, set_beyond, cell_beyond}
+use Rattle.schedule_core.proofs.Stands.{put_is, put_twice, seats_put, beats_put, beats_stay}
+use Rattle.schedule_core.proofs.Stands.{stands_seat, stands_cell, set_beyond, cell_beyond}
 
 abbrev Conf : Type 0
 Conf = Config State RestState Ending

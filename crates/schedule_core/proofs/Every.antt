@@ -1,16 +1,23 @@
 -- The first configuration, every event, every list of events, and the end.
-use Rattle.std.proofs.Common.{◌≡◌, ℕ, zero, suc, ◌+◌, ◌*◌, ◌<◌, ◌≤◌, ◌⊎◌, List, Option, Some, None, refl, sym, ap, ◌∙◌, subst, ⊎_elim, inl, inr, arith}
+use Rattle.std.proofs.Common.{◌≡◌, ℕ, zero, suc, ◌+◌, ◌*◌, ◌<◌, ◌≤◌, ◌⊎◌, List, Option, Some, None}
+use Rattle.std.proofs.Common.{refl, sym, ap, ◌∙◌, subst, ⊎_elim, inl, inr, arith}
 use Rattle.std.specs.Prelude.{Bool, false}
 use Rattle.std.proofs.Math.Nat.{mul-le-mul_right}
 use Rattle.schedule_core.specs.Machine.{left, right, Machine, Lawful}
-use Rattle.schedule_core.specs.Core.{put, top, Seat, resting, running, forked, ended, holding, Cell, free, taken, opened, met, Config, Event, AnyFree, CoreStep, goes, beats, ends, asks, forks, opens, claims, arrives_left, arrives_right, frees, finishes, given, first}
-use Rattle.schedule_core.specs.Sound.{Holder, nobody, by_seat, by_record, total, owing, saved, one_there, kept_of, IsOpen, IsPending, place, SeatHas, Sound}
+use Rattle.schedule_core.specs.Core.{put, top, Seat, resting, running, forked, ended, holding, Cell}
+use Rattle.schedule_core.specs.Core.{free, taken, opened, met, Config, Event, AnyFree, CoreStep}
+use Rattle.schedule_core.specs.Core.{goes, beats, ends, asks, forks, opens, claims, arrives_left}
+use Rattle.schedule_core.specs.Core.{arrives_right, frees, finishes, given, first}
+use Rattle.schedule_core.specs.Sound.{Holder, nobody, by_seat, by_record, total, owing, saved}
+use Rattle.schedule_core.specs.Sound.{one_there, kept_of, IsOpen, IsPending, place, SeatHas, Sound}
 use Rattle.schedule_core.specs.Run.{CoreRun, here, on, Finished}
 use Rattle.schedule_core.proofs.Puts.{put_here, put_else, at_put, total_same, total_put, total_zero}
 use Rattle.schedule_core.proofs.Paid.{total_bound}
 use Rattle.schedule_core.proofs.View.{SeatOk, CellOk, RootOk, View, view_of, sound_of}
 use Rattle.schedule_core.proofs.Frames.{seat_nobody, seat_record, record_nobody}
-use Rattle.schedule_core.proofs.Keeps.{on_goes, on_beats, on_ends, on_skips, on_takes, on_forks, on_opens, on_claims, left_in, right_in, on_frees, on_finishes}
+use Rattle.schedule_core.proofs.Keeps.{on_goes, on_beats, on_ends, on_skips, on_takes, on_forks}
+use Rattle.schedule_core.proofs.Keeps.{on_opens, on_claims, left_in, right_in, on_frees}
+use Rattle.schedule_core.proofs.Keeps.{on_finishes}
 
 seat_number : {i : ℕ} → by_seat 0 ≡ by_seat i → i ≡ 0
 seat_number {i} a = sym (ap of a)

@@ -1,5 +1,6 @@
 -- A solo run whose first task owes an outcome comes to its end.
-use Rattle.std.proofs.Common.{◌≡◌, ℕ, suc, ◌<◌, ◌⊎◌, inl, inr, Bool, true, false, Option, Some, None, List, [], ◌∷◌, length, refl, ap, sym, subst, ◌∙◌, arith}
+use Rattle.std.proofs.Common.{◌≡◌, ℕ, suc, ◌<◌, ◌⊎◌, inl, inr, Bool, true, false, Option, Some}
+use Rattle.std.proofs.Common.{None, List, [], ◌∷◌, length, refl, ap, sym, subst, ◌∙◌, arith}
 use Rattle.std.proofs.lemmas.Bool.Decides.{nat_tests}
 use Rattle.std.specs.Prelude.{◌^◌, nat_lt}
 use Rattle.tp_value.specs.declared.values.Outcome.{Outcome}
@@ -13,7 +14,8 @@ use Rattle.tpal_machine.specs.declared.ends.Side.{Side}
 use Rattle.tpal_machine.specs.declared.ends.SideName.TheVariants.{Left, Right}
 use Rattle.tpal_machine.specs.Cut.{Forked}
 use Rattle.tpal_machine.specs.Effect.{answered}
-use Rattle.tpal_machine.specs.Keeping.{number_of, GoesFrom, WaitsFrom, ForksFrom, StepKeeps, IsUndiverted}
+use Rattle.tpal_machine.specs.Keeping.{number_of, GoesFrom, WaitsFrom, ForksFrom, StepKeeps}
+use Rattle.tpal_machine.specs.Keeping.{IsUndiverted}
 use Rattle.tpal_machine.specs.Merge as merging
 use Rattle.tpal_machine.specs.Merge.{Joined}
 use Rattle.tpal_machine.specs.Owes as owes
@@ -27,7 +29,9 @@ use Rattle.schedule_core.specs.declared.lanes.Opened.{Opened}
 use Rattle.schedule_core.specs.declared.lanes.Opened.TheVariants.{Waiting, Half}
 use Rattle.schedule_core.specs.declared.lanes.Tally.{Tally}
 use Rattle.schedule_core.specs.Lanes.{Placed, end_at}
-use Rattle.schedule_core.specs.Solo.{Lane, Stage, Runs, Comes, on, records, runs, next, after_step, asked, arrived, arrived_with, arrived_at, on_joined, turned, one_task, one_skipped}
+use Rattle.schedule_core.specs.Solo.{Lane, Stage, Runs, Comes, on, records, runs, next, after_step}
+use Rattle.schedule_core.specs.Solo.{asked, arrived, arrived_with, arrived_at, on_joined, turned}
+use Rattle.schedule_core.specs.Solo.{one_task, one_skipped}
 
 -- ---- places
 

@@ -1,12 +1,17 @@
 -- What an event of one worker at one record leaves as it was.
-use Rattle.std.proofs.Common.{◌≡◌, ℕ, suc, ◌<◌, ◌⊎◌, Option, Some, None, List, [], ◌∷◌, ◌++◌, length, refl, sym, ap, ◌∙◌, subst, ⊎_elim, inl, inr, arith}
+use Rattle.std.proofs.Common.{◌≡◌, ℕ, suc, ◌<◌, ◌⊎◌, Option, Some, None, List, [], ◌∷◌, ◌++◌}
+use Rattle.std.proofs.Common.{length, refl, sym, ap, ◌∙◌, subst, ⊎_elim, inl, inr, arith}
 use Rattle.std.proofs.lemmas.Bool.{cases_eq}
 use Rattle.schedule_core.specs.Machine.{left, right, Machine}
-use Rattle.schedule_core.specs.Core.{put, without, Seat, resting, running, forked, ended, holding, Cell, free, taken, opened, met}
-use Rattle.schedule_core.specs.Sound.{Holder, nobody, by_seat, by_record, kept_of, KeepsEndOf, IsOpen, Order, place, IsPending, one_there}
+use Rattle.schedule_core.specs.Core.{put, without, Seat, resting, running, forked, ended, holding}
+use Rattle.schedule_core.specs.Core.{Cell, free, taken, opened, met}
+use Rattle.schedule_core.specs.Sound.{Holder, nobody, by_seat, by_record, kept_of, KeepsEndOf}
+use Rattle.schedule_core.specs.Sound.{IsOpen, Order, place, IsPending, one_there}
 use Rattle.schedule_core.proofs.View.{SeatOk, SideOk, ChildOk, CellOk, RootOk}
 use Rattle.schedule_core.proofs.Puts.{put_else, at_put}
-use Rattle.schedule_core.proofs.Places.{place_short, place_last, place_other, once_more, place_without, without_absent, without_there, without_below, once_without}
+use Rattle.schedule_core.proofs.Places.{place_short, place_last, place_other, once_more}
+use Rattle.schedule_core.proofs.Places.{place_without, without_absent, without_there, without_below}
+use Rattle.schedule_core.proofs.Places.{once_without}
 
 -- an end whose holder no event of worker w at record k changes
 abbrev pub Untouched : ℕ → ℕ → ℕ → Holder → Type 0

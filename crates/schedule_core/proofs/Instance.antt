@@ -22,7 +22,8 @@ use Rattle.tpal_machine.specs.Within.{JoinedOwes, NextOwes}
 use Rattle.tpal_machine.proofs.Keeping.{step_keeps, answer_keeps, merge_keeps}
 use Rattle.tpal_machine.proofs.Owed.{after_step}
 use Rattle.tpal_machine.proofs.Undiverted.{agrees}
-use Rattle.schedule_core.specs.Machine.{left, right, Merged, MergedOwes, TurnOwes, KeepsTurn, KeepsMerge, Lawful}
+use Rattle.schedule_core.specs.Machine.{left, right, Merged, MergedOwes, TurnOwes, KeepsTurn}
+use Rattle.schedule_core.specs.Machine.{KeepsMerge, Lawful}
 use Rattle.schedule_core.specs.Tasks.{end_number, turn_of, merged_of, MergesSides, MergesTo, tasks}
 
 other_record : (g : Goal) (k : ℕ) → k < 2 ^ 32 → end_number (end_of g) ≢ left k → end_number (end_of g) ≢ right k → IsOtherRecord g k

@@ -1,15 +1,28 @@
 -- Each event keeps what is known of a sound configuration.
-use Rattle.std.proofs.Common.{◌≡◌, ℕ, suc, ◌+◌, ◌*◌, ◌<◌, ◌≤◌, ◌⊎◌, Option, Some, None, List, [], ◌∷◌, ◌++◌, refl, sym, ap, ◌∙◌, subst, ⊎_elim, inl, inr, arith}
+use Rattle.std.proofs.Common.{◌≡◌, ℕ, suc, ◌+◌, ◌*◌, ◌<◌, ◌≤◌, ◌⊎◌, Option, Some, None, List, []}
+use Rattle.std.proofs.Common.{◌∷◌, ◌++◌, refl, sym, ap, ◌∙◌, subst, ⊎_elim, inl, inr, arith}
 use Rattle.std.specs.Prelude.{Bool, true, false}
 use Rattle.std.proofs.Math.Nat.{suc-mul, mul-le-mul_right}
 use Rattle.std.proofs.lemmas.Bool.{cases_eq, cases_lt}
-use Rattle.schedule_core.specs.Machine.{left, right, Turn, Goes, Beats, Ends, Asks, Forks, Stuck, Merged, Runs, Over, Machine, MergedOwes, MergeOwes, IsOther, TurnOwes, KeepsTurn, Lawful}
-use Rattle.schedule_core.specs.Core.{put, top, one_more, without, is_allowed, Seat, resting, running, forked, ended, holding, Cell, free, taken, opened, met, Config, stepped, diverted, given, opens_record, moved, freed, over, merged_seat, left_arrives, right_arrives}
-use Rattle.schedule_core.specs.Sound.{Holder, nobody, by_seat, by_record, total, one_if, one_there, owing, saved, kept_of, KeepsEndOf, IsOpen, IsPending, Order, SeatHas, SeatTakes, CellHas, Paid}
+use Rattle.schedule_core.specs.Machine.{left, right, Turn, Goes, Beats, Ends, Asks, Forks, Stuck}
+use Rattle.schedule_core.specs.Machine.{Merged, Runs, Over, Machine, MergedOwes, MergeOwes, IsOther}
+use Rattle.schedule_core.specs.Machine.{TurnOwes, KeepsTurn, Lawful}
+use Rattle.schedule_core.specs.Core.{put, top, one_more, without, is_allowed, Seat, resting}
+use Rattle.schedule_core.specs.Core.{running, forked, ended, holding, Cell, free, taken, opened}
+use Rattle.schedule_core.specs.Core.{met, Config, stepped, diverted, given, opens_record, moved}
+use Rattle.schedule_core.specs.Core.{freed, over, merged_seat, left_arrives, right_arrives}
+use Rattle.schedule_core.specs.Sound.{Holder, nobody, by_seat, by_record, total, one_if, one_there}
+use Rattle.schedule_core.specs.Sound.{owing, saved, kept_of, KeepsEndOf, IsOpen, IsPending, Order}
+use Rattle.schedule_core.specs.Sound.{SeatHas, SeatTakes, CellHas, Paid}
 use Rattle.schedule_core.proofs.Puts.{put_here, put_else, at_put, total_put}
 use Rattle.schedule_core.proofs.Paid.{counts, paid_more, paid_same, total_bound, lt_true}
 use Rattle.schedule_core.proofs.View.{SeatOk, SideOk, ChildOk, CellOk, RootOk, HandOk, View}
-use Rattle.schedule_core.proofs.Frames.{Untouched, Still, Back, NotHand, seat_moves, seat_frame, cell_frame, root_frame, order_same, order_free, order_open, TakenBy, kind_clash, some_same, held_same, none_some, seat_nobody, seat_record, record_nobody, still_put, back_put, back_same, still_same, mine, ours, dead_left, dead_right, held_up}
+use Rattle.schedule_core.proofs.Frames.{Untouched, Still, Back, NotHand, seat_moves, seat_frame}
+use Rattle.schedule_core.proofs.Frames.{cell_frame, root_frame, order_same, order_free, order_open}
+use Rattle.schedule_core.proofs.Frames.{TakenBy, kind_clash, some_same, held_same, none_some}
+use Rattle.schedule_core.proofs.Frames.{seat_nobody, seat_record, record_nobody, still_put}
+use Rattle.schedule_core.proofs.Frames.{back_put, back_same, still_same, mine, ours, dead_left}
+use Rattle.schedule_core.proofs.Frames.{dead_right, held_up}
 
 -- a record that isn't free
 abbrev pub IsUsed : {T R E : Type 0} → Cell T R E → Type 0

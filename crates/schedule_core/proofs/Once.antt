@@ -20,7 +20,8 @@ use Rattle.tpal_machine.specs.declared.ends.SideName.{SideName}
 use Rattle.tp_value.specs.declared.values.Outcome.{Outcome}
 use Rattle.tpal_machine.specs.Step as machine
 use Rattle.tpal_machine.specs.Step.{Step, step}
-use Rattle.tpal_machine.specs.Turn.{Stopped, Pauses, Waits, Parts, Comes, Sticks, Turned, turn_from, turn_of, went_on, ends_here}
+use Rattle.tpal_machine.specs.Turn.{Stopped, Pauses, Waits, Parts, Comes, Sticks, Turned, turn_from}
+use Rattle.tpal_machine.specs.Turn.{turn_of, went_on, ends_here}
 use Rattle.tpal_machine.proofs.Belonging.{step_of}
 use Rattle.schedule_core.specs.declared.event.ApplyFault.{ApplyFault}
 use Rattle.schedule_core.specs.declared.event.ApplyFault.TheVariants as fault
@@ -28,7 +29,8 @@ use Rattle.schedule_core.specs.declared.stepping.Once.{Once}
 use Rattle.schedule_core.specs.declared.stepping.Once.TheVariants as once
 use Rattle.schedule_core.specs.declared.seats.Seat.TheVariants as seat
 use Rattle.schedule_core.specs.Core.{one_more, is_allowed}
-use Rattle.schedule_core.specs.Effects.{Stepped, SeatStepped, CanRun, IsStepOnce, OnceGives, IsWant, emptied, counted, least_free}
+use Rattle.schedule_core.specs.Effects.{Stepped, SeatStepped, CanRun, IsStepOnce, OnceGives, IsWant}
+use Rattle.schedule_core.specs.Effects.{emptied, counted, least_free}
 use Rattle.schedule_core.specs.Standing.{Standing, worker_at}
 
 -- the step of a turn of one instruction, by how that ended and by its beats

@@ -13,7 +13,8 @@ use Rattle.slices.specs.Holding.{Holding}
 use Rattle.schedule_core.specs.declared.event.Event as declared
 use Rattle.schedule_core.specs.declared.event.Event.TheVariants as event
 use Rattle.schedule_core.specs.Apply.{AreSidesOf, SidesFit, IsSound}
-use Rattle.schedule_core.specs.Core.{top, Config, Event, AnyFree, CoreStep, Seat, resting, running, forked, ended, holding, Cell, free, taken, opened, met, first}
+use Rattle.schedule_core.specs.Core.{top, Config, Event, AnyFree, CoreStep, Seat, resting, running}
+use Rattle.schedule_core.specs.Core.{forked, ended, holding, Cell, free, taken, opened, met, first}
 use Rattle.schedule_core.specs.Enabled.{MetWith, HasMet}
 use Rattle.schedule_core.specs.Machine.{Machine, Merged, Stuck}
 use Rattle.schedule_core.specs.Run.{CoreRun, Finished, Arrivals, counted_in}

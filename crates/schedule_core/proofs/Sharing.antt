@@ -1,5 +1,7 @@
 -- A solo run is a list of events of the core.
-use Rattle.std.proofs.Common.{◌≡◌, ℕ, suc, ◌+◌, ◌*◌, ◌-◌, ◌<◌, ◌≤◌, inl, ⊎_elim, Bool, true, false, Option, Some, None, List, [], ◌∷◌, ◌++◌, length, refl, ap, sym, subst, ◌∙◌, arith}
+use Rattle.std.proofs.Common.{◌≡◌, ℕ, suc, ◌+◌, ◌*◌, ◌-◌, ◌<◌, ◌≤◌, inl, ⊎_elim, Bool, true, false}
+use Rattle.std.proofs.Common.{Option, Some, None, List, [], ◌∷◌, ◌++◌, length, refl, ap, sym, subst}
+use Rattle.std.proofs.Common.{◌∙◌, arith}
 use Rattle.std.proofs.Math.Nat.{mul-le-mul_left, mul-le-mul_right}
 use Rattle.std.proofs.lemmas.Bool.{cases_eq}
 use Rattle.std.proofs.lemmas.Bool.Decides.{nat_tests}
@@ -17,7 +19,8 @@ use Rattle.tpal_machine.specs.declared.ends.SideName.TheVariants.{Left, Right}
 use Rattle.tpal_machine.specs.declared.ends.Tie.{Tie}
 use Rattle.tpal_machine.specs.Cut.{Forked}
 use Rattle.tpal_machine.specs.Effect.{answered}
-use Rattle.tpal_machine.specs.Keeping.{number_of, place_of, GoesFrom, WaitsFrom, ForksFrom, StepKeeps, JoinedKeeps}
+use Rattle.tpal_machine.specs.Keeping.{number_of, place_of, GoesFrom, WaitsFrom, ForksFrom}
+use Rattle.tpal_machine.specs.Keeping.{StepKeeps, JoinedKeeps}
 use Rattle.tpal_machine.specs.Merge as merging
 use Rattle.tpal_machine.specs.Merge.{Joined}
 use Rattle.tpal_machine.specs.Owed.{owing, TurnOwes, due_after}
@@ -34,16 +37,22 @@ use Rattle.schedule_core.specs.declared.lanes.Opened.TheVariants.{Waiting, Half}
 use Rattle.schedule_core.specs.declared.lanes.Tally.{Tally}
 use Rattle.schedule_core.specs.Core as core
 use Rattle.schedule_core.specs.Core.{top, Config, Event, LeastFree, AnyFree, CoreStep, first, put}
-use Rattle.schedule_core.specs.Lanes.{Placed, end_at, RestOwed, ChildOwed, EndOwed, ArrivalOwed, LaneOwed, StageOwed}
+use Rattle.schedule_core.specs.Lanes.{Placed, end_at, RestOwed, ChildOwed, EndOwed, ArrivalOwed}
+use Rattle.schedule_core.specs.Lanes.{LaneOwed, StageOwed}
 use Rattle.schedule_core.specs.Run as running
 use Rattle.schedule_core.specs.Run.{CoreRun, EachEvent}
-use Rattle.schedule_core.specs.Sharing.{cell_of, CellsAre, GivenAt, CountsAre, ClaimsLast, SharedRun}
-use Rattle.schedule_core.specs.Solo.{Lane, Stage, Runs, Over, Lost, Comes, over, on, records, runs, next, after_step, asked, forked, arrived, arrived_with, arrived_at, on_joined, turned, one_skipped, first_lane, SoloRun}
+use Rattle.schedule_core.specs.Sharing.{cell_of, CellsAre, GivenAt, CountsAre, ClaimsLast}
+use Rattle.schedule_core.specs.Sharing.{SharedRun}
+use Rattle.schedule_core.specs.Solo.{Lane, Stage, Runs, Over, Lost, Comes, over, on, records, runs}
+use Rattle.schedule_core.specs.Solo.{next, after_step, asked, forked, arrived, arrived_with}
+use Rattle.schedule_core.specs.Solo.{arrived_at, on_joined, turned, one_skipped, first_lane}
+use Rattle.schedule_core.specs.Solo.{SoloRun}
 use Rattle.schedule_core.specs.Tasks.{tasks, MergesSides, merged_of}
 use Rattle.schedule_core.specs.Tasks as shared
 use Rattle.schedule_core.specs.Sound.{total, place}
 use Rattle.schedule_core.proofs.Asked.{any_of}
-use Rattle.schedule_core.proofs.Places.{nested, nested_first, nested_last, nested_more, nested_without}
+use Rattle.schedule_core.proofs.Places.{nested, nested_first, nested_last, nested_more}
+use Rattle.schedule_core.proofs.Places.{nested_without}
 use Rattle.schedule_core.proofs.Puts.{put_here, put_else}
 use Rattle.schedule_core.proofs.Ruling.{begins_sound, run_sound, ends_owed}
 use Rattle.schedule_core.proofs.Finishing.{forks_at}

@@ -1,5 +1,6 @@
 -- A solo run on its way from its first task to its end.
-use Rattle.std.proofs.Common.{◌≡◌, ℕ, zero, suc, ◌<◌, ◌≤◌, inl, true, false, None, [], refl, ap, sym, subst, ◌∙◌, arith}
+use Rattle.std.proofs.Common.{◌≡◌, ℕ, zero, suc, ◌<◌, ◌≤◌, inl, true, false, None, [], refl, ap}
+use Rattle.std.proofs.Common.{sym, subst, ◌∙◌, arith}
 use Rattle.std.specs.Prelude.{nat_lt}
 use Rattle.tp_value.specs.declared.values.Outcome.{Outcome}
 use Rattle.tpal_syntax.specs.Conditions.{IsCode}
@@ -13,11 +14,14 @@ use Rattle.tpal_machine.specs.RestState.{end_of}
 use Rattle.tpal_machine.specs.State.{State}
 use Rattle.tpal_machine.proofs.Owing as machine
 use Rattle.schedule_core.specs.declared.lanes.Tally.{Tally}
-use Rattle.schedule_core.specs.Lanes.{Placed, LaneOwed, StageOwed, TurnFits, IsTally, after_stopped, after_turn}
-use Rattle.schedule_core.specs.Solo.{Lane, Stage, Runs, Over, Lost, Comes, over, on, next, turned, no_tally, SoloRun, first_lane}
+use Rattle.schedule_core.specs.Lanes.{Placed, LaneOwed, StageOwed, TurnFits, IsTally, after_stopped}
+use Rattle.schedule_core.specs.Lanes.{after_turn}
+use Rattle.schedule_core.specs.Solo.{Lane, Stage, Runs, Over, Lost, Comes, over, on, next, turned}
+use Rattle.schedule_core.specs.Solo.{no_tally, SoloRun, first_lane}
 use Rattle.schedule_core.specs.Steps.{is_over, runs_to, is_last, ComesToAnEnd, ComesToAnEnd-prop}
 use Rattle.schedule_core.proofs.Finishing.{Finishes, finishes}
-use Rattle.schedule_core.proofs.Turning.{TurnNearer, turn_nearer, turn_fits, turn_stage, stopped_owed}
+use Rattle.schedule_core.proofs.Turning.{TurnNearer, turn_nearer, turn_fits, turn_stage}
+use Rattle.schedule_core.proofs.Turning.{stopped_owed}
 use Rattle.tpal_machine.specs.declared.turn.Ran.{Ran}
 use Rattle.tpal_machine.specs.declared.turn.Turn.{Turn}
 use Rattle.tpal_machine.specs.declared.turn.Turn.TheVariants as turn

@@ -1,8 +1,10 @@
 -- What a change of what is kept is for the workers and records of the core.
-use Rattle.std.proofs.Common.{◌≡◌, ℕ, ◌<◌, ◌≤◌, List, length, set, refl, sym, ap, ◌∙◌, subst, ⊎_elim}
+use Rattle.std.proofs.Common.{◌≡◌, ℕ, ◌<◌, ◌≤◌, List, length, set, refl, sym, ap, ◌∙◌, subst}
+use Rattle.std.proofs.Common.{⊎_elim}
 use Rattle.std.specs.Prelude.{slice_set}
 use Rattle.std.proofs.lemmas.Bool.{cases_eq}
-use Rattle.std.proofs.lemmas.List.{get_or-set_same, get_or-set_other, length-set, set_past, get_or_past}
+use Rattle.std.proofs.lemmas.List.{get_or-set_same, get_or-set_other, length-set, set_past}
+use Rattle.std.proofs.lemmas.List.{get_or_past}
 use mathlib.Core.Path.{fun_ext}
 use Rattle.tpal_machine.specs.declared.ends.Ending.{Ending}
 use Rattle.tpal_machine.specs.RestState.{RestState}
@@ -13,7 +15,8 @@ use Rattle.schedule_core.specs.declared.seats.Cell.TheVariants as cell
 use Rattle.schedule_core.specs.declared.seats.Worker.{Worker}
 use Rattle.schedule_core.specs.Core as core
 use Rattle.schedule_core.specs.Core.{put, Config}
-use Rattle.schedule_core.specs.Standing.{Standing, SameRun, seat_of, cell_of, worker_at, no_worker, cell_at, stands, with_seat, with_cell}
+use Rattle.schedule_core.specs.Standing.{Standing, SameRun, seat_of, cell_of, worker_at, no_worker}
+use Rattle.schedule_core.specs.Standing.{cell_at, stands, with_seat, with_cell}
 use Rattle.schedule_core.proofs.Puts.{put_here, put_else, at_put}
 
 -- a function with the value of another at a number

@@ -1,5 +1,7 @@
 -- A turn of a solo run: what it leaves to be owed, and by how much it brings the run nearer to its end.
-use Rattle.std.proofs.Common.{◌≡◌, ℕ, zero, suc, ◌+◌, ◌-◌, ◌<◌, ◌≤◌, ◌⊎◌, inl, inr, ⊎_elim, Bool, true, false, Some, None, List, [], ◌∷◌, length, refl, ap, sym, subst, ◌∙◌, arith}
+use Rattle.std.proofs.Common.{◌≡◌, ℕ, zero, suc, ◌+◌, ◌-◌, ◌<◌, ◌≤◌, ◌⊎◌, inl, inr, ⊎_elim, Bool}
+use Rattle.std.proofs.Common.{true, false, Some, None, List, [], ◌∷◌, length, refl, ap, sym, subst}
+use Rattle.std.proofs.Common.{◌∙◌, arith}
 use Rattle.std.proofs.Math.Nat.{min-eq_left, min-eq_right, min-le_right}
 use Rattle.std.proofs.lemmas.Bool.{cases_lt}
 use Rattle.std.specs.Prelude.{◌^◌, min, cond, nat_lt}
@@ -23,7 +25,8 @@ use Rattle.tpal_machine.specs.Owes.{Owes}
 use Rattle.tpal_machine.specs.RestState.{RestState, end_of}
 use Rattle.tpal_machine.specs.State.{State}
 use Rattle.tpal_machine.specs.Step.{Step, Goes, Beats, Ends, Asks, Forks, Stuck, Strays, step}
-use Rattle.tpal_machine.specs.Turn.{Stopped, Turned, Pauses, Waits, Parts, Sticks, turn_from, turn_of, turned_once, turned_on, went_on}
+use Rattle.tpal_machine.specs.Turn.{Stopped, Turned, Pauses, Waits, Parts, Sticks, turn_from}
+use Rattle.tpal_machine.specs.Turn.{turn_of, turned_once, turned_on, went_on}
 use Rattle.tpal_machine.specs.Turn as turns
 use Rattle.tpal_machine.specs.Within.{JoinedOwes}
 use Rattle.tpal_machine.proofs.Owed as machine
@@ -32,9 +35,14 @@ use Rattle.tpal_machine.proofs.Undiverted.{agrees}
 use Rattle.schedule_core.specs.declared.lanes.Opened.{Opened}
 use Rattle.schedule_core.specs.declared.lanes.Opened.TheVariants.{Waiting, Half}
 use Rattle.schedule_core.specs.declared.lanes.Tally.{Tally}
-use Rattle.schedule_core.specs.Lanes.{Placed, TaskOwed, JoinedOwed, RestOwed, SideOwed, EndingOwed, ArrivalOwed, StageOwed, after_stopped, after_turn, TurnFits, IsTally}
-use Rattle.schedule_core.specs.Solo.{Lane, Stage, Runs, Lost, Comes, on, more, records, runs, next, after_step, arrived_with, arrived_at, on_joined, met, turned, one_skipped}
-use Rattle.schedule_core.proofs.Finishing.{placed_goes, placed_none, placed_some, placed_left, placed_child, placed_joined, fits_at}
+use Rattle.schedule_core.specs.Lanes.{Placed, TaskOwed, JoinedOwed, RestOwed, SideOwed, EndingOwed}
+use Rattle.schedule_core.specs.Lanes.{ArrivalOwed, StageOwed, after_stopped, after_turn, TurnFits}
+use Rattle.schedule_core.specs.Lanes.{IsTally}
+use Rattle.schedule_core.specs.Solo.{Lane, Stage, Runs, Lost, Comes, on, more, records, runs, next}
+use Rattle.schedule_core.specs.Solo.{after_step, arrived_with, arrived_at, on_joined, met, turned}
+use Rattle.schedule_core.specs.Solo.{one_skipped}
+use Rattle.schedule_core.proofs.Finishing.{placed_goes, placed_none, placed_some, placed_left}
+use Rattle.schedule_core.proofs.Finishing.{placed_child, placed_joined, fits_at}
 
 -- ---- counts
 

@@ -2,8 +2,13 @@
 use Rattle.std.proofs.Common.{◌≡◌, ℕ, ◌+◌, ◌*◌, ◌≤◌, Option, Some, None, refl, sym, ap, ◌∙◌, subst}
 use Rattle.std.specs.Prelude.{false}
 use Rattle.schedule_core.specs.Machine.{left, right, Machine, MergeOwes}
-use Rattle.schedule_core.specs.Core.{Seat, resting, running, forked, ended, holding, Cell, free, taken, opened, met, Config}
-use Rattle.schedule_core.specs.Sound.{Holder, nobody, by_seat, by_record, SeatHas, CellHas, SeatEnds, ChildEnd, SideEnd, CellEnds, RootEnd, SeatOwes, ChildOwes, SideIs, CellOwes, IsPending, SeatRecord, SeatTakes, ChildRecord, CellRecord, Order, total, owing, saved, SeatFresh, CellFresh, Paid, Sound}
+use Rattle.schedule_core.specs.Core.{Seat, resting, running, forked, ended, holding, Cell, free}
+use Rattle.schedule_core.specs.Core.{taken, opened, met, Config}
+use Rattle.schedule_core.specs.Sound.{Holder, nobody, by_seat, by_record, SeatHas, CellHas}
+use Rattle.schedule_core.specs.Sound.{SeatEnds, ChildEnd, SideEnd, CellEnds, RootEnd, SeatOwes}
+use Rattle.schedule_core.specs.Sound.{ChildOwes, SideIs, CellOwes, IsPending, SeatRecord, SeatTakes}
+use Rattle.schedule_core.specs.Sound.{ChildRecord, CellRecord, Order, total, owing, saved}
+use Rattle.schedule_core.specs.Sound.{SeatFresh, CellFresh, Paid, Sound}
 
 module _ {T R E : Type 0} (M : Machine T R E) (holder : ℕ → Holder) (ending : ℕ → E) where
   abbrev pub SeatOk : (ℕ → Cell T R E) → ℕ → Seat T R E → Type 0

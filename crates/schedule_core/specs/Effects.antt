@@ -161,7 +161,10 @@ module _ (s : Standing) (w : ℕ) where
   diverted_on task =
       record s {
         workers = slice_set s.workers w
-            (record { seat = seat.Running task true; beats = one_more (worker_at s.workers w).beats });
+            (record {
+              seat = seat.Running task true;
+              beats = one_more (worker_at s.workers w).beats;
+            });
       }
 
   -- the worker's task was given a record, or none

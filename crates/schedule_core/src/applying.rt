@@ -71,12 +71,14 @@ pub fn apply(config: Config, code: &Code, event: Event) -> Result<Config, ApplyF
     ensures step { IfOk result (Steps code.now config event) }
     ensures kept { IfOk result (SameRun config) }
     ensures belongs { IfOk result (λ after. Belongs code.now (stands after)) }
-    ensures not_enabled { WhereNotEnabled result (λ same. (same ≡ config) × (IsEnabled code.now config event → ⊥)) }
+    ensures not_enabled { WhereNotEnabled result (λ same.
+        (same ≡ config) × (IsEnabled code.now config event → ⊥)) }
     ensures stuck { WhereStuck result (IsStuckAt code.now config event) }
     ensures sound { (out : Ending)
         → IsSound code.now config out
         → IfOk result (λ after. IsSound code.now after out) }
-    ensures never_stuck { (out : Ending) → IsSound code.now config out → WhereStuck result (λ fault. ⊥) }
+    ensures never_stuck { (out : Ending) → IsSound code.now config out →
+        WhereStuck result (λ fault. ⊥) }
 {
     let _blocks = code.blocks();
     known(&config);

@@ -94,7 +94,8 @@ impl Config {
     #[tactic(auto, using(crate::proofs::Beginning::first_stands, crate::proofs::Beginning::first_run, crate::proofs::Beginning::first_belongs, crate::proofs::Beginning::first_is_sound, crate::proofs::Beginning::first_is_standing, crate::proofs::Beginning::some_worker))]
     pub fn first(alloc: Global, code: &Code, job: Job) -> Result<Config, NoMemory>
         requires job { IsJob code.now job }
-        ensures first { IfOk result (λ config. stands config ≡ first (first_state job.tables job.fuel)) }
+        ensures first { IfOk result (λ config.
+            stands config ≡ first (first_state job.tables job.fuel)) }
         ensures run { IfOk result (IsRunOf job) }
         ensures belongs { IfOk result (λ config. Belongs code.now (stands config)) }
         ensures sound { (out : Ending)
@@ -181,7 +182,8 @@ impl Config {
         requires { worker < length self.now.workers }
         ensures least { 1 ≤ result.heartbeat }
         ensures heartbeat { result.heartbeat ≡ self.now.heartbeat }
-        ensures allowed { result.allowed ≡ is_allowed self.now.forks (worker_at self.now.workers worker).beats }
+        ensures allowed { result.allowed
+            ≡ is_allowed self.now.forks (worker_at self.now.workers worker).beats }
     {
         Pace {
             heartbeat: self.heartbeat,

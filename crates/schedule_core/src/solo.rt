@@ -159,7 +159,8 @@ fn run_turns(alloc: Global, start: Start) -> Result<(Outcome, Tally), NoMemory>
     ensures run { IfOk result
         (λ r. SoloRun start.entry.code.now start.entry.heartbeat start.entry.forks
         start.entry.task r.0 r.1) }
-    ensures owed { (e : Ending) → Owes start.entry.code.now start.entry.heartbeat false 0 start.entry.task e
+    ensures owed { (e : Ending) →
+        Owes start.entry.code.now start.entry.heartbeat false 0 start.entry.task e
         → IfOk result (λ r. e ≡ ending.Root r.0) }
 {
     let Start {

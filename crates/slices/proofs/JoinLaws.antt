@@ -1,10 +1,12 @@
 -- What is cut out and appended again is what was there.
-use Rattle.std.proofs.Common.{◌≡◌, Bool, true, false, cond, not, Option, None, Some, refl, sym, ◌∙◌, ap, subst}
+use Rattle.std.proofs.Common.{◌≡◌, Bool, true, false, cond, not, Option, None, Some, refl, sym, ◌∙◌}
+use Rattle.std.proofs.Common.{ap, subst}
 use Rattle.std.proofs.lemmas.Bool.{false≢true}
 use Rattle.std.specs.Prelude.{ℤ, ◌&&◌, int_lt, IsSome}
 use Rattle.std.specs.Ordering.{int_eq}
 use Rattle.std.specs.FinMap.{get-retain_keys}
-use Rattle.slices.specs.Holding.{Holding, cell_at, held_where, together, own, CommonCell, rows_below, rows_from, without_row, row_below, row_from}
+use Rattle.slices.specs.Holding.{Holding, cell_at, held_where, together, own, CommonCell}
+use Rattle.slices.specs.Holding.{rows_below, rows_from, without_row, row_below, row_from}
 use Rattle.slices.specs.Spans.{or_else}
 use Rattle.slices.proofs.Maps.{same_cells, get-union, place_only}
 

@@ -1,13 +1,19 @@
 -- Finite maps of cells: what they give at a place, and when two are equal.
-use Rattle.std.proofs.Common.{◌≡◌, ℕ, zero, suc, ◌+◌, ◌*◌, ◌/◌, ◌%◌, ◌<◌, ◌≤◌, ◌⊎◌, inl, inr, Bool, true, false, cond, List, [], ◌∷◌, Option, None, Some, refl, sym, ◌∙◌, ap, subst, arith, mul-zero}
-use Rattle.std.proofs.lemmas.Bool.{cases_lt, cases_eq, eq-eqb, ne_eqb, lt-ltb, le-ltb, and_right, false≢true}
+use Rattle.std.proofs.Common.{◌≡◌, ℕ, zero, suc, ◌+◌, ◌*◌, ◌/◌, ◌%◌, ◌<◌, ◌≤◌, ◌⊎◌, inl, inr, Bool}
+use Rattle.std.proofs.Common.{true, false, cond, List, [], ◌∷◌, Option, None, Some, refl, sym, ◌∙◌}
+use Rattle.std.proofs.Common.{ap, subst, arith, mul-zero}
+use Rattle.std.proofs.lemmas.Bool.{cases_lt, cases_eq, eq-eqb, ne_eqb, lt-ltb, le-ltb, and_right}
+use Rattle.std.proofs.lemmas.Bool.{false≢true}
 use Rattle.std.specs.Prelude.{ℤ, pos, negsuc, ◌&&◌, nat_lt, nat_eq}
 use Rattle.std.specs.declared.cmp.Ordering.{Ordering}
 use Rattle.std.specs.declared.cmp.Ordering.TheVariants.{Less, Equal, Greater}
 use Rattle.std.specs.Ordering.{int_cmp, ordering_then, eq_by_cmp, is_eq}
 use Rattle.std.specs.Cmp.{IsTotalOrder, eq_by_cmp_equiv, on_total, then_total, int_cmp_total}
-use Rattle.std.specs.FinMap.{IsAntisymmetric, int_cmp-IsAntisymmetric, get, insert, retain_keys, entries, find, get-empty, get-insert, get-retain_keys, get-entries, same_map}
-use Rattle.slices.specs.Cells.{Cells, place_cmp, place_of, at_place, with_number, first_cells, over, union}
+use Rattle.std.specs.FinMap.{IsAntisymmetric, int_cmp-IsAntisymmetric, get, insert, retain_keys}
+use Rattle.std.specs.FinMap.{entries, find, get-empty, get-insert, get-retain_keys, get-entries}
+use Rattle.std.specs.FinMap.{same_map}
+use Rattle.slices.specs.Cells.{Cells, place_cmp, place_of, at_place, with_number, first_cells, over}
+use Rattle.slices.specs.Cells.{union}
 use Rattle.slices.specs.Spans.{or_else}
 use Rattle.slices.proofs.SpanLists.{or_else-none}
 use Rattle.std.proofs.lemmas.Nat.{div-mul-add, mod-mul-add}

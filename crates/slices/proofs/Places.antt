@@ -1,11 +1,15 @@
 -- What boxes hold at a position.
-use Rattle.std.proofs.Common.{◌≡◌, ℕ, zero, suc, ◌+◌, ◌-◌, ◌/◌, ◌%◌, ◌*◌, ◌<◌, ◌≤◌, ◌⊎◌, inl, inr, cond, List, [], ◌∷◌, ◌++◌, length, take, drop, set, get_or, min, max, Option, None, Some, refl, sym, ◌∙◌, ap, subst, arith, length-take}
+use Rattle.std.proofs.Common.{◌≡◌, ℕ, zero, suc, ◌+◌, ◌-◌, ◌/◌, ◌%◌, ◌*◌, ◌<◌, ◌≤◌, ◌⊎◌, inl, inr}
+use Rattle.std.proofs.Common.{cond, List, [], ◌∷◌, ◌++◌, length, take, drop, set, get_or, min, max}
+use Rattle.std.proofs.Common.{Option, None, Some, refl, sym, ◌∙◌, ap, subst, arith, length-take}
 use Rattle.std.proofs.lemmas.Option.{slice_get-get_or, slice_get_past}
 use Rattle.std.proofs.lemmas.Bool.{cases_lt, cases_eq, eq-eqb, ne_eqb, lt-ltb, le-ltb}
-use Rattle.std.specs.Prelude.{ℤ, pos, IsSome, MatchOption, nat_eq, nat_lt, slice_get, option_to_list, Box}
+use Rattle.std.specs.Prelude.{ℤ, pos, IsSome, MatchOption, nat_eq, nat_lt, slice_get}
+use Rattle.std.specs.Prelude.{option_to_list, Box}
 use Rattle.std.specs.Global.{Global}
 use Rattle.slices.specs.Spans.{number, held_in, in_chunk, in_list, between, or_else, count, slot}
-use Rattle.slices.proofs.Slots.{slot_before, slot_past, slot_inside, between_in, between_before, between_past, between_none}
+use Rattle.slices.proofs.Slots.{slot_before, slot_past, slot_inside, between_in, between_before}
+use Rattle.slices.proofs.Slots.{between_past, between_none}
 use Rattle.slices.proofs.SpanLists.{or_else-none}
 
 abbrev pub Chunk : Type 0

@@ -1,21 +1,27 @@
 -- What a store is seen as, and tests of positions against rows and columns.
-use Rattle.std.proofs.Common.{◌≡◌, ℕ, zero, suc, ◌+◌, ◌*◌, ◌/◌, ◌%◌, ◌<◌, ◌≤◌, inl, inr, Bool, true, false, cond, not, List, is_some, Option, None, Some, refl, sym, ◌∙◌, ap, subst, arith, add-zero}
-use Rattle.std.proofs.lemmas.Bool.{cases_lt, cases_eq, eq-eqb, ne_eqb, lt-ltb, le-ltb, le-leb, lt-leb, and_right, false≢true}
+use Rattle.std.proofs.Common.{◌≡◌, ℕ, zero, suc, ◌+◌, ◌*◌, ◌/◌, ◌%◌, ◌<◌, ◌≤◌, inl, inr, Bool, true}
+use Rattle.std.proofs.Common.{false, cond, not, List, is_some, Option, None, Some, refl, sym, ◌∙◌}
+use Rattle.std.proofs.Common.{ap, subst, arith, add-zero}
+use Rattle.std.proofs.lemmas.Bool.{cases_lt, cases_eq, eq-eqb, ne_eqb, lt-ltb, le-ltb, le-leb}
+use Rattle.std.proofs.lemmas.Bool.{lt-leb, and_right, false≢true}
 use Rattle.std.proofs.lemmas.Bool.Decides.{nat_tests}
 use Rattle.std.proofs.Math.Nat.{mul-le-mul_left}
-use Rattle.std.specs.Prelude.{ℤ, pos, ◌&&◌, nat_lt, nat_le, nat_eq, IsSome, IsTrue, Result, Ok, Err, OnErr}
+use Rattle.std.specs.Prelude.{ℤ, pos, ◌&&◌, nat_lt, nat_le, nat_eq, IsSome, IsTrue, Result, Ok, Err}
+use Rattle.std.specs.Prelude.{OnErr}
 use Rattle.std.specs.Bool.{OnTrue, OnFalse}
 use Rattle.std.specs.Ordering.{int_eq, is_eq}
 use Rattle.std.specs.declared.cmp.Ordering.TheVariants.{Less, Equal, Greater}
 use Rattle.std.specs.Cmp.{int_eq_equiv}
 use Rattle.std.specs.FinMap.{get, empty, insert}
 use Rattle.slices.specs.Cells.{first_cells, at_place, StandsAt, with_number, place_of}
-use Rattle.slices.specs.Holding.{Holding, held_where, with_cell, together, IsWhole, CommonCell, SameSize}
+use Rattle.slices.specs.Holding.{Holding, held_where, with_cell, together, IsWhole, CommonCell}
+use Rattle.slices.specs.Holding.{SameSize}
 use Rattle.slices.specs.Spans.{or_else, between, spans_at, holders, AreApart}
 use Rattle.slices.specs.Stored.{stored, store_at, is_owned}
 use Rattle.slices.specs.declared.store.Store.{Store}
 use Rattle.slices.specs.declared.spans.Span.{Span}
-use Rattle.slices.proofs.Maps.{first_cells_at, cells_where, cells_union, cells_insert, inside_size, place_inside, at_each_place}
+use Rattle.slices.proofs.Maps.{first_cells_at, cells_where, cells_union, cells_insert, inside_size}
+use Rattle.slices.proofs.Maps.{place_inside, at_each_place}
 use Rattle.slices.proofs.Cuts.{holders_none}
 use Rattle.slices.proofs.SpanLists.{count_some, count_spans}
 

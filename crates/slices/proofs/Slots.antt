@@ -1,5 +1,7 @@
 -- What a list that is counted from a start holds at a position.
-use Rattle.std.proofs.Common.{◌≡◌, ℕ, ◌+◌, ◌-◌, ◌<◌, ◌≤◌, ◌⊎◌, inl, inr, cond, List, [], ◌++◌, length, take, drop, set, get_or, Option, None, Some, refl, sym, ◌∙◌, ap, subst, arith, length-take, length-drop, min, max, zero-add}
+use Rattle.std.proofs.Common.{◌≡◌, ℕ, ◌+◌, ◌-◌, ◌<◌, ◌≤◌, ◌⊎◌, inl, inr, cond, List, [], ◌++◌}
+use Rattle.std.proofs.Common.{length, take, drop, set, get_or, Option, None, Some, refl, sym, ◌∙◌}
+use Rattle.std.proofs.Common.{ap, subst, arith, length-take, length-drop, min, max, zero-add}
 use Rattle.std.proofs.lemmas.Option.{slice_get-get_or, slice_get_past, gets}
 use Rattle.std.proofs.lemmas.Bool.{cases_lt, false≢true, lt-ltb, le-ltb}
 use Rattle.std.proofs.lemmas.List.{get_or-take, get_or-drop}

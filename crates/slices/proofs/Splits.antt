@@ -1,12 +1,16 @@
 -- Spans cut at a position, one after another.
-use Rattle.std.proofs.Common.{◌≡◌, ℕ, zero, suc, ◌+◌, ◌<◌, ◌≤◌, inl, inr, Bool, true, false, cond, List, [], ◌∷◌, length, take, drop, set, get_or, Option, None, Some, refl, sym, ◌∙◌, ap, arith}
+use Rattle.std.proofs.Common.{◌≡◌, ℕ, zero, suc, ◌+◌, ◌<◌, ◌≤◌, inl, inr, Bool, true, false, cond}
+use Rattle.std.proofs.Common.{List, [], ◌∷◌, length, take, drop, set, get_or, Option, None, Some}
+use Rattle.std.proofs.Common.{refl, sym, ◌∙◌, ap, arith}
 use Rattle.std.proofs.lemmas.Bool.{cases_lt, lt-ltb, le-ltb}
 use Rattle.std.proofs.lemmas.List.{take_more_set, get_or-drop}
 use Rattle.std.specs.Prelude.{ℤ, nat_lt, Result, Ok, Err, OnErr}
 use Rattle.slices.specs.Spans.{or_else, count, between, span_at, spans_at, holders, AreApart}
 use Rattle.slices.specs.declared.spans.Span.{Span}
 use Rattle.slices.proofs.Slots.{between_in, between_past, between_before}
-use Rattle.slices.proofs.SpanLists.{or_else-none, or_else_swap, or_else_assoc, spans_at-push, holders-push, at_more, count_more, around, around_set, count_around, count_around_set, count_spans, count_sum}
+use Rattle.slices.proofs.SpanLists.{or_else-none, or_else_swap, or_else_assoc, spans_at-push}
+use Rattle.slices.proofs.SpanLists.{holders-push, at_more, count_more, around, around_set}
+use Rattle.slices.proofs.SpanLists.{count_around, count_around_set, count_spans, count_sum}
 use Rattle.slices.proofs.Cuts.{none_there}
 
 pub sides_count : (b : Bool) (u v w : Option ℤ) → u ≡ cond b w None → v ≡ cond b None w → count u + count v ≡ count w

@@ -1,11 +1,13 @@
 -- Where a span begins.
-use Rattle.std.proofs.Common.{◌≡◌, ℕ, ◌-◌, ◌/◌, ◌<◌, ◌≤◌, ◌⊎◌, inl, inr, max, cond, length, None, sym, ◌∙◌, ap, subst, arith}
+use Rattle.std.proofs.Common.{◌≡◌, ℕ, ◌-◌, ◌/◌, ◌<◌, ◌≤◌, ◌⊎◌, inl, inr, max, cond, length, None}
+use Rattle.std.proofs.Common.{sym, ◌∙◌, ap, subst, arith}
 use Rattle.std.proofs.lemmas.Bool.{cases_lt, false≢true, lt-ltb, le-ltb}
 use Rattle.std.specs.Prelude.{IsSome, nat_lt}
 use Rattle.slices.specs.Spans.{span_at, span_start, between}
 use Rattle.slices.specs.declared.spans.Span.{Span}
 use Rattle.slices.specs.declared.spans.Span.TheVariants.{Flat, Cut}
-use Rattle.slices.proofs.Slots.{slot_before, slot_reaches, slot_some, between_before, between_past, between_none}
+use Rattle.slices.proofs.Slots.{slot_before, slot_reaches, slot_some, between_before, between_past}
+use Rattle.slices.proofs.Slots.{between_none}
 use Rattle.slices.proofs.Places.{in_list_none, chunks_some}
 
 pub before_start : (s : Span) (i : ℕ) → i < span_start s → span_at s i ≡ None

@@ -36,7 +36,8 @@ pub(crate) fn write(chunk: &mut [i64; CHUNK], at: usize, value: i64)
 pub(crate) fn chunk_of(alloc: Global, skip: usize, part: &[i64]) -> Result<Chunk, AllocError>
     requires { skip + length part.now ≤ 512 }
     ensures { IfOk result
-        (λ chunk. (j : ℕ) → j < length part.now → number chunk.value (skip + j) ≡ number part.now j) }
+        (λ chunk.
+        (j : ℕ) → j < length part.now → number chunk.value (skip + j) ≡ number part.now j) }
 {
     if let Ok(cells) = <[i64; CHUNK]>::try_from(part) {
         let chunk = boxed(alloc, cells)?;

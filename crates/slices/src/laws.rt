@@ -18,7 +18,8 @@ pub fn rows_join_again(held: &Held, at: i64)
 /// and together they are the cells that were cut, owned.
 pub fn cells_join_again(held: &Held, row: i64, at: i64)
     ensures lower_apart { CommonCell (without_row held.now row) (row_below held.now row at) → ⊥ }
-    ensures upper_apart { CommonCell (together (without_row held.now row) (row_below held.now row at))
+    ensures upper_apart { CommonCell (together (without_row held.now row) (row_below held.now row
+        at))
         (row_from held.now row at)
         → ⊥ }
     ensures joined { together (together (without_row held.now row) (row_below held.now row at))

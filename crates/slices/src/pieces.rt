@@ -115,7 +115,8 @@ impl Pieces {
         ensures len { IfOk result
             (λ upper. (vec_len self.new.more ≡ vec_len self.old.more)
             × (vec_len upper.more ≤ vec_len self.old.more)) }
-        ensures err_len { OnErr result (vec_len self.new.more ≤ vec_len self.old.more + vec_len self.old.more) }
+        ensures err_len { OnErr result (vec_len self.new.more
+            ≤ vec_len self.old.more + vec_len self.old.more) }
         ensures capacity { vec_capacity self.old.more ≤ vec_capacity self.new.more }
     {
         let mut more = Vec::with_capacity(self.alloc(), self.more.len())?;
@@ -149,8 +150,10 @@ impl Pieces {
         ensures upper { IfOk result
             (λ parts. (i : ℕ) → piece_at parts.1 i ≡ between mid high i (piece_at self.old i)) }
         ensures reaching { OnOk result ((i : ℕ) → reaching self.new i ≤ reaching self.old i) }
-        ensures reaching_lower { IfOk result (λ parts. (i : ℕ) → reaching parts.0 i ≤ reaching self.old i) }
-        ensures reaching_upper { IfOk result (λ parts. (i : ℕ) → reaching parts.1 i ≤ reaching self.old i) }
+        ensures reaching_lower { IfOk result (λ parts.
+            (i : ℕ) → reaching parts.0 i ≤ reaching self.old i) }
+        ensures reaching_upper { IfOk result (λ parts.
+            (i : ℕ) → reaching parts.1 i ≤ reaching self.old i) }
         ensures err { OnErr result
             ((i : ℕ)
             → (piece_at self.new i ≡ piece_at self.old i)
@@ -226,8 +229,10 @@ impl Pieces {
 
     /// Whether a position lies in both.
     pub(crate) fn overlaps(&self, other: &Pieces) -> bool
-        ensures yes { OnTrue result ((i : ℕ) × IsSome (piece_at self.now i) × IsSome (piece_at other.now i)) }
-        ensures no { OnFalse result ((i : ℕ) → IsSome (piece_at other.now i) → piece_at self.now i ≡ None) }
+        ensures yes { OnTrue result ((i : ℕ) × IsSome (piece_at self.now i)
+            × IsSome (piece_at other.now i)) }
+        ensures no { OnFalse result ((i : ℕ) → IsSome (piece_at other.now i) →
+            piece_at self.now i ≡ None) }
     {
         if self.meets(&other.first) {
             return true;
@@ -241,8 +246,10 @@ impl Pieces {
     }
 
     fn meets(&self, span: &Span) -> bool
-        ensures yes { OnTrue result ((i : ℕ) × IsSome (piece_at self.now i) × IsSome (span_at span.now i)) }
-        ensures no { OnFalse result ((i : ℕ) → IsSome (span_at span.now i) → piece_at self.now i ≡ None) }
+        ensures yes { OnTrue result ((i : ℕ) × IsSome (piece_at self.now i)
+            × IsSome (span_at span.now i)) }
+        ensures no { OnFalse result ((i : ℕ) → IsSome (span_at span.now i) →
+            piece_at self.now i ≡ None) }
     {
         if self.first.meets(span) {
             return true;
@@ -283,7 +290,8 @@ impl Pieces {
         ensures cells { (i : ℕ)
             → reaching self.old i + count (span_at span i) ≤ 1
             → piece_at self.new i ≡ or_else (piece_at self.old i) (span_at span i) }
-        ensures reaching { (i : ℕ) → reaching self.new i ≡ reaching self.old i + count (span_at span i) }
+        ensures reaching { (i : ℕ) →
+            reaching self.new i ≡ reaching self.old i + count (span_at span i) }
         ensures len { vec_len self.new.more ≤ vec_len self.old.more + 1 }
         ensures capacity { vec_capacity self.new.more ≡ vec_capacity self.old.more }
     {
@@ -297,7 +305,8 @@ impl Pieces {
 
     /// Joins to the first span those that follow it or stand before it.
     fn join_more(&mut self)
-        ensures cells { (i : ℕ) → reaching self.old i ≤ 1 → piece_at self.new i ≡ piece_at self.old i }
+        ensures cells { (i : ℕ) → reaching self.old i ≤ 1 →
+            piece_at self.new i ≡ piece_at self.old i }
         ensures reaching { (i : ℕ) → reaching self.new i ≡ reaching self.old i }
         ensures len { vec_len self.new.more ≤ vec_len self.old.more }
         ensures capacity { vec_capacity self.new.more ≡ vec_capacity self.old.more }
@@ -327,8 +336,10 @@ fn reach_of(spans: &[Span], at: usize) -> usize
 }
 
 fn meets_one_of(spans: &[Span], other: &Span) -> bool
-    ensures yes { OnTrue result ((i : ℕ) × IsSome (spans_at spans.now i) × IsSome (span_at other.now i)) }
-    ensures no { OnFalse result ((i : ℕ) → IsSome (span_at other.now i) → spans_at spans.now i ≡ None) }
+    ensures yes { OnTrue result ((i : ℕ) × IsSome (spans_at spans.now i)
+        × IsSome (span_at other.now i)) }
+    ensures no { OnFalse result ((i : ℕ) → IsSome (span_at other.now i) →
+        spans_at spans.now i ≡ None) }
 {
     for span in spans {
         if span.meets(other) {
@@ -375,7 +386,8 @@ fn split_each(spans: &mut [Span], at: usize, parts: &mut Vec<Span>) -> Result<()
     ensures given { OnOk result
         ((i : ℕ)
         → spans_at parts.new.items i ≡ (if nat_lt i at then None else spans_at spans.old i)) }
-    ensures reaching { (i : ℕ) → holders spans.new i + holders parts.new.items i ≡ holders spans.old i }
+    ensures reaching { (i : ℕ) →
+        holders spans.new i + holders parts.new.items i ≡ holders spans.old i }
     ensures err { OnErr result
         ((i : ℕ)
         → holders spans.old i ≤ 1
@@ -394,7 +406,8 @@ fn push_reserved(spans: &mut Vec<Span>, span: Span)
     requires { vec_len spans.old < vec_capacity spans.old }
     ensures cells { (i : ℕ)
         → spans_at spans.new.items i ≡ or_else (spans_at spans.old.items i) (span_at span i) }
-    ensures reaching { (i : ℕ) → holders spans.new.items i ≡ holders spans.old.items i + count (span_at span i) }
+    ensures reaching { (i : ℕ) →
+        holders spans.new.items i ≡ holders spans.old.items i + count (span_at span i) }
     ensures len { vec_len spans.new ≤ vec_len spans.old + 1 }
     ensures capacity { vec_capacity spans.new ≡ vec_capacity spans.old }
 {
@@ -411,7 +424,8 @@ fn copies_between(
 ) -> Result<Vec<Span>, AllocError>
     ensures cells { IfOk result
         (λ parts. (i : ℕ) → spans_at parts.items i ≡ between low high i (spans_at spans.now i)) }
-    ensures reaching { IfOk result (λ parts. (i : ℕ) → holders parts.items i ≤ holders spans.now i) }
+    ensures reaching { IfOk result (λ parts.
+        (i : ℕ) → holders parts.items i ≤ holders spans.now i) }
     ensures len { IfOk result (λ parts. vec_len parts ≤ length spans.now) }
 {
     let mut parts = Vec::new(alloc);

@@ -124,7 +124,8 @@ impl Span {
 
     /// Whether a position lies in both.
     pub(crate) fn meets(&self, other: &Span) -> bool
-        ensures yes { OnTrue result ((i : ℕ) × IsSome (span_at self.now i) × IsSome (span_at other.now i)) }
+        ensures yes { OnTrue result ((i : ℕ) × IsSome (span_at self.now i)
+            × IsSome (span_at other.now i)) }
         ensures no { OnFalse result
             ((i : ℕ) → IsSome (span_at self.now i) → IsSome (span_at other.now i) → ⊥) }
     {
@@ -271,7 +272,8 @@ fn split_flat(flat: &mut Stretch, at: usize) -> Result<Span, AllocError>
 fn upper_of(flat: &Stretch, at: usize) -> Result<Span, AllocError>
     requires { flat.now.start ≤ at }
     ensures { IfOk result
-        (λ upper. (i : ℕ) → span_at upper i ≡ (if nat_lt i at then None else stretch_at flat.now i)) }
+        (λ upper.
+        (i : ℕ) → span_at upper i ≡ (if nat_lt i at then None else stretch_at flat.now i)) }
 {
     let alloc = *flat.cells.allocator();
     let len = flat.cells.len();

@@ -90,7 +90,8 @@ impl Store {
         ensures given { IfOk result
             (λ upper. (i : ℕ) → piece_at upper i ≡ between at end i (store_at self.old i)) }
         ensures reaching { OnOk result ((i : ℕ) → reaching_in self.new i ≤ reaching_in self.old i) }
-        ensures reaching_given { IfOk result (λ upper. (i : ℕ) → reaching upper i ≤ reaching_in self.old i) }
+        ensures reaching_given { IfOk result (λ upper.
+            (i : ℕ) → reaching upper i ≤ reaching_in self.old i) }
         ensures owned { OnOk result (is_owned self.new ≡ true) }
         ensures err { OnErr result (SameStored self.old self.new) }
     {
@@ -130,8 +131,10 @@ impl Store {
         ensures upper { IfOk result
             (λ parts. (i : ℕ) → piece_at parts.1 i ≡ between mid high i (store_at self.old i)) }
         ensures reaching { OnOk result ((i : ℕ) → reaching_in self.new i ≤ reaching_in self.old i) }
-        ensures reaching_lower { IfOk result (λ parts. (i : ℕ) → reaching parts.0 i ≤ reaching_in self.old i) }
-        ensures reaching_upper { IfOk result (λ parts. (i : ℕ) → reaching parts.1 i ≤ reaching_in self.old i) }
+        ensures reaching_lower { IfOk result (λ parts.
+            (i : ℕ) → reaching parts.0 i ≤ reaching_in self.old i) }
+        ensures reaching_upper { IfOk result (λ parts.
+            (i : ℕ) → reaching parts.1 i ≤ reaching_in self.old i) }
         ensures owned { OnOk result (is_owned self.new ≡ true) }
         ensures err { OnErr result (SameStored self.old self.new) }
     {
@@ -158,9 +161,11 @@ impl Store {
             → store_at self.new i
             ≡ (if done && i == at then Some value else store_at self.old i)) }
         ensures reaching { (i : ℕ) → reaching_in self.new i ≤ reaching_in self.old i }
-        ensures owned { IfOk result (λ done. is_owned self.new ≡ (if done then true else is_owned self.old)) }
+        ensures owned { IfOk result (λ done.
+            is_owned self.new ≡ (if done then true else is_owned self.old)) }
         ensures err { OnErr result (SameStored self.old self.new) }
-        ensures no_memory { OnErr result ((is_owned self.old ≡ false) × IsSome (store_at self.old at)) }
+        ensures no_memory { OnErr result ((is_owned self.old ≡ false)
+            × IsSome (store_at self.old at)) }
     {
         match self {
             Store::Whole(cells) => {
@@ -273,7 +278,8 @@ impl Store {
     fn into_owned(self, end: usize) -> Result<Pieces, Store>
         requires { AreApart end (stored self) }
         ensures cells { IfOk result (λ pieces. (i : ℕ) → piece_at pieces i ≡ store_at self i) }
-        ensures reaching { IfOk result (λ pieces. (i : ℕ) → reaching pieces i ≤ reaching_in self i) }
+        ensures reaching { IfOk result (λ pieces.
+            (i : ℕ) → reaching pieces i ≤ reaching_in self i) }
         ensures len { IfOk result (λ pieces. vec_len pieces.more ≤ further_spans self) }
         ensures handed_back { IfErr result (λ store. store ≡ self) }
     {

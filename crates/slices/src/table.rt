@@ -60,7 +60,8 @@ impl Held {
         requires { vec_len cells ≡ rows * cols }
         ensures rows { result.rows ≡ rows }
         ensures cols { result.cols ≡ cols }
-        ensures cells { (row col : ℤ) → cell_at result row col ≡ listed rows cols cells.items row col }
+        ensures cells { (row col : ℤ) →
+            cell_at result row col ≡ listed rows cols cells.items row col }
         ensures owned { result.owned ≡ true }
     {
         Held {
@@ -124,7 +125,8 @@ impl Held {
         ensures set { result ≡ Ok true → self.new ≡ with_cell self.old row col value }
         ensures not_held { result ≡ Ok false → self.new ≡ self.old }
         ensures err { OnErr result (self.new ≡ self.old) }
-        ensures no_memory { OnErr result ((self.old.owned ≡ false) × IsSome (cell_at self.old row col)) }
+        ensures no_memory { OnErr result ((self.old.owned ≡ false)
+            × IsSome (cell_at self.old row col)) }
     {
         let end = self.end();
         match position(self.rows, self.cols, row, col) {

@@ -1,20 +1,25 @@
 -- How the chain between the two ends is kept where a mark comes or goes.
-use Rattle.std.proofs.Common.{◌≡◌, ℕ, zero, suc, ◌+◌, ◌-◌, ◌<◌, ◌≤◌, inl, inr, true, false, not, List, [], ◌∷◌, ◌++◌, length, get_or, set, replicate, refl, sym, ◌∙◌, ap, subst, arith, length-append}
+use Rattle.std.proofs.Common.{◌≡◌, ℕ, zero, suc, ◌+◌, ◌-◌, ◌<◌, ◌≤◌, inl, inr, true, false, not}
+use Rattle.std.proofs.Common.{List, [], ◌∷◌, ◌++◌, length, get_or, set, replicate, refl, sym, ◌∙◌}
+use Rattle.std.proofs.Common.{ap, subst, arith, length-append}
 use Rattle.std.specs.Prelude.{pos, filter, slice_get, Option, Some, None, Any, All}
 use Rattle.std.specs.Ordering.{int_eq}
 use Rattle.std.specs.List.{remove}
 use Rattle.std.proofs.lemmas.Bool.{cases_lt, cases_eq, false≢true}
-use Rattle.std.proofs.lemmas.List.{get_or-set_same, get_or-set_other, set_past, length-set, get_or_append_left}
+use Rattle.std.proofs.lemmas.List.{get_or-set_same, get_or-set_other, set_past, length-set}
+use Rattle.std.proofs.lemmas.List.{get_or_append_left}
 use Rattle.std.proofs.lemmas.List.Edits.{length-remove, get_or-remove_below, get_or-remove_above}
 use Rattle.std.proofs.Math.Seq.{get_or-append_seam}
 use Rattle.stack_marks.specs.declared.mark.Mark.{Mark}
 use Rattle.stack_marks.specs.declared.links.Link.{Link}
 use Rattle.stack_marks.specs.declared.links.Ends.{Ends}
 use Rattle.stack_marks.specs.Stacks.{InOrder}
-use Rattle.stack_marks.specs.Linked.{mark_of, marks_from, bare, link_at, newer_at, older_at, AreLinked}
+use Rattle.stack_marks.specs.Linked.{mark_of, marks_from, bare, link_at, newer_at, older_at}
+use Rattle.stack_marks.specs.Linked.{AreLinked}
 use Rattle.stack_marks.proofs.Rising.{rises, get_or_any, get_or_self, removed_is_filtered}
 use Rattle.stack_marks.proofs.Following.{AreEnds, AreChained, closed}
-use Rattle.stack_marks.proofs.Linking.{no_mark, nth, IsChain, Stands, stands, Place, place, rising, same_marks, padded, marked_above, chain_without, chain_added}
+use Rattle.stack_marks.proofs.Linking.{no_mark, nth, IsChain, Stands, stands, Place, place, rising}
+use Rattle.stack_marks.proofs.Linking.{same_marks, padded, marked_above, chain_without, chain_added}
 
 -- two places with one position are one
 same_place : (low high j k : ℕ) (ms : List Mark) → InOrder low high ms → j < length ms → k < length ms → (nth ms j).at ≡ (nth ms k).at → j ≡ k

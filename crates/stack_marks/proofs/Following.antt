@@ -1,10 +1,12 @@
 -- Following the links passes the marks where each names its neighbours, and the other way round.
-use Rattle.std.proofs.Common.{◌≡◌, ℕ, zero, suc, ◌-◌, ◌<◌, List, [], ◌∷◌, length, reverse, refl, sym, ◌∙◌, ap, subst, arith}
+use Rattle.std.proofs.Common.{◌≡◌, ℕ, zero, suc, ◌-◌, ◌<◌, List, [], ◌∷◌, length, reverse, refl}
+use Rattle.std.proofs.Common.{sym, ◌∙◌, ap, subst, arith}
 use Rattle.std.proofs.lemmas.List.{get_or-reverse, length-reverse}
 use Rattle.stack_marks.specs.declared.mark.Mark.{Mark}
 use Rattle.stack_marks.specs.declared.links.Link.{Link}
 use Rattle.stack_marks.specs.declared.links.Ends.{Ends}
-use Rattle.stack_marks.specs.Linked.{mark_of, marks_from, link_at, newer_at, older_at, followed, PassAll}
+use Rattle.stack_marks.specs.Linked.{mark_of, marks_from, link_at, newer_at, older_at, followed}
+use Rattle.stack_marks.specs.Linked.{PassAll}
 use Rattle.stack_marks.proofs.Linking.{no_mark, nth, IsChain, stands}
 
 -- the oldest and the newest mark stand where the ends say

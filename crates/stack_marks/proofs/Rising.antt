@@ -1,12 +1,15 @@
 -- Lists of marks whose positions rise.
-use Rattle.std.proofs.Common.{◌≡◌, ℕ, zero, suc, ◌+◌, ◌-◌, ◌<◌, ◌≤◌, inl, inr, Bool, true, false, cond, not, List, [], ◌∷◌, ◌++◌, length, drop, get_or, refl, sym, ◌∙◌, ap, subst, arith}
+use Rattle.std.proofs.Common.{◌≡◌, ℕ, zero, suc, ◌+◌, ◌-◌, ◌<◌, ◌≤◌, inl, inr, Bool, true, false}
+use Rattle.std.proofs.Common.{cond, not, List, [], ◌∷◌, ◌++◌, length, drop, get_or, refl, sym, ◌∙◌}
+use Rattle.std.proofs.Common.{ap, subst, arith}
 use Rattle.std.proofs.lemmas.Bool.{cases_lt, lt-leb, le-leb, lt-ltb, le-ltb, false≢true}
 use Rattle.std.specs.Ordering.{int_eq, is_eq}
 use Rattle.std.specs.declared.cmp.Ordering.TheVariants.{Less, Equal, Greater}
 use Rattle.std.specs.Cmp.{int_eq_equiv}
 use Rattle.tpal_syntax.specs.declared.words.Word.{Word}
 use Rattle.std.specs.List.{remove}
-use Rattle.std.specs.Prelude.{ℤ, pos, nat_le, nat_lt, filter, slice_get, Option, None, Some, IsSome, is_some}
+use Rattle.std.specs.Prelude.{ℤ, pos, nat_le, nat_lt, filter, slice_get, Option, None, Some, IsSome}
+use Rattle.std.specs.Prelude.{is_some}
 use Rattle.stack_marks.specs.declared.mark.Mark.{Mark}
 use Rattle.stack_marks.specs.Stacks.{InOrder, StackValue, word_at}
 

@@ -68,9 +68,11 @@ struct CutMemory {
 fn copies(stack: &Stack, low: usize, high: usize, from: usize) -> Result<CutMemory, AllocError>
     requires order { (low ≤ high) × (high ≤ length stack.now.cells) }
     requires within { from ≤ length stack.now.cells }
-    ensures child { IfOk result (λ c. c.child.items ≡ take (high - low) (drop low stack.now.cells)) }
+    ensures child { IfOk result (λ c.
+        c.child.items ≡ take (high - low) (drop low stack.now.cells)) }
     ensures left { IfOk result (λ c. c.left.items ≡ drop from stack.now.cells) }
-    ensures child_links { IfOk result (λ c. HasLinks c.child_links (stack.now.base + low) (high - low)) }
+    ensures child_links { IfOk result (λ c.
+        HasLinks c.child_links (stack.now.base + low) (high - low)) }
     ensures rest_links { IfOk result (λ c. HasLinks c.rest_links stack.now.base high) }
 {
     let alloc = *stack.cells.allocator();
@@ -94,7 +96,8 @@ fn parts(stack: Stack, copies: CutMemory, base: u64, high: usize, left_base: u64
     requires left { copies.left.items ≡ drop (left_base - stack.base) stack.cells }
     requires child_links { HasLinks copies.child_links base (length copies.child.items) }
     requires rest_links { HasLinks copies.rest_links stack.base high }
-    ensures rest { result.rest ≡ record { base = stack.base; cells = take high stack.cells; marks = [] } }
+    ensures rest { result.rest
+        ≡ record { base = stack.base; cells = take high stack.cells; marks = [] } }
     ensures left { result.left
         ≡ record {
           base = left_base;

@@ -235,7 +235,8 @@ impl Links {
 /// At least so many links, where there is room for them.
 fn fill(links: &mut Vec<Link>, len: usize)
     requires { len ≤ vec_capacity links.old }
-    ensures items { links.new.items ≡ links.old.items ++ replicate (len - length links.old.items) bare }
+    ensures items { links.new.items
+        ≡ links.old.items ++ replicate (len - length links.old.items) bare }
     ensures room { vec_capacity links.old ≤ vec_capacity links.new }
 {
     if links.len() < len {

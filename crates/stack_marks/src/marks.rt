@@ -36,7 +36,8 @@ impl Stack {
     /// then where no mark stands there.
     pub fn unmark(&mut self, at: i64) -> Result<(), StackFault>
         ensures unmarked { OnOk result (self.new ≡ unmarked self.old at) }
-        ensures held { OnOk result (IsSome (word_at self.old at) × Any (λ m. pos m.at ≡ at) self.old.marks) }
+        ensures held { OnOk result (IsSome (word_at self.old at)
+            × Any (λ m. pos m.at ≡ at) self.old.marks) }
         ensures cause { IfErr result (λ fault. UnmarkCause fault self.old at) }
         ensures err { OnErr result (self.new ≡ self.old) }
     {

@@ -1,5 +1,6 @@
 -- What a worker has once a side has arrived and was merged, and once it has made the finish.
-use Rattle.std.proofs.Common.{◌≡◌, ℕ, ◌+◌, Bool, List, [], ◌∷◌, Option, cond, sym, ap, ◌∙◌, subst, eq-eqb}
+use Rattle.std.proofs.Common.{◌≡◌, ℕ, ◌+◌, Bool, List, [], ◌∷◌, Option, cond, sym, ap, ◌∙◌, subst}
+use Rattle.std.proofs.Common.{eq-eqb}
 use Rattle.std.specs.Prelude.{Result, Ok, Err, IfOk, MatchResult}
 use Rattle.tp_value.specs.declared.values.NoMemory.{NoMemory}
 use Rattle.tpal_syntax.specs.Listing.{Listing}

@@ -1,5 +1,6 @@
 -- What a worker has once a task of its own begins, or it has seen the finish made.
-use Rattle.std.proofs.Common.{◌≡◌, ℕ, Bool, true, false, ◌&&◌, ◌||◌, ◌==◌, eqb, List, [], ◌∷◌, ◌++◌, Option, None, refl, sym, ap, ◌∙◌, subst, arith}
+use Rattle.std.proofs.Common.{◌≡◌, ℕ, Bool, true, false, ◌&&◌, ◌||◌, ◌==◌, eqb, List, [], ◌∷◌, ◌++◌}
+use Rattle.std.proofs.Common.{Option, None, refl, sym, ap, ◌∙◌, subst, arith}
 use Rattle.std.proofs.lemmas.Bool.Decides.{nat_tests}
 use Rattle.tpal_machine.specs.declared.ends.End.{End}
 use Rattle.tpal_machine.specs.declared.ends.Ending.{Ending}
@@ -10,7 +11,8 @@ use Rattle.join_records.specs.declared.table.Taken.{Taken}
 use Rattle.join_records.specs.Views.{read, saw_finish}
 use Rattle.steal_pool.specs.declared.seat.Counts.{Counts}
 use Rattle.steal_pool.specs.Facts.{Owed}
-use Rattle.steal_pool.specs.Has.{Knows, number_in, HasCounts, HasNothing, HasSeen, HasHand, IsHeld, Rests, Runs}
+use Rattle.steal_pool.specs.Has.{Knows, number_in, HasCounts, HasNothing, HasSeen, HasHand, IsHeld}
+use Rattle.steal_pool.specs.Has.{Rests, Runs}
 use Rattle.steal_pool.specs.Terms.{Terms}
 use Rattle.steal_pool.proofs.Forking.{counts_stay}
 

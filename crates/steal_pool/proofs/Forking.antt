@@ -1,5 +1,7 @@
 -- What a worker has once its task has got its answer, and once it has opened its record.
-use Rattle.std.proofs.Common.{◌≡◌, ◌≢◌, ◌⊎◌, ℕ, ◌+◌, ◌*◌, ◌-◌, ◌^◌, ◌<◌, ◌≤◌, Bool, false, List, [], ◌∷◌, Option, None, Some, cond, refl, sym, ap, ◌∙◌, subst, inl, inr, arith, eq-eqb}
+use Rattle.std.proofs.Common.{◌≡◌, ◌≢◌, ◌⊎◌, ℕ, ◌+◌, ◌*◌, ◌-◌, ◌^◌, ◌<◌, ◌≤◌, Bool, false, List, []}
+use Rattle.std.proofs.Common.{◌∷◌, Option, None, Some, cond, refl, sym, ap, ◌∙◌, subst, inl, inr}
+use Rattle.std.proofs.Common.{arith, eq-eqb}
 use Rattle.tpal_machine.specs.declared.ends.End.{End}
 use Rattle.tpal_machine.specs.declared.ends.End.TheVariants as «end»
 use Rattle.tpal_machine.specs.declared.ends.Ending.{Ending}
@@ -24,7 +26,8 @@ use Rattle.join_records.specs.Passes.{taken_number}
 use Rattle.join_records.specs.Views.{drop_record, find, Holds, holds_end, opened_view, read}
 use Rattle.steal_pool.specs.declared.seat.Counts.{Counts}
 use Rattle.steal_pool.specs.Facts.{HasEnd, Owed}
-use Rattle.steal_pool.specs.Has.{Knows, number_in, count_in, Asks, Forks, IsHeld, HasHand, HasCounts, Paid, Runs, Stays}
+use Rattle.steal_pool.specs.Has.{Knows, number_in, count_in, Asks, Forks, IsHeld, HasHand}
+use Rattle.steal_pool.specs.Has.{HasCounts, Paid, Runs, Stays}
 use Rattle.steal_pool.specs.Terms.{Terms}
 
 -- something isn't nothing

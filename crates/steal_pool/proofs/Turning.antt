@@ -1,5 +1,6 @@
 -- What a turn leaves of what a worker has.
-use Rattle.std.proofs.Common.{◌≡◌, ℕ, ◌+◌, ◌*◌, ◌-◌, ◌^◌, ◌≤◌, true, false, Option, None, Some, refl, sym, ap, ◌∙◌, subst, arith}
+use Rattle.std.proofs.Common.{◌≡◌, ℕ, ◌+◌, ◌*◌, ◌-◌, ◌^◌, ◌≤◌, true, false, Option, None, Some}
+use Rattle.std.proofs.Common.{refl, sym, ap, ◌∙◌, subst, arith}
 use Rattle.std.specs.Prelude.{min}
 use Rattle.tpal_machine.specs.declared.ends.Ending.{Ending}
 use Rattle.tpal_machine.specs.declared.ends.Ending.TheVariants as ending
@@ -13,7 +14,8 @@ use Rattle.tpal_machine.specs.State.{State}
 use Rattle.join_records.specs.declared.table.Taken.{Taken}
 use Rattle.join_records.specs.Words.{bit}
 use Rattle.steal_pool.specs.declared.seat.Counts.{Counts}
-use Rattle.steal_pool.specs.Has.{Knows, number_in, IsHeld, HasHand, HasCounts, HasEnded, Runs, TurnFits}
+use Rattle.steal_pool.specs.Has.{Knows, number_in, IsHeld, HasHand, HasCounts, HasEnded, Runs}
+use Rattle.steal_pool.specs.Has.{TurnFits}
 use Rattle.steal_pool.specs.Terms.{Terms}
 use Rattle.steal_pool.proofs.Counting.{due_bits, paid_on}
 

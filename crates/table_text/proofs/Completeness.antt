@@ -1,12 +1,17 @@
 -- What is so is what the reader answers: it reads every text of tables, and finds every first fault.
-use Rattle.std.proofs.Common.{◌≡◌, ℕ, suc, ◌+◌, ◌-◌, ◌*◌, ◌<◌, true, cond, ℤ, List, [], ◌∷◌, ◌++◌, length, None, Some, Ok, Err, refl, sym, ap, ◌∙◌, subst, append_assoc, append-nil, zero-add, arith}
+use Rattle.std.proofs.Common.{◌≡◌, ℕ, suc, ◌+◌, ◌-◌, ◌*◌, ◌<◌, true, cond, ℤ, List, [], ◌∷◌, ◌++◌}
+use Rattle.std.proofs.Common.{length, None, Some, Ok, Err, refl, sym, ap, ◌∙◌, subst, append_assoc}
+use Rattle.std.proofs.Common.{append-nil, zero-add, arith}
 use Rattle.tp_value.specs.declared.values.Table.{Table}
 use Rattle.table_text.specs.declared.fault.TableFault.{TableFault}
 use Rattle.table_text.specs.declared.fault.TableFault.TheVariants.{Form}
 use Rattle.table_text.specs.Token.{Token, run_value, is_number, number_value, tokens_of}
 use Rattle.table_text.specs.Wanted.{Wanted, ANumber, misfit}
-use Rattle.table_text.specs.TablesText.{IsHead, IsTable, AreTables, no_table, table_more, Begun, at_table, at_name, at_rows, at_cols, at_number, IsUnfinished, TablesOf, FirstTableFault, at_token, at_end}
-use Rattle.table_text.specs.Reading.{Progress, Between, Opened, Named, Tall, Filling, filled, progress, wanted_at, read, ended, unless}
+use Rattle.table_text.specs.TablesText.{IsHead, IsTable, AreTables, no_table, table_more, Begun}
+use Rattle.table_text.specs.TablesText.{at_table, at_name, at_rows, at_cols, at_number}
+use Rattle.table_text.specs.TablesText.{IsUnfinished, TablesOf, FirstTableFault, at_token, at_end}
+use Rattle.table_text.specs.Reading.{Progress, Between, Opened, Named, Tall, Filling, filled}
+use Rattle.table_text.specs.Reading.{progress, wanted_at, read, ended, unless}
 use Rattle.table_text.proofs.Tokens.{and_left, and_right}
 use Rattle.table_text.proofs.Steps.{read-fits}
 use Rattle.table_text.proofs.Soundness.{values_of, are_numbers}

@@ -1,17 +1,22 @@
 -- The number at the front of a text.
-use Rattle.std.proofs.Common.{◌≡◌, ℕ, zero, suc, ◌+◌, ◌-◌, ◌^◌, ◌<◌, ◌≤◌, Bool, true, false, not, ◌&&◌, cond, eqb, take, inl, inr, nat_lt, Some, None, ℤ, min, List, [], ◌∷◌, ◌++◌, length, get_or, drop, slice_range, refl, sym, ap, ◌∙◌, subst, ⊎_elim, ◌⊎◌, append-nil, arith}
+use Rattle.std.proofs.Common.{◌≡◌, ℕ, zero, suc, ◌+◌, ◌-◌, ◌^◌, ◌<◌, ◌≤◌, Bool, true, false, not}
+use Rattle.std.proofs.Common.{◌&&◌, cond, eqb, take, inl, inr, nat_lt, Some, None, ℤ, min, List, []}
+use Rattle.std.proofs.Common.{◌∷◌, ◌++◌, length, get_or, drop, slice_range, refl, sym, ap, ◌∙◌}
+use Rattle.std.proofs.Common.{subst, ⊎_elim, ◌⊎◌, append-nil, arith}
 use Rattle.std.specs.List.{list_all}
 use Rattle.std.specs.Char.{is_ascii_digit}
 use Rattle.std.specs.Int.{from_bool}
 use Rattle.std.proofs.lemmas.Bool.Decides.{nat_tests}
 use Rattle.std.proofs.lemmas.List.{drop_more, length-drop, length-append}
 use Rattle.std.proofs.lemmas.Bool.{false≢true, cases_lt, le-ltb, lt-ltb, ltb-true}
-use Rattle.table_text.specs.Token.{Token, is_blank, is_token_byte, tokens_from, is_run, is_number, is_64_bits, signed_value, run_value, number_value, unsigned_part}
+use Rattle.table_text.specs.Token.{Token, is_blank, is_token_byte, tokens_from, is_run, is_number}
+use Rattle.table_text.specs.Token.{is_64_bits, signed_value, run_value, number_value, unsigned_part}
 use Rattle.table_text.specs.declared.word.TheConstants.{TOO_GREAT}
 use Rattle.table_text.specs.Wanted.{ANumber, misfit}
 use Rattle.table_text.specs.declared.fault.TableFault.TheVariants.{Form}
 use Rattle.table_text.specs.Reading.{tokens_at, TokenMisfits, TakesNumber}
-use Rattle.table_text.proofs.Tokens.{Stops, rest_stops, tokens_from-word, drop-range, length-range, and_left, and_right, no_blank}
+use Rattle.table_text.proofs.Tokens.{Stops, rest_stops, tokens_from-word, drop-range, length-range}
+use Rattle.table_text.proofs.Tokens.{and_left, and_right, no_blank}
 
 -- the bytes up to a blank, and those from there on
 abbrev pub word_of : List ℕ → List ℕ

@@ -1,5 +1,8 @@
 -- What the reader answers is so: the tables of the text, or its first fault.
-use Rattle.std.proofs.Common.{◌≡◌, ◌⊎◌, ⊎_elim, inl, inr, ℕ, zero, suc, ◌+◌, ◌*◌, Bool, true, false, ◌&&◌, cond, ℤ, List, [], ◌∷◌, ◌++◌, length, map, Option, None, Some, Result, Ok, Err, refl, sym, ap, ◌∙◌, subst, append_assoc, append-nil, arith}
+use Rattle.std.proofs.Common.{◌≡◌, ◌⊎◌, ⊎_elim, inl, inr, ℕ, zero, suc, ◌+◌, ◌*◌, Bool, true, false}
+use Rattle.std.proofs.Common.{◌&&◌, cond, ℤ, List, [], ◌∷◌, ◌++◌, length, map, Option, None, Some}
+use Rattle.std.proofs.Common.{Result, Ok, Err, refl, sym, ap, ◌∙◌, subst, append_assoc, append-nil}
+use Rattle.std.proofs.Common.{arith}
 use Rattle.std.specs.List.{list_all}
 use Rattle.std.proofs.lemmas.List.{map-append, length-append}
 use Rattle.std.proofs.lemmas.List.Folds.{list_all-append}
@@ -8,8 +11,11 @@ use Rattle.table_text.specs.declared.fault.TableFault.{TableFault}
 use Rattle.table_text.specs.declared.fault.TableFault.TheVariants.{Form}
 use Rattle.table_text.specs.Token.{Token, run_value, is_number, number_value, tokens_of}
 use Rattle.table_text.specs.Wanted.{ATable, AName, RowCount, ColCount, ANumber, misfit, Fits}
-use Rattle.table_text.specs.TablesText.{IsHead, AreTables, no_table, table_more, Begun, at_table, at_name, at_rows, at_cols, at_number, TablesOf, FirstTableFault, at_token, at_end}
-use Rattle.table_text.specs.Reading.{Progress, Between, Opened, Named, Tall, Filling, filled, progress, wanted_at, read, ended, unless}
+use Rattle.table_text.specs.TablesText.{IsHead, AreTables, no_table, table_more, Begun, at_table}
+use Rattle.table_text.specs.TablesText.{at_name, at_rows, at_cols, at_number, TablesOf}
+use Rattle.table_text.specs.TablesText.{FirstTableFault, at_token, at_end}
+use Rattle.table_text.specs.Reading.{Progress, Between, Opened, Named, Tall, Filling, filled}
+use Rattle.table_text.specs.Reading.{progress, wanted_at, read, ended, unless}
 
 abbrev pub values_of : List Token → List ℤ
 values_of numbers = map (λ number. number_value number.bytes) numbers

@@ -1,12 +1,15 @@
 -- One step of reading tokens.
-use Rattle.std.proofs.Common.{◌≡◌, ℕ, ◌*◌, suc, ℤ, Bool, true, false, cond, bytes_eq, codes, Option, List, [], ◌∷◌, ◌++◌, None, Some, Err, refl, sym, ap, ◌∙◌}
+use Rattle.std.proofs.Common.{◌≡◌, ℕ, ◌*◌, suc, ℤ, Bool, true, false, cond, bytes_eq, codes, Option}
+use Rattle.std.proofs.Common.{List, [], ◌∷◌, ◌++◌, None, Some, Err, refl, sym, ap, ◌∙◌}
 use Rattle.tp_value.specs.declared.values.Table.{Table}
 use Rattle.table_text.specs.declared.fault.TableFault.{TableFault}
 use Rattle.table_text.specs.declared.fault.TableFault.TheVariants.{Form, Cells, Repeated, NoMemory}
 use Rattle.table_text.specs.Token.{Token}
 use Rattle.table_text.specs.Wanted.{AName, misfit, is_known, cells_of, name_misfit, size_misfit}
 use Rattle.table_text.specs.TablesText.{IsUnfinished}
-use Rattle.table_text.specs.Reading.{Progress, Between, Opened, Named, Tall, Filling, filled, progress, wanted_at, read, unless, Takes, TakesNumber, TakesName, TakesSize, TokenMisfits, OnFault}
+use Rattle.table_text.specs.Reading.{Progress, Between, Opened, Named, Tall, Filling, filled}
+use Rattle.table_text.specs.Reading.{progress, wanted_at, read, unless, Takes, TakesNumber}
+use Rattle.table_text.specs.Reading.{TakesName, TakesSize, TokenMisfits, OnFault}
 
 -- a token that fits
 pub read-fits : (len : ℕ) (token : Token) (tokens : List Token) (at : Progress) → misfit (wanted_at at) token ≡ None →

@@ -1,7 +1,8 @@
 // Calculations on numbers of 64 bits. They wrap: a result is the whole-number one, brought into the
 // range modulo 2^64. None of them takes memory.
 
-ghost use Rattle.std.specs.Prelude.{◌≡◌, ℤ, pos, ◌+ℤ◌, ◌-ℤ◌, ◌*ℤ◌, int_div, int_rem, int_lt, int_le, not};
+ghost use Rattle.std.specs.Prelude.{◌≡◌, ℤ, pos, ◌+ℤ◌, ◌-ℤ◌, ◌*ℤ◌, int_div, int_rem, int_lt};
+ghost use Rattle.std.specs.Prelude.{int_le, not};
 ghost use Rattle.std.specs.Ordering.{int_eq};
 ghost use Rattle.std.specs.Option.{SomeIff};
 ghost use Rattle.tp_value.specs.Number.{wrapped, truth, IsDivisor};

@@ -1,5 +1,7 @@
 -- No line of a code text has within it the byte that ends lines, so the pieces of the text are its lines.
-use Rattle.std.proofs.Common.{◌≡◌, ℕ, zero, suc, ◌+◌, ◌/◌, ◌%◌, ◌<◌, Bool, true, false, cond, ◌&&◌, List, [], ◌∷◌, ◌++◌, length, get_or, pos, negsuc, refl, sym, ap, ◌∙◌, append_assoc, mod-lt, arith}
+use Rattle.std.proofs.Common.{◌≡◌, ℕ, zero, suc, ◌+◌, ◌/◌, ◌%◌, ◌<◌, Bool, true, false, cond, ◌&&◌}
+use Rattle.std.proofs.Common.{List, [], ◌∷◌, ◌++◌, length, get_or, pos, negsuc, refl, sym, ap, ◌∙◌}
+use Rattle.std.proofs.Common.{append_assoc, mod-lt, arith}
 use Rattle.std.specs.Prelude.{codes, not, ◌==◌}
 use Rattle.std.specs.List.{list_all, flat_map, join_by, onto_first, AllByRecursion}
 use Rattle.std.specs.Fmt.{decimal, digits, digits_onto, digit_glyph}
@@ -13,7 +15,12 @@ use Rattle.tpal_syntax.specs.declared.instructions.Value.TheVariants.{Reg, Int, 
 use Rattle.tpal_syntax.specs.declared.instructions.Alu.{Alu}
 use Rattle.tpal_syntax.specs.declared.instructions.Alu.TheVariants as alu
 use Rattle.tpal_syntax.specs.declared.instructions.Instr.{Instr}
-use Rattle.tpal_syntax.specs.declared.instructions.Instr.TheVariants.{Move, Calc, IfJump, Load, Store, Salloc, Sfree, PrmPush, PrmPop, PrmDrop, PrmEmpty, PrmSplit, JrAlloc, Fork, Fetch, Put, Rows, Cols, Make, Tick, Trap, Print, Emit}
+use Rattle.tpal_syntax.specs.declared.instructions.Instr.TheVariants.{Move, Calc, IfJump, Load}
+use Rattle.tpal_syntax.specs.declared.instructions.Instr.TheVariants.{Store, Salloc, Sfree, PrmPush}
+use Rattle.tpal_syntax.specs.declared.instructions.Instr.TheVariants.{PrmPop, PrmDrop, PrmEmpty}
+use Rattle.tpal_syntax.specs.declared.instructions.Instr.TheVariants.{PrmSplit, JrAlloc, Fork}
+use Rattle.tpal_syntax.specs.declared.instructions.Instr.TheVariants.{Fetch, Put, Rows, Cols, Make}
+use Rattle.tpal_syntax.specs.declared.instructions.Instr.TheVariants.{Tick, Trap, Print, Emit}
 use Rattle.tpal_syntax.specs.declared.instructions.Term.{Term}
 use Rattle.tpal_syntax.specs.declared.instructions.Term.TheVariants.{Jump, Halt, Join}
 use Rattle.tpal_syntax.specs.declared.notes.CutKind.{CutKind}
@@ -25,11 +32,14 @@ use Rattle.tpal_syntax.specs.declared.notes.Note.TheVariants as note
 use Rattle.tpal_syntax.specs.declared.blocks.CodeTable.{CodeTable}
 use Rattle.tpal_syntax.specs.declared.blocks.CodeTable.TheVariants.{Input, Made}
 use Rattle.tpal_syntax.specs.Parts.{is_word_byte, is_word}
-use Rattle.tpal_syntax.specs.Text.{line, value_text, alu_text, trap_text, instr_text, term_text, rename_text, carry_text, carries_text, policy_text, kind_text, note_text, header_text, table_line}
+use Rattle.tpal_syntax.specs.Text.{line, value_text, alu_text, trap_text, instr_text, term_text}
+use Rattle.tpal_syntax.specs.Text.{rename_text, carry_text, carries_text, policy_text, kind_text}
+use Rattle.tpal_syntax.specs.Text.{note_text, header_text, table_line}
 use Rattle.tpal_print.proofs.Pieces.{and_left, and_right}
 use Rattle.tpal_print.proofs.Unique.{word_rest}
 use Rattle.tpal_asm.specs.Lines.{pieces}
-use Rattle.tpal_asm.specs.Stages.{IsNewTable, Stage, Says, a_table, a_header, an_instr, an_end, Leads, stay, go_on}
+use Rattle.tpal_asm.specs.Stages.{IsNewTable, Stage, Says, a_table, a_header, an_instr, an_end}
+use Rattle.tpal_asm.specs.Stages.{Leads, stay, go_on}
 use Rattle.tpal_asm.specs.Labels.{Head, names_of}
 use Rattle.std.specs.Cmp.Derive.{both_true}
 

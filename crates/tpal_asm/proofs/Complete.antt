@@ -1,5 +1,7 @@
 -- The lines of a code's text lead to the code, so its text has no fault.
-use Rattle.std.proofs.Common.{◌≡◌, ℕ, zero, suc, ◌≤◌, ◌<◌, Bool, true, false, ◌&&◌, ◌||◌, List, [], ◌∷◌, ◌++◌, length, map, Result, Ok, Err, IfOk, IfErr, get_or, refl, sym, ap, subst, ◌∙◌, append_assoc, append-nil, length-append, arith}
+use Rattle.std.proofs.Common.{◌≡◌, ℕ, zero, suc, ◌≤◌, ◌<◌, Bool, true, false, ◌&&◌, ◌||◌, List, []}
+use Rattle.std.proofs.Common.{◌∷◌, ◌++◌, length, map, Result, Ok, Err, IfOk, IfErr, get_or, refl}
+use Rattle.std.proofs.Common.{sym, ap, subst, ◌∙◌, append_assoc, append-nil, length-append, arith}
 use Rattle.std.specs.Prelude.{MatchResult, codes, bytes_eq, slice_get}
 use Rattle.std.specs.List.{list_all, AllByRecursion, flat_map}
 use Rattle.std.proofs.lemmas.Bool.{ltb-true}
@@ -15,8 +17,10 @@ use Rattle.tpal_syntax.specs.declared.blocks.CodeTable.{CodeTable}
 use Rattle.tpal_syntax.specs.declared.blocks.CodeTable.TheVariants.{Input, Made}
 use Rattle.tpal_syntax.specs.Listing.{Listing}
 use Rattle.tpal_syntax.specs.Parts.{is_word, is_instr, is_term}
-use Rattle.tpal_syntax.specs.Conditions.{IsCode, IsBlock, IsNote, IsHandler, IsTarget, AreDistinct, AreInputs, input_names, block_names}
-use Rattle.tpal_syntax.specs.Text.{◌+++◌, CodeText, tables_text, block_text, text_of, header_text, instr_text, term_text, table_line}
+use Rattle.tpal_syntax.specs.Conditions.{IsCode, IsBlock, IsNote, IsHandler, IsTarget, AreDistinct}
+use Rattle.tpal_syntax.specs.Conditions.{AreInputs, input_names, block_names}
+use Rattle.tpal_syntax.specs.Text.{◌+++◌, CodeText, tables_text, block_text, text_of, header_text}
+use Rattle.tpal_syntax.specs.Text.{instr_text, term_text, table_line}
 use Rattle.tpal_print.proofs.Pieces.{and_left, and_right}
 use Rattle.tpal_print.proofs.Whole.{handler_below}
 use Rattle.tpal_print.proofs.Unique.{same_tables, same_blocks}
@@ -24,7 +28,9 @@ use Rattle.tpal_asm.specs.declared.fault.AsmFault.{AsmFault}
 use Rattle.tpal_asm.specs.declared.fault.AsmFault.TheVariants as faults
 use Rattle.tpal_asm.specs.Lines.{pieces}
 use Rattle.tpal_asm.specs.Labels.{Head, names_of}
-use Rattle.tpal_asm.specs.Stages.{AreHeads, is_among, IsNewTable, IsNoteOf, Stage, Outside, Inside, Says, a_table, a_header, an_instr, an_end, Leads, stay, go_on, IsNewName, IsWithin, IsWhole, first_stage}
+use Rattle.tpal_asm.specs.Stages.{AreHeads, is_among, IsNewTable, IsNoteOf, Stage, Outside, Inside}
+use Rattle.tpal_asm.specs.Stages.{Says, a_table, a_header, an_instr, an_end, Leads, stay, go_on}
+use Rattle.tpal_asm.specs.Stages.{IsNewName, IsWithin, IsWhole, first_stage}
 use Rattle.tpal_asm.specs.Faults.{FirstFault, at_line, at_end, OnFault}
 use Rattle.tpal_asm.proofs.Finding.{length-names}
 use Rattle.tpal_asm.proofs.Outside.{length-block_names}

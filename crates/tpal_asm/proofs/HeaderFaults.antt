@@ -14,7 +14,8 @@ use Rattle.tpal_asm.specs.Stages.{Outside}
 use Rattle.tpal_asm.specs.Faults.{IsWrong, OnWrong}
 use Rattle.tpal_asm.specs.Steps.{NoteUnfit}
 use Rattle.tpal_asm.proofs.InsideFaults.{Finds}
-use Rattle.tpal_asm.proofs.HeaderSteps.{ready_unformed, target_unformed, ready_unlabelled, target_unlabelled, ready_formed, target_formed}
+use Rattle.tpal_asm.proofs.HeaderSteps.{ready_unformed, target_unformed, ready_unlabelled}
+use Rattle.tpal_asm.proofs.HeaderSteps.{target_unlabelled, ready_formed, target_formed}
 
 module _ (heads : List Head) (tables : List CodeTable) (blocks : List Block) (few : length tables ≤ 16)
     (finds : Finds (place_of heads) (names_of heads) 4294967295) (line bytes : List ℕ) (line_is : line ≡ bytes ++ (10 ∷ [])) (no_table : after (codes "table t") line ≡ None)

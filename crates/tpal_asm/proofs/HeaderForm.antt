@@ -1,5 +1,7 @@
 -- The note that is read of a first line is as the grammar has it.
-use Rattle.std.proofs.Common.{◌≡◌, ℕ, zero, suc, ◌+◌, ◌-◌, ◌*◌, ◌≤◌, Bool, true, false, cond, eqb, leb, ltb, ◌&&◌, List, [], ◌∷◌, length, Option, Some, None, refl, sym, ap, subst, inl, inr, arith}
+use Rattle.std.proofs.Common.{◌≡◌, ℕ, zero, suc, ◌+◌, ◌-◌, ◌*◌, ◌≤◌, Bool, true, false, cond, eqb}
+use Rattle.std.proofs.Common.{leb, ltb, ◌&&◌, List, [], ◌∷◌, length, Option, Some, None, refl, sym}
+use Rattle.std.proofs.Common.{ap, subst, inl, inr, arith}
 use Rattle.std.specs.Prelude.{codes}
 use Rattle.std.specs.List.{list_all}
 use Rattle.std.proofs.lemmas.Bool.{leb-true, lt-ltb}
@@ -10,8 +12,12 @@ use Rattle.tpal_syntax.specs.declared.notes.Note.{Note}
 use Rattle.tpal_syntax.specs.declared.notes.Note.TheVariants as note
 use Rattle.tpal_syntax.specs.declared.notes.Target.{Target}
 use Rattle.tpal_syntax.specs.Parts.{is_register, is_carry}
-use Rattle.tpal_syntax.specs.Readers.{Reading, ◌>>=◌, after, branch, many, with_more, is_digit, no_digit, digits_at, number_at, word_at, register_at, table_at, rename_at, next_rename_at, renames_at, carry_at, next_carry_at, carries_at, policy_at, kind_at}
-use Rattle.tpal_asm.specs.Reading.{ended, cut_rest, target_rest, ready_rest, jtppt_rest, note_rest, header_rest}
+use Rattle.tpal_syntax.specs.Readers.{Reading, ◌>>=◌, after, branch, many, with_more, is_digit}
+use Rattle.tpal_syntax.specs.Readers.{no_digit, digits_at, number_at, word_at, register_at}
+use Rattle.tpal_syntax.specs.Readers.{table_at, rename_at, next_rename_at, renames_at, carry_at}
+use Rattle.tpal_syntax.specs.Readers.{next_carry_at, carries_at, policy_at, kind_at}
+use Rattle.tpal_asm.specs.Reading.{ended, cut_rest, target_rest, ready_rest, jtppt_rest, note_rest}
+use Rattle.tpal_asm.specs.Reading.{header_rest}
 use Rattle.tpal_asm.specs.Labels.{place_of}
 use Rattle.tpal_asm.specs.Stages.{IsNoteForm}
 use Rattle.tpal_asm.proofs.Sound.{bind, chosen, none_some, same, digit_case, zero_case, first_case}

@@ -1,5 +1,6 @@
 -- From a stage outside of blocks to the next by the first line of a block.
-use Rattle.std.proofs.Common.{◌≡◌, ℕ, zero, suc, ◌≤◌, ◌<◌, true, false, List, [], ◌∷◌, ◌++◌, length, Some, None, get_or, refl, sym, ap, subst, ◌∙◌, inl, inr, arith}
+use Rattle.std.proofs.Common.{◌≡◌, ℕ, zero, suc, ◌≤◌, ◌<◌, true, false, List, [], ◌∷◌, ◌++◌, length}
+use Rattle.std.proofs.Common.{Some, None, get_or, refl, sym, ap, subst, ◌∙◌, inl, inr, arith}
 use Rattle.std.specs.Prelude.{codes}
 use Rattle.std.specs.List.{list_all}
 use Rattle.std.proofs.lemmas.Bool.{lt-ltb, ltb-true, false≢true}
@@ -15,7 +16,8 @@ use Rattle.tpal_syntax.specs.Readers.{after}
 use Rattle.tpal_print.proofs.Reading.{relabel_note}
 use Rattle.tpal_asm.specs.Reading.{ended, header_rest}
 use Rattle.tpal_asm.specs.Labels.{Head, names_of, place_of, is_ready_name}
-use Rattle.tpal_asm.specs.Stages.{IsNoteOf, Stage, Outside, Inside, Says, a_header, IsNewName, IsWithin, is_among}
+use Rattle.tpal_asm.specs.Stages.{IsNoteOf, Stage, Outside, Inside, Says, a_header, IsNewName}
+use Rattle.tpal_asm.specs.Stages.{IsWithin, is_among}
 use Rattle.tpal_asm.specs.Faults.{IsFormed, IsLabelled, IsRight}
 use Rattle.tpal_asm.specs.Steps.{NoteFits}
 use Rattle.tpal_asm.proofs.Sound.{Stands}

@@ -1,5 +1,7 @@
 -- The names of the blocks of lines, one line after another.
-use Rattle.std.proofs.Common.{◌≡◌, ℕ, Bool, true, false, cond, ◌&&◌, List, [], ◌∷◌, ◌++◌, length, map, Option, Some, None, get_or, refl, sym, ap, subst, ◌∙◌, append_assoc, append-nil}
+use Rattle.std.proofs.Common.{◌≡◌, ℕ, Bool, true, false, cond, ◌&&◌, List, [], ◌∷◌, ◌++◌, length}
+use Rattle.std.proofs.Common.{map, Option, Some, None, get_or, refl, sym, ap, subst, ◌∙◌}
+use Rattle.std.proofs.Common.{append_assoc, append-nil}
 use Rattle.std.specs.Prelude.{codes}
 use Rattle.std.specs.List.{list_all}
 use Rattle.std.proofs.lemmas.List.{map-append}
@@ -16,7 +18,9 @@ use Rattle.tpal_syntax.specs.Readers.{word_at}
 use Rattle.tpal_print.proofs.Reading.{relabel_note}
 use Rattle.tpal_asm.specs.Reading.{ended, header_rest}
 use Rattle.tpal_asm.specs.Labels.{Head, names_of, place_of, with_head}
-use Rattle.tpal_asm.specs.Stages.{IsHead, AreHeads, no_line, new_head, known_head, no_head, is_among, Stage, Outside, Inside, Says, a_table, a_header, an_instr, an_end, Leads, stay, go_on, IsNewName, IsWithin}
+use Rattle.tpal_asm.specs.Stages.{IsHead, AreHeads, no_line, new_head, known_head, no_head}
+use Rattle.tpal_asm.specs.Stages.{is_among, Stage, Outside, Inside, Says, a_table, a_header}
+use Rattle.tpal_asm.specs.Stages.{an_instr, an_end, Leads, stay, go_on, IsNewName, IsWithin}
 use Rattle.tpal_asm.proofs.Sound.{OnName, Stands}
 use Rattle.tpal_asm.proofs.Outside.{note_of_form}
 use Rattle.tpal_asm.proofs.TableSteps.{no_header}

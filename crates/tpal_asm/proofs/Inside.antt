@@ -1,22 +1,34 @@
 -- Lines of a block that has begun.
-use Rattle.std.proofs.Common.{◌≡◌, ◌⊎◌, ℕ, zero, suc, ◌<◌, Bool, true, false, ltb, ◌&&◌, List, [], ◌∷◌, ◌++◌, length, refl, ap, ◌∙◌, inl, inr, length-append, arith}
+use Rattle.std.proofs.Common.{◌≡◌, ◌⊎◌, ℕ, zero, suc, ◌<◌, Bool, true, false, ltb, ◌&&◌, List, []}
+use Rattle.std.proofs.Common.{◌∷◌, ◌++◌, length, refl, ap, ◌∙◌, inl, inr, length-append, arith}
 use Rattle.std.specs.Prelude.{codes}
 use Rattle.std.specs.List.{list_all}
 use Rattle.std.proofs.lemmas.Bool.{lt-ltb, ltb-true}
 use Rattle.tpal_syntax.specs.declared.instructions.Value.{Value}
 use Rattle.tpal_syntax.specs.declared.instructions.Value.TheVariants.{Reg, Int, Label, Nil}
 use Rattle.tpal_syntax.specs.declared.instructions.Instr.{Instr}
-use Rattle.tpal_syntax.specs.declared.instructions.Instr.TheVariants.{Move, Calc, IfJump, Load, Store, Salloc, Sfree, PrmPush, PrmPop, PrmDrop, PrmEmpty, PrmSplit, JrAlloc, Fork, Fetch, Put, Rows, Cols, Make, Tick, Trap, Print, Emit}
+use Rattle.tpal_syntax.specs.declared.instructions.Instr.TheVariants.{Move, Calc, IfJump, Load}
+use Rattle.tpal_syntax.specs.declared.instructions.Instr.TheVariants.{Store, Salloc, Sfree, PrmPush}
+use Rattle.tpal_syntax.specs.declared.instructions.Instr.TheVariants.{PrmPop, PrmDrop, PrmEmpty}
+use Rattle.tpal_syntax.specs.declared.instructions.Instr.TheVariants.{PrmSplit, JrAlloc, Fork}
+use Rattle.tpal_syntax.specs.declared.instructions.Instr.TheVariants.{Fetch, Put, Rows, Cols, Make}
+use Rattle.tpal_syntax.specs.declared.instructions.Instr.TheVariants.{Tick, Trap, Print, Emit}
 use Rattle.tpal_syntax.specs.declared.instructions.Term.{Term}
 use Rattle.tpal_syntax.specs.declared.instructions.Term.TheVariants.{Jump, Halt, Join}
 use Rattle.tpal_syntax.specs.declared.notes.Note.{Note}
 use Rattle.tpal_syntax.specs.declared.blocks.Block.{Block}
 use Rattle.tpal_syntax.specs.declared.blocks.CodeTable.{CodeTable}
-use Rattle.tpal_syntax.specs.Parts.{is_word, is_register, is_offset, is_size, is_value, is_instr, is_term}
+use Rattle.tpal_syntax.specs.Parts.{is_word, is_register, is_offset, is_size, is_value, is_instr}
+use Rattle.tpal_syntax.specs.Parts.{is_term}
 use Rattle.tpal_syntax.specs.Text.{instr_text, term_text}
 use Rattle.tpal_print.proofs.Reading.{instr_at, term_at, relabel, relabel_value, relabel_term}
 use Rattle.tpal_print.proofs.Pieces.{Words, and_left, and_right}
-use Rattle.tpal_asm.specs.Reading.{if_jump_rest, store_rest, salloc_rest, sfree_rest, prmpush_rest, prmpop_rest, prmempty_rest, prmsplit_rest, fork_rest, put_rest, make_rest, trap_rest, print_rest, emit_rest, load_rest, jralloc_rest, fetch_rest, rows_rest, cols_rest, move_rest, assigned_rest, changed_rest, stack_rest, table_rest, other_rest, instr_rest, jump_rest, join_rest, term_rest}
+use Rattle.tpal_asm.specs.Reading.{if_jump_rest, store_rest, salloc_rest, sfree_rest, prmpush_rest}
+use Rattle.tpal_asm.specs.Reading.{prmpop_rest, prmempty_rest, prmsplit_rest, fork_rest, put_rest}
+use Rattle.tpal_asm.specs.Reading.{make_rest, trap_rest, print_rest, emit_rest, load_rest}
+use Rattle.tpal_asm.specs.Reading.{jralloc_rest, fetch_rest, rows_rest, cols_rest, move_rest}
+use Rattle.tpal_asm.specs.Reading.{assigned_rest, changed_rest, stack_rest, table_rest, other_rest}
+use Rattle.tpal_asm.specs.Reading.{instr_rest, jump_rest, join_rest, term_rest}
 use Rattle.tpal_asm.specs.Labels.{Head}
 use Rattle.tpal_asm.specs.Stages.{Stage, Inside, Says, an_instr, an_end, Outside}
 

@@ -1,5 +1,7 @@
 -- What a line of a block that has begun says, and what is wrong with it.
-use Rattle.std.proofs.Common.{◌≡◌, ℕ, zero, suc, ◌&&◌, ◌≤◌, ◌<◌, Bool, true, false, cond, eqb, ltb, List, [], ◌∷◌, ◌++◌, length, Option, Some, None, get_or, refl, sym, ap, subst, ◌∙◌, inl, inr, arith}
+use Rattle.std.proofs.Common.{◌≡◌, ℕ, zero, suc, ◌&&◌, ◌≤◌, ◌<◌, Bool, true, false, cond, eqb, ltb}
+use Rattle.std.proofs.Common.{List, [], ◌∷◌, ◌++◌, length, Option, Some, None, get_or, refl, sym}
+use Rattle.std.proofs.Common.{ap, subst, ◌∙◌, inl, inr, arith}
 use Rattle.std.specs.Prelude.{codes}
 use Rattle.std.specs.List.{list_all}
 use Rattle.std.proofs.lemmas.Bool.{ltb-true, eqb-true, false≢true}
@@ -18,7 +20,8 @@ use Rattle.tpal_asm.specs.Stages.{Stage, Outside, Inside, Says, an_instr, an_end
 use Rattle.tpal_asm.specs.Faults.{IsFormed, IsLabelled}
 use Rattle.tpal_asm.proofs.Sound.{OnName, Stands}
 use Rattle.tpal_asm.proofs.Said.{SaidInstr, SaidTerm, instr-said, term-said}
-use Rattle.tpal_asm.proofs.Inside.{instr-same, term-same, end_is, instr_again, term_again, words-all, inside_says}
+use Rattle.tpal_asm.proofs.Inside.{instr-same, term-same, end_is, instr_again, term_again}
+use Rattle.tpal_asm.proofs.Inside.{words-all, inside_says}
 
 -- Each name's label is below `most`. Where it is below the number of names it is the name's own, and each of the names has one.
 pub record Finds (f : List ℕ → ℕ) (names : List (List ℕ)) (most : ℕ) : Type 0 where

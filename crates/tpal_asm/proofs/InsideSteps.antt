@@ -1,5 +1,6 @@
 -- From a stage inside a block to the next.
-use Rattle.std.proofs.Common.{◌≡◌, ℕ, ◌≤◌, true, List, [], ◌∷◌, ◌++◌, length, Some, None, Result, Ok, Err, IfOk, IfErr, sym, subst, ◌∙◌}
+use Rattle.std.proofs.Common.{◌≡◌, ℕ, ◌≤◌, true, List, [], ◌∷◌, ◌++◌, length, Some, None, Result}
+use Rattle.std.proofs.Common.{Ok, Err, IfOk, IfErr, sym, subst, ◌∙◌}
 use Rattle.std.specs.Prelude.{codes}
 use Rattle.tpal_syntax.specs.declared.instructions.Instr.{Instr}
 use Rattle.tpal_syntax.specs.declared.instructions.Term.{Term}
@@ -18,7 +19,9 @@ use Rattle.tpal_asm.specs.Stages.{Stage, Outside, Inside, Says, an_instr, an_end
 use Rattle.tpal_asm.specs.Faults.{IsWrong, OnWrong}
 use Rattle.tpal_asm.specs.Steps.{seen, Unfit}
 use Rattle.tpal_asm.proofs.Sound.{after-sound}
-use Rattle.tpal_asm.proofs.InsideFaults.{Finds, neither, instr_right, instr_formed, instr_unformed, instr_unlabelled, term_right, term_formed, term_unformed, term_unlabelled}
+use Rattle.tpal_asm.proofs.InsideFaults.{Finds, neither, instr_right, instr_formed, instr_unformed}
+use Rattle.tpal_asm.proofs.InsideFaults.{instr_unlabelled, term_right, term_formed, term_unformed}
+use Rattle.tpal_asm.proofs.InsideFaults.{term_unlabelled}
 
 module _ (heads : List Head) (tables : List CodeTable) (blocks : List Block) (name : List ℕ) (x : Note) (body : List Instr) (f : List ℕ → ℕ)
     (finds : Finds f (names_of heads) 4294967295) (few : length tables ≤ 16) (line us : List ℕ) (behind : after (codes "  ") line ≡ Some us) where

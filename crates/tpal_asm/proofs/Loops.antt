@@ -1,5 +1,7 @@
 -- What the loops over the lines of a text keep.
-use Rattle.std.proofs.Common.{◌≡◌, ℕ, ◌+◌, ◌≤◌, Bool, true, false, cond, List, [], ◌∷◌, ◌++◌, length, Option, Some, None, Result, Ok, Err, IfOk, IfErr, refl, sym, ap, subst, ◌∙◌, append_assoc, length-append, arith}
+use Rattle.std.proofs.Common.{◌≡◌, ℕ, ◌+◌, ◌≤◌, Bool, true, false, cond, List, [], ◌∷◌, ◌++◌}
+use Rattle.std.proofs.Common.{length, Option, Some, None, Result, Ok, Err, IfOk, IfErr, refl, sym}
+use Rattle.std.proofs.Common.{ap, subst, ◌∙◌, append_assoc, length-append, arith}
 use Rattle.std.specs.List.{list_all, onto_first}
 use Rattle.std.specs.Prelude.{◌==◌}
 use Rattle.tpal_syntax.specs.declared.notes.Note.{Note}
@@ -16,10 +18,12 @@ use Rattle.tpal_asm.specs.declared.stages.Begun.{Begun}
 use Rattle.tpal_asm.specs.Reading.{ended, header_rest}
 use Rattle.tpal_asm.specs.Lines.{pieces}
 use Rattle.tpal_asm.specs.Labels.{Head, names_of, place_of}
-use Rattle.tpal_asm.specs.Stages.{AreHeads, is_among, Stage, Outside, Says, Leads, stay, go_on, IsNewName, IsWithin, IsWhole, first_stage}
+use Rattle.tpal_asm.specs.Stages.{AreHeads, is_among, Stage, Outside, Says, Leads, stay, go_on}
+use Rattle.tpal_asm.specs.Stages.{IsNewName, IsWithin, IsWhole, first_stage}
 use Rattle.tpal_asm.specs.Faults.{FirstFault, at_line, at_end, IsWrong, OnWrong, OnFault, fault_at}
 use Rattle.tpal_asm.specs.Steps.{seen_with}
-use Rattle.tpal_asm.proofs.Heads.{read_line, read_head, with_read, heads_after, are-heads, heads-append, blocks-front, blocks_of}
+use Rattle.tpal_asm.proofs.Heads.{read_line, read_head, with_read, heads_after, are-heads}
+use Rattle.tpal_asm.proofs.Heads.{heads-append, blocks-front, blocks_of}
 use Rattle.tpal_asm.proofs.Sofar.{leads-code, leads-spelled}
 
 -- ---- pieces

@@ -1,5 +1,6 @@
 -- Each note of the grammar is read from its text, whether or not it breaks a condition.
-use Rattle.std.proofs.Common.{◌≡◌, ℕ, ◌≤◌, List, [], ◌∷◌, ◌++◌, length, Some, get_or, refl, ap, ◌∙◌, append_assoc, length-append, arith}
+use Rattle.std.proofs.Common.{◌≡◌, ℕ, ◌≤◌, List, [], ◌∷◌, ◌++◌, length, Some, get_or, refl, ap, ◌∙◌}
+use Rattle.std.proofs.Common.{append_assoc, length-append, arith}
 use Rattle.std.specs.Prelude.{codes}
 use Rattle.std.specs.List.{flat_map, join_by}
 use Rattle.std.proofs.lemmas.List.Concat.{flat_map-cons}
@@ -8,7 +9,8 @@ use Rattle.tpal_syntax.specs.declared.notes.CarryAt.{CarryAt}
 use Rattle.tpal_syntax.specs.declared.notes.CarryAt.TheVariants as carry
 use Rattle.tpal_syntax.specs.declared.notes.Note.{Note}
 use Rattle.tpal_syntax.specs.declared.notes.Note.TheVariants as note
-use Rattle.tpal_syntax.specs.Text.{rename_text, carry_text, carries_text, policy_text, kind_text, note_text}
+use Rattle.tpal_syntax.specs.Text.{rename_text, carry_text, carries_text, policy_text, kind_text}
+use Rattle.tpal_syntax.specs.Text.{note_text}
 use Rattle.tpal_syntax.specs.Readers.{word_at, renames_at}
 use Rattle.tpal_print.proofs.Reading.{relabel_note}
 use Rattle.tpal_print.proofs.Pieces.{Words, word_comes}

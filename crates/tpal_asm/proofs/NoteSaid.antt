@@ -1,5 +1,6 @@
 -- What is read of a note, of the first line of a block and of a table's line is what stands there.
-use Rattle.std.proofs.Common.{◌≡◌, ℕ, zero, suc, Bool, true, false, ltb, List, [], ◌∷◌, ◌++◌, Option, Some, None, get_or, refl, sym, ap, subst, ◌∙◌, inl, inr}
+use Rattle.std.proofs.Common.{◌≡◌, ℕ, zero, suc, Bool, true, false, ltb, List, [], ◌∷◌, ◌++◌}
+use Rattle.std.proofs.Common.{Option, Some, None, get_or, refl, sym, ap, subst, ◌∙◌, inl, inr}
 use Rattle.std.specs.Prelude.{codes}
 use Rattle.std.specs.List.{flat_map, join_by}
 use Rattle.std.proofs.lemmas.List.Concat.{flat_map-cons}
@@ -10,10 +11,15 @@ use Rattle.tpal_syntax.specs.declared.notes.CarryAt.TheVariants as carry
 use Rattle.tpal_syntax.specs.declared.notes.Note.{Note}
 use Rattle.tpal_syntax.specs.declared.notes.Note.TheVariants as note
 use Rattle.tpal_syntax.specs.declared.notes.Target.{Target}
-use Rattle.tpal_syntax.specs.Text.{register_text, table_text, rename_text, carry_text, carries_text, policy_text, kind_text, target_text, note_text}
-use Rattle.tpal_syntax.specs.Readers.{Reading, ◌>>=◌, after, branch, many, with_more, register_at, word_at, rename_at, next_rename_at, renames_at, carry_at, next_carry_at, carries_at, policy_at, kind_at}
-use Rattle.tpal_asm.proofs.Sound.{bind, chosen, none_some, after-sound, word-sound, register-sound, table-sound, join2, join3, join5, join6, Named, same}
-use Rattle.tpal_asm.specs.Reading.{cut_rest, target_rest, ready_rest, jtppt_rest, note_rest, made_target}
+use Rattle.tpal_syntax.specs.Text.{register_text, table_text, rename_text, carry_text, carries_text}
+use Rattle.tpal_syntax.specs.Text.{policy_text, kind_text, target_text, note_text}
+use Rattle.tpal_syntax.specs.Readers.{Reading, ◌>>=◌, after, branch, many, with_more, register_at}
+use Rattle.tpal_syntax.specs.Readers.{word_at, rename_at, next_rename_at, renames_at, carry_at}
+use Rattle.tpal_syntax.specs.Readers.{next_carry_at, carries_at, policy_at, kind_at}
+use Rattle.tpal_asm.proofs.Sound.{bind, chosen, none_some, after-sound, word-sound, register-sound}
+use Rattle.tpal_asm.proofs.Sound.{table-sound, join2, join3, join5, join6, Named, same}
+use Rattle.tpal_asm.specs.Reading.{cut_rest, target_rest, ready_rest, jtppt_rest, note_rest}
+use Rattle.tpal_asm.specs.Reading.{made_target}
 
 -- ---- lists
 

@@ -1,5 +1,6 @@
 -- A text has at most one first fault.
-use Rattle.std.proofs.Common.{◌≡◌, ◌⊎◌, ℕ, ◌+◌, Bool, true, ◌&&◌, List, [], ◌∷◌, ◌++◌, length, refl, sym, ap, subst, ◌∙◌, inl, inr, arith}
+use Rattle.std.proofs.Common.{◌≡◌, ◌⊎◌, ℕ, ◌+◌, Bool, true, ◌&&◌, List, [], ◌∷◌, ◌++◌, length, refl}
+use Rattle.std.proofs.Common.{sym, ap, subst, ◌∙◌, inl, inr, arith}
 use Rattle.std.specs.List.{list_all}
 use Rattle.std.proofs.lemmas.List.{map-append}
 use Rattle.std.proofs.lemmas.List.Folds.{list_all-append}
@@ -10,8 +11,10 @@ use Rattle.tpal_asm.specs.declared.fault.AsmFault.TheVariants as faults
 use Rattle.tpal_asm.specs.declared.fault.Wrong.{Wrong}
 use Rattle.tpal_asm.specs.declared.fault.Wrong.TheVariants as wrongs
 use Rattle.tpal_asm.specs.Labels.{Head, names_of}
-use Rattle.tpal_asm.specs.Stages.{AreHeads, no_line, new_head, known_head, no_head, Stage, Says, Leads, stay, go_on, IsNewName, IsWithin, first_stage}
-use Rattle.tpal_asm.specs.Faults.{IsFormed, IsLabelled, IsWrong, FirstFault, at_line, at_end, fault_at}
+use Rattle.tpal_asm.specs.Stages.{AreHeads, no_line, new_head, known_head, no_head, Stage, Says}
+use Rattle.tpal_asm.specs.Stages.{Leads, stay, go_on, IsNewName, IsWithin, first_stage}
+use Rattle.tpal_asm.specs.Faults.{IsFormed, IsLabelled, IsWrong, FirstFault, at_line, at_end}
+use Rattle.tpal_asm.specs.Faults.{fault_at}
 use Rattle.tpal_asm.proofs.Sofar.{distinct-snoc}
 use Rattle.tpal_asm.proofs.Certain.{says-once}
 use Rattle.tpal_asm.proofs.Heads.{heads-are}

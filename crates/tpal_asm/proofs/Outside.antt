@@ -1,5 +1,7 @@
 -- Lines behind tables alone or behind a whole block.
-use Rattle.std.proofs.Common.{◌≡◌, ◌⊎◌, ℕ, suc, ◌+◌, ◌≤◌, Bool, true, false, cond, ltb, eqb, ◌&&◌, ◌||◌, List, [], ◌∷◌, ◌++◌, length, Some, None, refl, sym, ap, ◌∙◌, inl, inr, arith}
+use Rattle.std.proofs.Common.{◌≡◌, ◌⊎◌, ℕ, suc, ◌+◌, ◌≤◌, Bool, true, false, cond, ltb, eqb, ◌&&◌}
+use Rattle.std.proofs.Common.{◌||◌, List, [], ◌∷◌, ◌++◌, length, Some, None, refl, sym, ap, ◌∙◌}
+use Rattle.std.proofs.Common.{inl, inr, arith}
 use Rattle.std.specs.Prelude.{codes, not, bytes_eq}
 use Rattle.std.specs.List.{list_all, list_any, position_or_len}
 use Rattle.std.proofs.lemmas.Bool.{lt-ltb, ltb-true}
@@ -17,7 +19,8 @@ use Rattle.tpal_syntax.specs.Text.{table_line, header_text}
 use Rattle.tpal_syntax.specs.Readers.{after}
 use Rattle.tpal_print.proofs.Pieces.{and_left, and_right}
 use Rattle.tpal_asm.specs.Labels.{Head, names_of, place_of}
-use Rattle.tpal_asm.specs.Stages.{IsNoteForm, IsNoteOf, IsNewTable, Stage, Outside, Inside, Says, a_table, a_header, is_among}
+use Rattle.tpal_asm.specs.Stages.{IsNoteForm, IsNoteOf, IsNewTable, Stage, Outside, Inside, Says}
+use Rattle.tpal_asm.specs.Stages.{a_table, a_header, is_among}
 
 -- what a line outside of blocks says
 pub outside_says : {heads : List Head} {names : List (List ℕ)} {tables : List CodeTable} {blocks : List Block} {bytes : List ℕ} {next : Stage}

@@ -1,5 +1,6 @@
 -- From a stage outside of blocks to the next by a line that begins as that of a table.
-use Rattle.std.proofs.Common.{◌≡◌, ℕ, ◌≤◌, ◌<◌, List, [], ◌∷◌, ◌++◌, length, Some, Result, Ok, Err, IfOk, IfErr, sym, ap, subst, ◌∙◌, inl, inr}
+use Rattle.std.proofs.Common.{◌≡◌, ℕ, ◌≤◌, ◌<◌, List, [], ◌∷◌, ◌++◌, length, Some, Result, Ok, Err}
+use Rattle.std.proofs.Common.{IfOk, IfErr, sym, ap, subst, ◌∙◌, inl, inr}
 use Rattle.std.specs.Prelude.{codes}
 use Rattle.tpal_syntax.specs.declared.blocks.Block.{Block}
 use Rattle.tpal_syntax.specs.declared.blocks.CodeTable.{CodeTable}
@@ -14,7 +15,8 @@ use Rattle.tpal_asm.specs.Faults.{IsWrong, OnWrong, IsFormed}
 use Rattle.tpal_asm.specs.Steps.{seen, IsUnrepeated, TableUnfit}
 use Rattle.tpal_asm.proofs.Sound.{after-sound}
 use Rattle.tpal_asm.proofs.Outside.{outside_says}
-use Rattle.tpal_asm.proofs.TableSteps.{no_header, table_right, table_unformed, table_labelled, table_many}
+use Rattle.tpal_asm.proofs.TableSteps.{no_header, table_right, table_unformed, table_labelled}
+use Rattle.tpal_asm.proofs.TableSteps.{table_many}
 
 -- what a line behind tables and these blocks says, where the call goes well
 abbrev pub Goes : List Head → List CodeTable → List ℕ → List Block → Result code.Stage Wrong → Type 0

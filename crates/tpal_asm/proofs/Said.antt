@@ -1,5 +1,6 @@
 -- What is read of a line is what stands there.
-use Rattle.std.proofs.Common.{◌≡◌, ℕ, zero, suc, true, ltb, ◌&&◌, List, [], ◌∷◌, ◌++◌, Option, Some, None, get_or, pos, negsuc, refl, sym, ap, subst, ◌∙◌, inl, inr, arith}
+use Rattle.std.proofs.Common.{◌≡◌, ℕ, zero, suc, true, ltb, ◌&&◌, List, [], ◌∷◌, ◌++◌, Option, Some}
+use Rattle.std.proofs.Common.{None, get_or, pos, negsuc, refl, sym, ap, subst, ◌∙◌, inl, inr, arith}
 use Rattle.std.specs.Prelude.{codes}
 use Rattle.std.specs.Fmt.{decimal}
 use Rattle.tp_value.specs.declared.values.Place.{Place}
@@ -10,15 +11,30 @@ use Rattle.tpal_syntax.specs.declared.instructions.Value.TheVariants.{Reg, Int, 
 use Rattle.tpal_syntax.specs.declared.instructions.Alu.{Alu}
 use Rattle.tpal_syntax.specs.declared.instructions.Alu.TheVariants as alu
 use Rattle.tpal_syntax.specs.declared.instructions.Instr.{Instr}
-use Rattle.tpal_syntax.specs.declared.instructions.Instr.TheVariants.{Move, Load, Salloc, Sfree, PrmPop, PrmDrop, PrmEmpty, PrmSplit, Fetch, Put, Rows, Cols, Make, Tick, Trap, Print, Emit}
+use Rattle.tpal_syntax.specs.declared.instructions.Instr.TheVariants.{Move, Load, Salloc, Sfree}
+use Rattle.tpal_syntax.specs.declared.instructions.Instr.TheVariants.{PrmPop, PrmDrop, PrmEmpty}
+use Rattle.tpal_syntax.specs.declared.instructions.Instr.TheVariants.{PrmSplit, Fetch, Put, Rows}
+use Rattle.tpal_syntax.specs.declared.instructions.Instr.TheVariants.{Cols, Make, Tick, Trap, Print}
+use Rattle.tpal_syntax.specs.declared.instructions.Instr.TheVariants.{Emit}
 use Rattle.tpal_syntax.specs.declared.instructions.Term.{Term}
 use Rattle.tpal_syntax.specs.declared.instructions.Term.TheVariants.{Halt, Join}
-use Rattle.tpal_syntax.specs.Parts.{is_word, is_register, is_offset, is_size, is_value, is_instr, is_term}
-use Rattle.tpal_syntax.specs.Text.{register_text, table_text, cell_text, place_text, alu_text, trap_text, value_text, instr_text, term_text}
-use Rattle.tpal_syntax.specs.Readers.{◌>>=◌, after, branch, negative, number_at, word_at, label_at, cell_at, place_at, alu_at, trap_at, value_at}
+use Rattle.tpal_syntax.specs.Parts.{is_word, is_register, is_offset, is_size, is_value, is_instr}
+use Rattle.tpal_syntax.specs.Parts.{is_term}
+use Rattle.tpal_syntax.specs.Text.{register_text, table_text, cell_text, place_text, alu_text}
+use Rattle.tpal_syntax.specs.Text.{trap_text, value_text, instr_text, term_text}
+use Rattle.tpal_syntax.specs.Readers.{◌>>=◌, after, branch, negative, number_at, word_at, label_at}
+use Rattle.tpal_syntax.specs.Readers.{cell_at, place_at, alu_at, trap_at, value_at}
 use Rattle.tpal_print.proofs.Pieces.{and_right}
-use Rattle.tpal_asm.proofs.Sound.{bind, chosen, after-sound, number-sound, word-sound, register-sound, join2, join3, join4, join5, join7, join8, none_some, table-sound, size-sound, Stands, Named, same}
-use Rattle.tpal_asm.specs.Reading.{if_jump_rest, store_rest, salloc_rest, sfree_rest, prmpush_rest, prmpop_rest, prmempty_rest, prmsplit_rest, fork_rest, put_rest, make_rest, trap_rest, print_rest, emit_rest, load_rest, jralloc_rest, fetch_rest, rows_rest, cols_rest, name_rest, calc_rest, source_rest, move_rest, assigned_rest, changed_rest, stack_rest, table_rest, other_rest, instr_rest, jump_rest, join_rest, term_rest}
+use Rattle.tpal_asm.proofs.Sound.{bind, chosen, after-sound, number-sound, word-sound}
+use Rattle.tpal_asm.proofs.Sound.{register-sound, join2, join3, join4, join5, join7, join8}
+use Rattle.tpal_asm.proofs.Sound.{none_some, table-sound, size-sound, Stands, Named, same}
+use Rattle.tpal_asm.specs.Reading.{if_jump_rest, store_rest, salloc_rest, sfree_rest, prmpush_rest}
+use Rattle.tpal_asm.specs.Reading.{prmpop_rest, prmempty_rest, prmsplit_rest, fork_rest, put_rest}
+use Rattle.tpal_asm.specs.Reading.{make_rest, trap_rest, print_rest, emit_rest, load_rest}
+use Rattle.tpal_asm.specs.Reading.{jralloc_rest, fetch_rest, rows_rest, cols_rest, name_rest}
+use Rattle.tpal_asm.specs.Reading.{calc_rest, source_rest, move_rest, assigned_rest, changed_rest}
+use Rattle.tpal_asm.specs.Reading.{stack_rest, table_rest, other_rest, instr_rest, jump_rest}
+use Rattle.tpal_asm.specs.Reading.{join_rest, term_rest}
 
 abbrev pub SaidValue : (List ℕ → ℕ) → List ℕ → Value × List ℕ → Type 0
 SaidValue f ts r = Named f (λ names. value_text names r.0) (λ blocks. is_value blocks r.0) ts r.1

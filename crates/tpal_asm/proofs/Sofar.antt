@@ -1,5 +1,7 @@
 -- What holds of the tables and blocks that lines say, and of the text.
-use Rattle.std.proofs.Common.{◌≡◌, ℕ, zero, suc, ◌+◌, ◌≤◌, ◌<◌, Bool, true, false, ◌&&◌, ◌||◌, List, [], ◌∷◌, ◌++◌, length, map, get_or, refl, sym, ap, subst, ◌∙◌, append_assoc, append-nil, length-append, inl, inr, arith}
+use Rattle.std.proofs.Common.{◌≡◌, ℕ, zero, suc, ◌+◌, ◌≤◌, ◌<◌, Bool, true, false, ◌&&◌, ◌||◌, List}
+use Rattle.std.proofs.Common.{[], ◌∷◌, ◌++◌, length, map, get_or, refl, sym, ap, subst, ◌∙◌}
+use Rattle.std.proofs.Common.{append_assoc, append-nil, length-append, inl, inr, arith}
 use Rattle.std.specs.Prelude.{bytes_eq, slice_get}
 use Rattle.std.specs.List.{list_all, AllByRecursion, flat_map, join_with_byte}
 use Rattle.std.proofs.lemmas.Bool.{cases_lt, false≢true}
@@ -17,12 +19,15 @@ use Rattle.tpal_syntax.specs.declared.blocks.Block.{Block}
 use Rattle.tpal_syntax.specs.declared.blocks.CodeTable.{CodeTable}
 use Rattle.tpal_syntax.specs.declared.blocks.CodeTable.TheVariants.{Input, Made}
 use Rattle.tpal_syntax.specs.Parts.{is_word, is_instr, is_term}
-use Rattle.tpal_syntax.specs.Conditions.{IsCode, IsBlock, IsNote, IsHandler, IsTarget, AreDistinct, AreInputs, input_names, block_names}
+use Rattle.tpal_syntax.specs.Conditions.{IsCode, IsBlock, IsNote, IsHandler, IsTarget, AreDistinct}
+use Rattle.tpal_syntax.specs.Conditions.{AreInputs, input_names, block_names}
 use Rattle.tpal_syntax.specs.Text.{line, table_line, tables_text, header_text, block_text, text_of}
 use Rattle.tpal_print.proofs.Whole.{instr_line, term_line}
 use Rattle.tpal_asm.specs.Lines.{pieces}
 use Rattle.tpal_asm.specs.Labels.{Head, names_of, place_of}
-use Rattle.tpal_asm.specs.Stages.{AreHeads, is_among, IsNewTable, IsNoteOf, Stage, Outside, Inside, Says, a_table, a_header, an_instr, an_end, Leads, stay, go_on, IsNewName, IsWithin}
+use Rattle.tpal_asm.specs.Stages.{AreHeads, is_among, IsNewTable, IsNoteOf, Stage, Outside, Inside}
+use Rattle.tpal_asm.specs.Stages.{Says, a_table, a_header, an_instr, an_end, Leads, stay, go_on}
+use Rattle.tpal_asm.specs.Stages.{IsNewName, IsWithin}
 use Rattle.tpal_asm.proofs.Finding.{place-known, place-right, length-names}
 use Rattle.tpal_asm.proofs.Outside.{length-block_names}
 use Rattle.tpal_asm.proofs.Heads.{heads-are, leads-heads, block_head, names-heads}

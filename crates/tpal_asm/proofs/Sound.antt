@@ -1,5 +1,7 @@
 -- What is read from the front of a text stands there, spelled in the one way.
-use Rattle.std.proofs.Common.{◌≡◌, ◌≢◌, ◌⊎◌, ℕ, ◌+◌, ◌-◌, ◌*◌, ◌/◌, ◌%◌, ◌^◌, ◌<◌, ◌≤◌, Bool, true, false, cond, eqb, leb, ltb, ◌&&◌, List, [], ◌∷◌, ◌++◌, Option, Some, None, get_or, refl, sym, ap, ◌∙◌, inl, inr, append_assoc, arith}
+use Rattle.std.proofs.Common.{◌≡◌, ◌≢◌, ◌⊎◌, ℕ, ◌+◌, ◌-◌, ◌*◌, ◌/◌, ◌%◌, ◌^◌, ◌<◌, ◌≤◌, Bool, true}
+use Rattle.std.proofs.Common.{false, cond, eqb, leb, ltb, ◌&&◌, List, [], ◌∷◌, ◌++◌, Option, Some}
+use Rattle.std.proofs.Common.{None, get_or, refl, sym, ap, ◌∙◌, inl, inr, append_assoc, arith}
 use Rattle.std.specs.Prelude.{codes}
 use Rattle.std.specs.List.{list_all}
 use Rattle.std.specs.Fmt.{decimal}
@@ -8,7 +10,8 @@ use Rattle.std.proofs.lemmas.Bool.{eqb-true, leb-true}
 use Rattle.std.proofs.lemmas.Bool.Decides.{nat_tests}
 use Rattle.tpal_syntax.specs.Parts.{is_letter, is_word_byte, is_word}
 use Rattle.tpal_syntax.specs.Text.{register_text, table_text}
-use Rattle.tpal_syntax.specs.Readers.{◌>>=◌, after, branch, is_digit, no_digit, digits_at, number_at, word_bytes, word_at, register_at, table_at}
+use Rattle.tpal_syntax.specs.Readers.{◌>>=◌, after, branch, is_digit, no_digit, digits_at}
+use Rattle.tpal_syntax.specs.Readers.{number_at, word_bytes, word_at, register_at, table_at}
 use Rattle.tpal_print.proofs.Pieces.{and_left, and_right}
 
 -- ---- steps of a reading

@@ -1,5 +1,6 @@
 -- The line of a table is read exactly.
-use Rattle.std.proofs.Common.{◌≡◌, ℕ, ◌≤◌, true, List, [], ◌∷◌, ◌++◌, Some, refl, ap, subst, ◌∙◌, inl, inr, append_assoc, arith}
+use Rattle.std.proofs.Common.{◌≡◌, ℕ, ◌≤◌, true, List, [], ◌∷◌, ◌++◌, Some, refl, ap, subst, ◌∙◌}
+use Rattle.std.proofs.Common.{inl, inr, append_assoc, arith}
 use Rattle.std.specs.Prelude.{codes}
 use Rattle.std.specs.Fmt.{decimal}
 use Rattle.tpal_syntax.specs.declared.blocks.CodeTable.{CodeTable}
@@ -9,7 +10,8 @@ use Rattle.tpal_syntax.specs.Text.{table_line}
 use Rattle.tpal_syntax.specs.Readers.{◌>>=◌, after, word_at}
 use Rattle.tpal_print.proofs.Pieces.{number_comes, word_comes}
 use Rattle.tpal_asm.specs.Reading.{ended, table_line_rest}
-use Rattle.tpal_asm.proofs.Sound.{bind, chosen, after-sound, number-sound, word-sound, join3, join4, same}
+use Rattle.tpal_asm.proofs.Sound.{bind, chosen, after-sound, number-sound, word-sound, join3, join4}
+use Rattle.tpal_asm.proofs.Sound.{same}
 use Rattle.tpal_asm.proofs.Inside.{end_is}
 use Rattle.tpal_asm.proofs.InsideFaults.{ended_is}
 

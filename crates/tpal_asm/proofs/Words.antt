@@ -1,5 +1,6 @@
 -- Words at the front of a text.
-use Rattle.std.proofs.Common.{◌≡◌, ℕ, zero, suc, ◌<◌, ◌≤◌, Bool, true, false, cond, List, [], ◌∷◌, length, get_or, take, drop, refl, ap, ◌∙◌, arith}
+use Rattle.std.proofs.Common.{◌≡◌, ℕ, zero, suc, ◌<◌, ◌≤◌, Bool, true, false, cond, List, [], ◌∷◌}
+use Rattle.std.proofs.Common.{length, get_or, take, drop, refl, ap, ◌∙◌, arith}
 use Rattle.tpal_syntax.specs.Parts.{is_word_byte}
 use Rattle.tpal_syntax.specs.Readers.{word_bytes}
 

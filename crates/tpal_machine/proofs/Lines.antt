@@ -1,10 +1,12 @@
 -- Rows and lines of a table, one number and one line more at a time.
-use Rattle.std.proofs.Common.{◌≡◌, ℕ, suc, ◌+◌, ◌-◌, ◌<◌, ◌≤◌, List, [], ◌∷◌, ◌++◌, Option, Some, None, Ok, Err, refl, ap, sym, ◌∙◌, arith, append_assoc, append-nil}
+use Rattle.std.proofs.Common.{◌≡◌, ℕ, suc, ◌+◌, ◌-◌, ◌<◌, ◌≤◌, List, [], ◌∷◌, ◌++◌, Option, Some}
+use Rattle.std.proofs.Common.{None, Ok, Err, refl, ap, sym, ◌∙◌, arith, append_assoc, append-nil}
 use Rattle.std.specs.Prelude.{ℤ, pos}
 use Rattle.slices.specs.Holding.{Holding, cell_at}
 use Rattle.table_text.specs.RowText.{row_text}
 use Rattle.tpal_machine.specs.declared.faults.Fault.TheVariants.{NotHeld}
-use Rattle.tpal_machine.specs.Effect.{appended, with_first, numbers_from, row_numbers, line_of, line, with_line, rows_text, put_output}
+use Rattle.tpal_machine.specs.Effect.{appended, with_first, numbers_from, row_numbers, line_of}
+use Rattle.tpal_machine.specs.Effect.{line, with_line, rows_text, put_output}
 use Rattle.tpal_machine.specs.State.{State}
 
 appended_append : {A : Type 0} (xs ys : List A) (o : Option (List A)) → appended (xs ++ ys) o ≡ appended xs (appended ys o)

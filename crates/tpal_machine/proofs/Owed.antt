@@ -1,5 +1,6 @@
 -- What a task owes after a step and after a turn.
-use Rattle.std.proofs.Common.{◌≡◌, ℕ, zero, suc, ◌+◌, ◌≤◌, Bool, true, false, refl, ap, sym, subst, ◌∙◌, arith}
+use Rattle.std.proofs.Common.{◌≡◌, ℕ, zero, suc, ◌+◌, ◌≤◌, Bool, true, false, refl, ap, sym, subst}
+use Rattle.std.proofs.Common.{◌∙◌, arith}
 use Rattle.tpal_syntax.specs.Conditions.{IsCode}
 use Rattle.tpal_syntax.specs.Listing.{Listing}
 use Rattle.tpal_machine.specs.declared.ends.Ending.{Ending}
@@ -13,7 +14,8 @@ use Rattle.tpal_machine.specs.Keeping.{IsUndiverted}
 use Rattle.tpal_machine.specs.Memory.{IsWant, WhereWanting}
 use Rattle.tpal_machine.specs.Merge as merging
 use Rattle.tpal_machine.specs.Merge.{Joined}
-use Rattle.tpal_machine.specs.Owed.{owing, AnswersOwe, StoppedOwes, AnsweredOwes, TurnOwes, RanOwes, due_after}
+use Rattle.tpal_machine.specs.Owed.{owing, AnswersOwe, StoppedOwes, AnsweredOwes, TurnOwes, RanOwes}
+use Rattle.tpal_machine.specs.Owed.{due_after}
 use Rattle.tpal_machine.specs.Owes.{Owes}
 use Rattle.tpal_machine.specs.State.{State}
 use Rattle.tpal_machine.specs.Step.{Step, Goes, Beats, Ends, Asks, Forks, Stuck, Strays, step}

@@ -1,5 +1,7 @@
 -- The parts of held tables.
-use Rattle.std.proofs.Common.{◌≡◌, ℕ, zero, suc, ◌+◌, ◌<◌, ◌≤◌, inl, inr, Bool, true, false, List, [], ◌∷◌, ◌++◌, length, Option, Result, Ok, Err, refl, ap, sym, subst, ◌∙◌, arith, append_assoc, append-nil, add-zero, length-append}
+use Rattle.std.proofs.Common.{◌≡◌, ℕ, zero, suc, ◌+◌, ◌<◌, ◌≤◌, inl, inr, Bool, true, false, List}
+use Rattle.std.proofs.Common.{[], ◌∷◌, ◌++◌, length, Option, Result, Ok, Err, refl, ap, sym, subst}
+use Rattle.std.proofs.Common.{◌∙◌, arith, append_assoc, append-nil, add-zero, length-append}
 use Rattle.std.proofs.lemmas.Bool.{cases_eq}
 use Rattle.std.specs.Prelude.{pos, IsSome, is_some, IsTrue, ◌&&◌, ◌↔◌}
 use Rattle.slices.specs.Holding.{Holding, cell_at, IsWhole}
@@ -7,7 +9,8 @@ use Rattle.tpal_syntax.specs.declared.notes.CarryAt.{CarryAt}
 use Rattle.tpal_syntax.specs.declared.words.Word.{Word}
 use Rattle.tpal_machine.specs.declared.cut.TableCut.{TableCut}
 use Rattle.tpal_machine.specs.declared.faults.Fault.{Fault}
-use Rattle.tpal_machine.specs.Cut.{carried_at, with_cut, carried, cut_of, is_row_held, are_rows_held, is_whole, each_part}
+use Rattle.tpal_machine.specs.Cut.{carried_at, with_cut, carried, cut_of, is_row_held}
+use Rattle.tpal_machine.specs.Cut.{are_rows_held, is_whole, each_part}
 
 -- ---- where the tables are cut
 

@@ -1,5 +1,7 @@
 -- Sizes of tables that are made.
-use Rattle.std.proofs.Common.{◌≡◌, ℕ, ◌+◌, ◌-◌, ◌*◌, ◌<◌, ◌≤◌, ◌^◌, min, Bool, true, false, cond, List, [], length, drop, replicate, Some, Ok, refl, ap, sym, ◌∙◌, arith, length-drop}
+use Rattle.std.proofs.Common.{◌≡◌, ℕ, ◌+◌, ◌-◌, ◌*◌, ◌<◌, ◌≤◌, ◌^◌, min, Bool, true, false, cond}
+use Rattle.std.proofs.Common.{List, [], length, drop, replicate, Some, Ok, refl, ap, sym, ◌∙◌}
+use Rattle.std.proofs.Common.{arith, length-drop}
 use Rattle.std.proofs.lemmas.List.{nil_from_length}
 use Rattle.std.proofs.lemmas.Bool.Decides.{nat_tests}
 use Rattle.std.proofs.lemmas.Int.{ints}

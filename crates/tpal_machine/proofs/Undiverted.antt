@@ -1,5 +1,6 @@
 -- Steps that are diverted or not, and what a task owes where none is.
-use Rattle.std.proofs.Common.{◌≡◌, ℕ, Bool, true, false, cond, Option, None, Some, Result, Ok, Err, refl, ap, sym, subst, ◌∙◌}
+use Rattle.std.proofs.Common.{◌≡◌, ℕ, Bool, true, false, cond, Option, None, Some, Result, Ok, Err}
+use Rattle.std.proofs.Common.{refl, ap, sym, subst, ◌∙◌}
 use Rattle.std.proofs.lemmas.Bool.{false≢true}
 use Rattle.std.specs.Prelude.{pos, slice_get, is_some, nat_eq, nat_le, not, ◌&&◌}
 use Rattle.std.specs.Ordering.{int_eq}
@@ -36,7 +37,10 @@ use Rattle.tpal_machine.specs.Reading.{register, operand, with_register, block_a
 use Rattle.tpal_machine.specs.Serial.{BoundSerially, here, goes_on, IsUnmarked}
 use Rattle.tpal_machine.specs.Serial as serial
 use Rattle.tpal_machine.specs.State.{State}
-use Rattle.tpal_machine.specs.Step.{Step, Goes, Beats, Ends, Asks, Forks, Stuck, Strays, at_block, entered_by, stepped, asked, halting, forked, if_jump, executed, jump, halt, is_end, join_end, joined, join, finished, advanced, step_at, step_in, step}
+use Rattle.tpal_machine.specs.Step.{Step, Goes, Beats, Ends, Asks, Forks, Stuck, Strays, at_block}
+use Rattle.tpal_machine.specs.Step.{entered_by, stepped, asked, halting, forked, if_jump, executed}
+use Rattle.tpal_machine.specs.Step.{jump, halt, is_end, join_end, joined, join, finished, advanced}
+use Rattle.tpal_machine.specs.Step.{step_at, step_in, step}
 
 -- a step that is no beat
 abbrev IsPlain : Step → Type 0

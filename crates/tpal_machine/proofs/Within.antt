@@ -1,5 +1,6 @@
 -- What a task owes, and what it owes within a number of steps.
-use Rattle.std.proofs.Common.{◌≡◌, ℕ, zero, suc, ◌+◌, ◌<◌, ◌≤◌, ◌^◌, ◌⊎◌, inl, inr, Bool, true, false, Option, Some, None, refl, sym, ap, ◌∙◌, subst, ⊎_elim, arith}
+use Rattle.std.proofs.Common.{◌≡◌, ℕ, zero, suc, ◌+◌, ◌<◌, ◌≤◌, ◌^◌, ◌⊎◌, inl, inr, Bool, true}
+use Rattle.std.proofs.Common.{false, Option, Some, None, refl, sym, ap, ◌∙◌, subst, ⊎_elim, arith}
 use Rattle.std.proofs.lemmas.Bool.{cases_eq, cases_lt}
 use Rattle.tpal_syntax.specs.Conditions.{IsCode}
 use Rattle.tpal_syntax.specs.Listing.{Listing}
@@ -17,7 +18,8 @@ use Rattle.tpal_machine.specs.Owes.{Bound, IsAnswer, IsOtherRecord}
 use Rattle.tpal_machine.specs.Owes as owes
 use Rattle.tpal_machine.specs.State.{State}
 use Rattle.tpal_machine.specs.Step.{Step, Goes, Beats, Ends, Asks, Forks, Stuck, Strays, step}
-use Rattle.tpal_machine.specs.Within.{Owing, JoinedOwes, ForkOwes, NextOwes, OwesWithin, OwesInSteps}
+use Rattle.tpal_machine.specs.Within.{Owing, JoinedOwes, ForkOwes, NextOwes, OwesWithin}
+use Rattle.tpal_machine.specs.Within.{OwesInSteps}
 use Rattle.tpal_machine.proofs.Belonging.{step_of}
 use Rattle.tpal_machine.proofs.Given.{answered_of, joined_of_code}
 

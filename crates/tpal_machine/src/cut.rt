@@ -163,9 +163,12 @@ pub(crate) fn cut_tables(
     tables: Vec<Held>,
     cuts: &[(u8, TableCut)],
 ) -> Result<AllParts, NoMemory>
-    ensures rest { IfOk result (λ parts. parts.rest.items ≡ each_part rest_of cuts.now 0 tables.items) }
-    ensures left { IfOk result (λ parts. parts.left.items ≡ each_part left_of cuts.now 0 tables.items) }
-    ensures child { IfOk result (λ parts. parts.child.items ≡ each_part child_of cuts.now 0 tables.items) }
+    ensures rest { IfOk result (λ parts.
+        parts.rest.items ≡ each_part rest_of cuts.now 0 tables.items) }
+    ensures left { IfOk result (λ parts.
+        parts.left.items ≡ each_part left_of cuts.now 0 tables.items) }
+    ensures child { IfOk result (λ parts.
+        parts.child.items ≡ each_part child_of cuts.now 0 tables.items) }
 {
     let mut rest = Vec::new(alloc);
     let mut left = Vec::new(alloc);

@@ -95,7 +95,8 @@ fn slices_of(
 /// A side that stopped.
 #[tactic(auto, using(crate::proofs::Memory::done_is))]
 fn side_of(frame: Frame, code: &Code, target: u32, stop: Stop) -> Result<Side, NoMemory>
-    ensures side { IfOk result (λ side. side ≡ side_of (the_target code.now target) stop (state_of frame)) }
+    ensures side { IfOk result (λ side.
+        side ≡ side_of (the_target code.now target) stop (state_of frame)) }
     ensures memory { OnErr result (stop ≡ stops.Done) }
 {
     let alloc = *frame.output.allocator();

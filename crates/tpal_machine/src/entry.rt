@@ -49,7 +49,8 @@ fn enter_ready(frame: &mut Frame, code: &Code, pace: Pace, label: u32, handler: 
 
 /// Control enters a block.
 pub(crate) fn enter(frame: &mut Frame, code: &Code, pace: Pace, label: u32) -> Flow
-    ensures flow { IsFlow code.now (enters code.now pace.heartbeat pace.allowed label (state_of frame.old))
+    ensures flow { IsFlow code.now (enters code.now pace.heartbeat pace.allowed label
+        (state_of frame.old))
         result (state_of frame.new) }
     ensures room { FlowTakes result ⊥ }
     ensures kept { Keeps frame.old frame.new }

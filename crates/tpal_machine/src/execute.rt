@@ -246,7 +246,8 @@ fn join_end(frame: &mut Frame, code: &Code, number: u32) -> Flow
 
 /// A join under a record that both sides have met.
 fn join_met(frame: &mut Frame, code: &Code, pace: Pace, tie: Tie) -> Flow
-    ensures flow { IsFlow code.now (join_met code.now pace.heartbeat pace.allowed tie (state_of frame.old))
+    ensures flow { IsFlow code.now (join_met code.now pace.heartbeat pace.allowed tie
+        (state_of frame.old))
         result (state_of frame.new) }
     ensures room { FlowTakes result ⊥ }
     ensures kept { Keeps frame.old frame.new }
@@ -260,7 +261,8 @@ fn join_met(frame: &mut Frame, code: &Code, pace: Pace, tie: Tie) -> Flow
 
 /// `join rA`.
 fn join_under(frame: &mut Frame, code: &Code, pace: Pace, word: Word) -> Flow
-    ensures flow { IsFlow code.now (join code.now pace.heartbeat pace.allowed word (state_of frame.old))
+    ensures flow { IsFlow code.now (join code.now pace.heartbeat pace.allowed word
+        (state_of frame.old))
         result (state_of frame.new) }
     ensures room { FlowTakes result ⊥ }
     ensures kept { Keeps frame.old frame.new }
@@ -282,7 +284,8 @@ fn join_under(frame: &mut Frame, code: &Code, pace: Pace, word: Word) -> Flow
 
 /// `jump v`.
 fn jump_to(frame: &mut Frame, code: &Code, pace: Pace, word: Word) -> Flow
-    ensures flow { IsFlow code.now (jump code.now pace.heartbeat pace.allowed word (state_of frame.old))
+    ensures flow { IsFlow code.now (jump code.now pace.heartbeat pace.allowed word
+        (state_of frame.old))
         result (state_of frame.new) }
     ensures room { FlowTakes result ⊥ }
     ensures kept { Keeps frame.old frame.new }
@@ -297,7 +300,8 @@ fn jump_to(frame: &mut Frame, code: &Code, pace: Pace, word: Word) -> Flow
 /// stands.
 pub(crate) fn finish(frame: &mut Frame, code: &Code, pace: Pace, term: Term) -> Flow
     requires fits { IsTerm term }
-    ensures flow { IsFlow code.now (finished code.now pace.heartbeat pace.allowed term (state_of frame.old))
+    ensures flow { IsFlow code.now (finished code.now pace.heartbeat pace.allowed term
+        (state_of frame.old))
         result (state_of frame.new) }
     ensures room { FlowTakes result ⊥ }
     ensures kept { Keeps frame.old frame.new }
@@ -330,7 +334,8 @@ pub(crate) fn step(frame: &mut Frame, code: &Code, pace: Pace, block: &Block) ->
     requires right { IsCode code.now.tables code.now.blocks }
     requires tables { length frame.old.tables.items ≡ length code.now.tables }
     requires low { AreLow frame.old }
-    ensures flow { IsFlow code.now (step code.now pace.heartbeat pace.allowed (state_of frame.old)) result
+    ensures flow { IsFlow code.now (step code.now pace.heartbeat pace.allowed (state_of frame.old))
+        result
         (state_of frame.new) }
     ensures memory { FlowTakes result (NextTakes code.now (state_of frame.old)) }
     ensures kept { Keeps frame.old frame.new }

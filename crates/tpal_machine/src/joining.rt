@@ -238,7 +238,8 @@ pub fn merge(rest: Rest, left: Side, right: Side, code: &Code) -> Result<Merged,
     requires rest { RestBelongsTo code.now rest }
     requires left { SideBelongsTo code.now left }
     requires right { SideBelongsTo code.now right }
-    ensures merged { IfOk result (λ merged. IsMerged (merging.joined code.now rest left right) merged) }
+    ensures merged { IfOk result (λ merged.
+        IsMerged (merging.joined code.now rest left right) merged) }
     ensures belongs { IfOk result (IsMergedOf code.now) }
 {
     let _blocks = code.blocks();

@@ -103,7 +103,8 @@ fn zeros(alloc: Global, rows: u32, cols: u32) -> Result<Held, NoMemory>
 /// Makes a table of this size, which fits beside the others.
 fn make_zeros(frame: &mut Frame, table: u8, rows: u32, cols: u32) -> Halt
     requires { table < length frame.old.tables.items }
-    ensures effect { GivesHalt (Ok (effect.Goes (effect.with_made (state_of frame.old) table rows cols)))
+    ensures effect { GivesHalt (Ok (effect.Goes (effect.with_made (state_of frame.old) table rows
+        cols)))
         result (state_of frame.new) }
     ensures kept { Keeps frame.old frame.new }
 {
@@ -125,7 +126,8 @@ fn make_within(frame: &mut Frame, table: u8, rows: u32, cols: u32, place: Place)
     requires table { table < length frame.old.tables.items }
     requires rows { rows ≤ MAX_SIDE }
     requires cols { cols ≤ MAX_SIDE }
-    ensures effect { GivesHalt (effect.made table (pos rows) (pos cols) place (state_of frame.old)) result
+    ensures effect { GivesHalt (effect.made table (pos rows) (pos cols) place (state_of frame.old))
+        result
         (state_of frame.new) }
     ensures kept { Keeps frame.old frame.new }
 {
@@ -166,7 +168,8 @@ pub(crate) fn make(
     requires table { table < length frame.old.tables.items }
     requires rows { rows < 32 }
     requires cols { cols < 32 }
-    ensures effect { GivesHalt (effect.make code.now table rows cols place (state_of frame.old)) result
+    ensures effect { GivesHalt (effect.make code.now table rows cols place (state_of frame.old))
+        result
         (state_of frame.new) }
     ensures kept { Keeps frame.old frame.new }
 {

@@ -18,7 +18,8 @@ use tpal_syntax::{Code, Word};
 
 /// `rA := jralloc @l`: the task waits from here on.
 pub(crate) fn jralloc(frame: &mut Frame, code: &Code, to: u8, target: u32) -> Result<(), Fault>
-    ensures effect { Gives (effect.jralloc code.now to target (state_of frame.old)) result (state_of frame.new) }
+    ensures effect { Gives (effect.jralloc code.now to target (state_of frame.old)) result
+        (state_of frame.new) }
     ensures kept { Keeps frame.old frame.new }
 {
     if frame.pending.is_some() {

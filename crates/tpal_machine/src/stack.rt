@@ -33,7 +33,8 @@ fn above(stack: &Stack, from: i64, off: u16) -> i64
 pub(crate) fn load(frame: &mut Frame, to: u8, base: u8, off: u16) -> Result<(), Fault>
     requires to { to < 32 }
     requires base { base < 32 }
-    ensures effect { Gives (effect.load to base off (state_of frame.old)) result (state_of frame.new) }
+    ensures effect { Gives (effect.load to base off (state_of frame.old)) result
+        (state_of frame.new) }
     ensures anywhere { Does (effect.load to base off) frame.old result frame.new }
     ensures refused { OnErr result (frame.new ≡ frame.old) }
     ensures stays { Stays frame.old frame.new }
@@ -54,7 +55,8 @@ pub(crate) fn load(frame: &mut Frame, to: u8, base: u8, off: u16) -> Result<(), 
 pub(crate) fn store(frame: &mut Frame, base: u8, off: u16, value: Value) -> Result<(), Fault>
     requires base { base < 32 }
     requires value { IsOperand value }
-    ensures effect { Gives (effect.store base off value (state_of frame.old)) result (state_of frame.new) }
+    ensures effect { Gives (effect.store base off value (state_of frame.old)) result
+        (state_of frame.new) }
     ensures anywhere { Does (effect.store base off value) frame.old result frame.new }
     ensures refused { OnErr result (frame.new ≡ frame.old) }
     ensures stays { Stays frame.old frame.new }
@@ -71,7 +73,8 @@ pub(crate) fn store(frame: &mut Frame, base: u8, off: u16, value: Value) -> Resu
 
 /// `salloc n`.
 pub(crate) fn salloc(frame: &mut Frame, cells: u16) -> Result<(), Trouble>
-    ensures effect { GivesOr (effect.salloc cells (state_of frame.old)) result (state_of frame.new) }
+    ensures effect { GivesOr (effect.salloc cells (state_of frame.old)) result
+        (state_of frame.new) }
     ensures anywhere { DoesOr (effect.salloc cells) frame.old result frame.new }
     ensures refused { OnErr result (frame.new ≡ frame.old) }
     ensures stays { Stays frame.old frame.new }
@@ -160,7 +163,8 @@ fn magnitude(number: i64) -> u64
 #[tactic(auto, using(crate::proofs::Refusals::mark_goes, crate::proofs::Refusals::mark_refused, crate::proofs::Stacks::low_marked))]
 fn mark_from(frame: &mut Frame, base: u64, off: u16, cells: u16, split: u32) -> Result<(), Fault>
     requires { base < 2 ^ 63 }
-    ensures effect { Gives (effect.with_mark_from (state_of frame.old) (pos base) off cells split) result
+    ensures effect { Gives (effect.with_mark_from (state_of frame.old) (pos base) off cells split)
+        result
         (state_of frame.new) }
     ensures kept { Keeps frame.old frame.new }
 {
@@ -181,7 +185,8 @@ fn mark_from(frame: &mut Frame, base: u64, off: u16, cells: u16, split: u32) -> 
 #[tactic(auto, using(crate::proofs::Numbers::on_number_none, crate::proofs::Stacks::beyond_the_top))]
 pub(crate) fn prmpop(frame: &mut Frame, base: u8, off: u16) -> Result<(), Fault>
     requires { base < 32 }
-    ensures effect { Gives (effect.prmpop base off (state_of frame.old)) result (state_of frame.new) }
+    ensures effect { Gives (effect.prmpop base off (state_of frame.old)) result
+        (state_of frame.new) }
     ensures kept { Keeps frame.old frame.new }
 {
     let from = number_of(frame.registers[base as usize])?;
@@ -195,7 +200,8 @@ pub(crate) fn prmpop(frame: &mut Frame, base: u8, off: u16) -> Result<(), Fault>
 /// No mark at a position.
 #[tactic(auto, using(crate::proofs::Refusals::unmark_goes, crate::proofs::Stacks::low_unmarked))]
 fn unmark(frame: &mut Frame, at: i64) -> Result<(), Fault>
-    ensures effect { Gives (effect.without_mark at (state_of frame.old)) result (state_of frame.new) }
+    ensures effect { Gives (effect.without_mark at (state_of frame.old)) result
+        (state_of frame.new) }
     ensures kept { Keeps frame.old frame.new }
 {
     match frame.stack.unmark(at) {
@@ -246,7 +252,8 @@ pub(crate) fn prmsplit(frame: &mut Frame, base: u8, split: u8) -> Result<(), Fau
     requires base { base < 32 }
     requires split { split < 32 }
     requires low { AreLow frame.old }
-    ensures effect { Gives (effect.prmsplit base split (state_of frame.old)) result (state_of frame.new) }
+    ensures effect { Gives (effect.prmsplit base split (state_of frame.old)) result
+        (state_of frame.new) }
     ensures kept { Keeps frame.old frame.new }
 {
     match frame.stack.oldest() {

@@ -57,7 +57,8 @@ pub(crate) fn tick_within(frame: &mut Frame) -> bool
 
 /// `trap KIND, line, col`.
 pub(crate) fn trap(frame: &mut Frame, kind: TrapKind, place: Place) -> Halt
-    ensures effect { GivesHalt (effect.trap kind place (state_of frame.old)) result (state_of frame.new) }
+    ensures effect { GivesHalt (effect.trap kind place (state_of frame.old)) result
+        (state_of frame.new) }
     ensures room { result ≡ halts.NoMemory → ⊥ }
     ensures kept { Keeps frame.old frame.new }
 {

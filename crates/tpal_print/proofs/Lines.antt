@@ -1,18 +1,30 @@
 -- Each instruction is read from its own line.
-use Rattle.std.proofs.Common.{◌≡◌, ℕ, ◌^◌, ◌<◌, ◌≤◌, true, ltb, ◌&&◌, List, [], ◌∷◌, ◌++◌, Some, None, get_or, pos, negsuc, refl, ap, ◌∙◌, append_assoc, arith}
+use Rattle.std.proofs.Common.{◌≡◌, ℕ, ◌^◌, ◌<◌, ◌≤◌, true, ltb, ◌&&◌, List, [], ◌∷◌, ◌++◌, Some}
+use Rattle.std.proofs.Common.{None, get_or, pos, negsuc, refl, ap, ◌∙◌, append_assoc, arith}
 use Rattle.std.specs.Prelude.{codes}
 use Rattle.std.specs.Fmt.{decimal}
 use Rattle.tpal_syntax.specs.declared.instructions.Value.{Value}
 use Rattle.tpal_syntax.specs.declared.instructions.Value.TheVariants.{Reg, Int, Label, Nil}
 use Rattle.tpal_syntax.specs.declared.instructions.Instr.{Instr}
-use Rattle.tpal_syntax.specs.declared.instructions.Instr.TheVariants.{Move, Calc, IfJump, Load, Store, Salloc, Sfree, PrmPush, PrmPop, PrmDrop, PrmEmpty, PrmSplit, JrAlloc, Fork, Fetch, Put, Rows, Cols, Make, Tick, Trap, Print, Emit}
+use Rattle.tpal_syntax.specs.declared.instructions.Instr.TheVariants.{Move, Calc, IfJump, Load}
+use Rattle.tpal_syntax.specs.declared.instructions.Instr.TheVariants.{Store, Salloc, Sfree, PrmPush}
+use Rattle.tpal_syntax.specs.declared.instructions.Instr.TheVariants.{PrmPop, PrmDrop, PrmEmpty}
+use Rattle.tpal_syntax.specs.declared.instructions.Instr.TheVariants.{PrmSplit, JrAlloc, Fork}
+use Rattle.tpal_syntax.specs.declared.instructions.Instr.TheVariants.{Fetch, Put, Rows, Cols, Make}
+use Rattle.tpal_syntax.specs.declared.instructions.Instr.TheVariants.{Tick, Trap, Print, Emit}
 use Rattle.tpal_syntax.specs.declared.instructions.Term.{Term}
 use Rattle.tpal_syntax.specs.declared.instructions.Term.TheVariants.{Jump, Halt, Join}
-use Rattle.tpal_syntax.specs.Parts.{is_register, is_offset, is_size, is_place, is_value, is_instr, is_term}
-use Rattle.tpal_syntax.specs.Text.{cell_text, place_text, alu_text, value_text, instr_text, term_text}
+use Rattle.tpal_syntax.specs.Parts.{is_register, is_offset, is_size, is_place, is_value, is_instr}
+use Rattle.tpal_syntax.specs.Parts.{is_term}
+use Rattle.tpal_syntax.specs.Text.{cell_text, place_text, alu_text, value_text, instr_text}
+use Rattle.tpal_syntax.specs.Text.{term_text}
 use Rattle.tpal_syntax.specs.Readers.{after, value_at}
-use Rattle.tpal_print.proofs.Reading.{assigned_at, instr_at, term_at, relabel_value, relabel, relabel_term}
-use Rattle.tpal_print.proofs.Pieces.{stops, Words, and_left, and_right, below, word_comes, register_comes, register_mid, table_comes, table_mid, size_comes, size_mid, cell_comes, cell_mid, place_comes, alu_mid, trap_mid, value_comes, no_digits, no_letter}
+use Rattle.tpal_print.proofs.Reading.{assigned_at, instr_at, term_at, relabel_value, relabel}
+use Rattle.tpal_print.proofs.Reading.{relabel_term}
+use Rattle.tpal_print.proofs.Pieces.{stops, Words, and_left, and_right, below, word_comes}
+use Rattle.tpal_print.proofs.Pieces.{register_comes, register_mid, table_comes, table_mid}
+use Rattle.tpal_print.proofs.Pieces.{size_comes, size_mid, cell_comes, cell_mid, place_comes}
+use Rattle.tpal_print.proofs.Pieces.{alu_mid, trap_mid, value_comes, no_digits, no_letter}
 
 -- digits are no `rows`
 no_rows : (n : ℕ) (rest : List ℕ) → n < 2 ^ 64 → after (codes "ows ") (decimal n ++ rest) ≡ None

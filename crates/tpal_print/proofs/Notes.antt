@@ -1,5 +1,7 @@
 -- Each note is read from its own text.
-use Rattle.std.proofs.Common.{◌≡◌, ℕ, zero, suc, ◌≤◌, Bool, true, eqb, ltb, ◌&&◌, List, [], ◌∷◌, ◌++◌, length, map, Some, None, refl, sym, ap, subst, ◌∙◌, append_assoc, arith}
+use Rattle.std.proofs.Common.{◌≡◌, ℕ, zero, suc, ◌≤◌, Bool, true, eqb, ltb, ◌&&◌, List, [], ◌∷◌}
+use Rattle.std.proofs.Common.{◌++◌, length, map, Some, None, refl, sym, ap, subst, ◌∙◌}
+use Rattle.std.proofs.Common.{append_assoc, arith}
 use Rattle.std.specs.Prelude.{codes, not}
 use Rattle.std.specs.List.{AllByRecursion, flat_map, list_all, join_by}
 use Rattle.std.specs.Cmp.Derive.{both_true}
@@ -10,8 +12,11 @@ use Rattle.tpal_syntax.specs.declared.notes.CarryAt.TheVariants as carry
 use Rattle.tpal_syntax.specs.Parts.{is_register, is_carry}
 use Rattle.tpal_syntax.specs.Conditions.{is_renamed}
 use Rattle.tpal_syntax.specs.Text.{rename_text, carry_text, carries_text}
-use Rattle.tpal_syntax.specs.Readers.{Reading, ◌>>=◌, after, branch, many, with_more, rename_at, next_rename_at, renames_at, carry_at, next_carry_at, carries_at}
-use Rattle.tpal_print.proofs.Pieces.{stops, and_left, and_right, register_comes, register_mid, table_mid}
+use Rattle.tpal_syntax.specs.Readers.{Reading, ◌>>=◌, after, branch, many, with_more, rename_at}
+use Rattle.tpal_syntax.specs.Readers.{next_rename_at, renames_at, carry_at, next_carry_at}
+use Rattle.tpal_syntax.specs.Readers.{carries_at}
+use Rattle.tpal_print.proofs.Pieces.{stops, and_left, and_right, register_comes, register_mid}
+use Rattle.tpal_print.proofs.Pieces.{table_mid}
 
 -- what is read from the text of an item, whatever follows that meets P
 pub record Comes {A : Type 0} (read : Reading A) (text : A → List ℕ) (h : A → A) (P : List ℕ → Type 0) (x : A) : Type 0 where

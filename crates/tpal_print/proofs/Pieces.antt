@@ -1,11 +1,14 @@
 -- Each part is read from its own text, whatever follows it that is no part of a word.
-use Rattle.std.proofs.Common.{◌≡◌, ℕ, zero, suc, ◌+◌, ◌-◌, ◌*◌, ◌/◌, ◌%◌, ◌^◌, ◌<◌, ◌≤◌, Bool, true, false, cond, eqb, leb, ltb, ◌&&◌, ◌||◌, List, [], ◌∷◌, ◌++◌, Option, Some, None, get_or, pos, negsuc, refl, ap, ◌∙◌, append_assoc, arith}
+use Rattle.std.proofs.Common.{◌≡◌, ℕ, zero, suc, ◌+◌, ◌-◌, ◌*◌, ◌/◌, ◌%◌, ◌^◌, ◌<◌, ◌≤◌, Bool, true}
+use Rattle.std.proofs.Common.{false, cond, eqb, leb, ltb, ◌&&◌, ◌||◌, List, [], ◌∷◌, ◌++◌, Option}
+use Rattle.std.proofs.Common.{Some, None, get_or, pos, negsuc, refl, ap, ◌∙◌, append_assoc, arith}
 use Rattle.std.specs.Prelude.{codes, not}
 use Rattle.std.specs.List.{list_all}
 use Rattle.std.specs.Fmt.{decimal}
 use Rattle.std.proofs.lemmas.Fmt.{decimal_by_steps, decimal_digit}
 use Rattle.std.proofs.lemmas.Bool.Decides.{nat_tests}
-use Rattle.tpal_syntax.specs.Parts.{is_letter, is_word_byte, is_word, is_register, is_place, is_place_number, is_value}
+use Rattle.tpal_syntax.specs.Parts.{is_letter, is_word_byte, is_word, is_register, is_place}
+use Rattle.tpal_syntax.specs.Parts.{is_place_number, is_value}
 use Rattle.std.proofs.lemmas.Bool.{ltb-true, leb-true}
 use Rattle.tpal_syntax.specs.Text.{cell_text, place_text, alu_text, trap_text, value_text}
 use Rattle.tpal_syntax.specs.declared.instructions.Value.{Value}
@@ -15,7 +18,8 @@ use Rattle.tpal_syntax.specs.declared.instructions.Alu.TheVariants as alu
 use Rattle.tp_value.specs.declared.values.Place.{Place}
 use Rattle.tp_value.specs.declared.values.TrapKind.{TrapKind}
 use Rattle.tp_value.specs.declared.values.TrapKind.TheVariants.{Divide, Index, Deep, Size, Wide}
-use Rattle.tpal_syntax.specs.Readers.{after, is_digit, digits_at, no_digit, number_at, word_bytes, word_at, cell_at, place_at, alu_at, trap_at, value_at}
+use Rattle.tpal_syntax.specs.Readers.{after, is_digit, digits_at, no_digit, number_at, word_bytes}
+use Rattle.tpal_syntax.specs.Readers.{word_at, cell_at, place_at, alu_at, trap_at, value_at}
 use Rattle.tpal_print.proofs.Reading.{relabel_value}
 
 -- no byte of a word comes next

@@ -1,5 +1,7 @@
 -- No two codes have one text.
-use Rattle.std.proofs.Common.{◌≡◌, ℕ, zero, suc, ◌+◌, ◌<◌, ◌≤◌, Bool, true, false, cond, eqb, leb, ltb, ◌&&◌, ◌||◌, List, [], ◌∷◌, ◌++◌, length, map, Option, Some, None, get_or, refl, sym, ap, ◌∙◌, append_assoc, arith}
+use Rattle.std.proofs.Common.{◌≡◌, ℕ, zero, suc, ◌+◌, ◌<◌, ◌≤◌, Bool, true, false, cond, eqb, leb}
+use Rattle.std.proofs.Common.{ltb, ◌&&◌, ◌||◌, List, [], ◌∷◌, ◌++◌, length, map, Option, Some, None}
+use Rattle.std.proofs.Common.{get_or, refl, sym, ap, ◌∙◌, append_assoc, arith}
 use Rattle.std.specs.Prelude.{codes}
 use Rattle.std.specs.Str.{bytes_eq}
 use Rattle.std.specs.List.{AllByRecursion, flat_map, list_all}
@@ -12,20 +14,30 @@ use Rattle.tpal_syntax.specs.declared.notes.Note.TheVariants as note
 use Rattle.tpal_syntax.specs.declared.instructions.Value.{Value}
 use Rattle.tpal_syntax.specs.declared.instructions.Value.TheVariants.{Reg, Int, Label, Nil}
 use Rattle.tpal_syntax.specs.declared.instructions.Instr.{Instr}
-use Rattle.tpal_syntax.specs.declared.instructions.Instr.TheVariants.{Move, Calc, IfJump, Load, Store, Salloc, Sfree, PrmPush, PrmPop, PrmDrop, PrmEmpty, PrmSplit, JrAlloc, Fork, Fetch, Put, Rows, Cols, Make, Tick, Trap, Print, Emit}
+use Rattle.tpal_syntax.specs.declared.instructions.Instr.TheVariants.{Move, Calc, IfJump, Load}
+use Rattle.tpal_syntax.specs.declared.instructions.Instr.TheVariants.{Store, Salloc, Sfree, PrmPush}
+use Rattle.tpal_syntax.specs.declared.instructions.Instr.TheVariants.{PrmPop, PrmDrop, PrmEmpty}
+use Rattle.tpal_syntax.specs.declared.instructions.Instr.TheVariants.{PrmSplit, JrAlloc, Fork}
+use Rattle.tpal_syntax.specs.declared.instructions.Instr.TheVariants.{Fetch, Put, Rows, Cols, Make}
+use Rattle.tpal_syntax.specs.declared.instructions.Instr.TheVariants.{Tick, Trap, Print, Emit}
 use Rattle.tpal_syntax.specs.declared.instructions.Term.{Term}
 use Rattle.tpal_syntax.specs.declared.instructions.Term.TheVariants.{Jump, Halt, Join}
 use Rattle.tpal_syntax.specs.declared.blocks.Block.{Block}
 use Rattle.tpal_syntax.specs.declared.blocks.CodeTable.{CodeTable}
 use Rattle.tpal_syntax.specs.declared.blocks.CodeTable.TheVariants.{Input, Made}
-use Rattle.tpal_syntax.specs.Parts.{is_word, is_word_byte, is_letter, is_register, is_offset, is_size, is_value, is_instr, is_term}
-use Rattle.tpal_syntax.specs.Conditions.{IsNote, IsBlock, IsCode, AreDistinct, block_names, input_names}
-use Rattle.tpal_syntax.specs.Text.{CodeText, line, note_text, block_text, table_line, tables_text, text_of}
+use Rattle.tpal_syntax.specs.Parts.{is_word, is_word_byte, is_letter, is_register, is_offset}
+use Rattle.tpal_syntax.specs.Parts.{is_size, is_value, is_instr, is_term}
+use Rattle.tpal_syntax.specs.Conditions.{IsNote, IsBlock, IsCode, AreDistinct, block_names}
+use Rattle.tpal_syntax.specs.Conditions.{input_names}
+use Rattle.tpal_syntax.specs.Text.{CodeText, line, note_text, block_text, table_line, tables_text}
+use Rattle.tpal_syntax.specs.Text.{text_of}
 use Rattle.tpal_syntax.specs.Readers.{◌>>=◌, after, word_at, many, with_more}
-use Rattle.tpal_print.proofs.Reading.{block_at, table_line_at, code_at, relabel_value, relabel, relabel_term, relabel_note, relabel_block}
+use Rattle.tpal_print.proofs.Reading.{block_at, table_line_at, code_at, relabel_value, relabel}
+use Rattle.tpal_print.proofs.Reading.{relabel_term, relabel_note, relabel_block}
 use Rattle.tpal_print.proofs.Pieces.{Words, and_left, and_right, below, number_comes, word_comes}
 use Rattle.tpal_print.proofs.Notes.{Comes, many_come}
-use Rattle.tpal_print.proofs.Whole.{ShortNote, ShortBlock, handler_below, instr_line, term_line, regroup, block_comes}
+use Rattle.tpal_print.proofs.Whole.{ShortNote, ShortBlock, handler_below, instr_line, term_line}
+use Rattle.tpal_print.proofs.Whole.{regroup, block_comes}
 
 -- ---- tables
 

@@ -1,5 +1,6 @@
 -- Each code is read from its own text, so no other code has that text.
-use Rattle.std.proofs.Common.{◌≡◌, ℕ, zero, suc, ◌≤◌, Bool, true, false, ltb, List, [], ◌∷◌, ◌++◌, length, map, Some, None, get_or, refl, ap, ◌∙◌, append_assoc, arith}
+use Rattle.std.proofs.Common.{◌≡◌, ℕ, zero, suc, ◌≤◌, Bool, true, false, ltb, List, [], ◌∷◌, ◌++◌}
+use Rattle.std.proofs.Common.{length, map, Some, None, get_or, refl, ap, ◌∙◌, append_assoc, arith}
 use Rattle.std.specs.Prelude.{codes, slice_get}
 use Rattle.std.specs.List.{AllByRecursion, flat_map, list_all, join_by}
 use Rattle.std.proofs.lemmas.Bool.{lt-ltb}
@@ -14,9 +15,11 @@ use Rattle.tpal_syntax.specs.declared.blocks.Block.{Block}
 use Rattle.tpal_syntax.specs.declared.blocks.CodeTable.{CodeTable}
 use Rattle.tpal_syntax.specs.Parts.{is_instr, is_term}
 use Rattle.tpal_syntax.specs.Conditions.{IsTarget, IsNote, IsBlock, IsHandler}
-use Rattle.tpal_syntax.specs.Text.{◌+++◌, line, policy_text, kind_text, rename_text, carries_text, target_text, note_text, instr_text, term_text, block_text}
+use Rattle.tpal_syntax.specs.Text.{◌+++◌, line, policy_text, kind_text, rename_text, carries_text}
+use Rattle.tpal_syntax.specs.Text.{target_text, note_text, instr_text, term_text, block_text}
 use Rattle.tpal_syntax.specs.Readers.{word_at, many, policy_at, renames_at, kind_at}
-use Rattle.tpal_print.proofs.Reading.{note_at, instr_line_at, term_line_at, block_at, relabel, relabel_term, relabel_note, relabel_block}
+use Rattle.tpal_print.proofs.Reading.{note_at, instr_line_at, term_line_at, block_at, relabel}
+use Rattle.tpal_print.proofs.Reading.{relabel_term, relabel_note, relabel_block}
 use Rattle.tpal_print.proofs.Pieces.{Words, and_left, and_right, below, word_comes}
 use Rattle.tpal_print.proofs.Lines.{instr_comes, term_comes, term_is_no_instr}
 use Rattle.tpal_print.proofs.Notes.{Comes, many_come, renames_come, renamed_registers, carries_come}

@@ -4,7 +4,9 @@ ghost use Rattle.std.specs.Prelude.{◌≡◌, ◌++◌, OnOk, codes};
 ghost use Rattle.std.specs.List.{flat_map, join_by};
 ghost use Rattle.std.specs.Fmt.{decimal};
 ghost use Rattle.tpal_syntax.specs.Conditions.{block_names};
-ghost use Rattle.tpal_syntax.specs.Text.{◌+++◌, line, label_text, rename_text, carry_text, carries_text, policy_text, kind_text, target_text, note_text, header_text, table_line};
+ghost use Rattle.tpal_syntax.specs.Text.{◌+++◌, line, label_text, rename_text, carry_text};
+ghost use Rattle.tpal_syntax.specs.Text.{carries_text, policy_text, kind_text, target_text};
+ghost use Rattle.tpal_syntax.specs.Text.{note_text, header_text, table_line};
 
 use crate::parts::{push_bytes, push_label, push_number, push_register, push_table};
 use tp_value::NoMemory;

@@ -3,7 +3,9 @@
 ghost use Rattle.std.specs.Prelude.{◌≡◌, ◌++◌, OnOk, codes};
 ghost use Rattle.std.specs.Fmt.{decimal};
 ghost use Rattle.tpal_syntax.specs.Conditions.{block_names};
-ghost use Rattle.tpal_syntax.specs.Text.{◌+++◌, register_text, table_text, label_text, cell_text, place_text, value_text, alu_text, trap_text, instr_text, term_text};
+ghost use Rattle.tpal_syntax.specs.Text.{◌+++◌, register_text, table_text, label_text, cell_text};
+ghost use Rattle.tpal_syntax.specs.Text.{place_text, value_text, alu_text, trap_text, instr_text};
+ghost use Rattle.tpal_syntax.specs.Text.{term_text};
 
 use crate::parts::{
     push_alu, push_bytes, push_cell, push_label, push_number, push_place, push_register,

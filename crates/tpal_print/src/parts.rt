@@ -3,7 +3,8 @@
 ghost use Rattle.std.specs.Prelude.{◌≡◌, ◌++◌, OnOk, codes, map};
 ghost use Rattle.std.specs.Fmt.{decimal, signed_decimal};
 ghost use Rattle.tpal_syntax.specs.Conditions.{block_names};
-ghost use Rattle.tpal_syntax.specs.Text.{register_text, table_text, label_text, cell_text, place_text, value_text, alu_text, trap_text};
+ghost use Rattle.tpal_syntax.specs.Text.{register_text, table_text, label_text, cell_text};
+ghost use Rattle.tpal_syntax.specs.Text.{place_text, value_text, alu_text, trap_text};
 
 use tp_value::{NoMemory, Place, TrapKind};
 use tpal_syntax::{Alu, Block, Value};

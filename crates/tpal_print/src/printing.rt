@@ -3,7 +3,8 @@
 ghost use Rattle.std.specs.Prelude.{◌≡◌, ◌++◌, OnOk, IfOk, codes};
 ghost use Rattle.std.specs.List.{flat_map};
 ghost use Rattle.tpal_syntax.specs.Conditions.{block_names};
-ghost use Rattle.tpal_syntax.specs.Text.{◌+++◌, line, instr_text, term_text, block_text, tables_text, text_of, CodeText};
+ghost use Rattle.tpal_syntax.specs.Text.{◌+++◌, line, instr_text, term_text, block_text};
+ghost use Rattle.tpal_syntax.specs.Text.{tables_text, text_of, CodeText};
 
 use crate::headers::{push_header, push_table_line};
 use crate::instructions::{push_instr, push_term};

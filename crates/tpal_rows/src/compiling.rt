@@ -18,19 +18,24 @@ fn a_compiled_program_is_its_code(rt: HostRuntime) -> Result<(), Fail> {
     let cases: [(&str, &str); 4] = [
         (
             "main { }",
-            "b0: plain\n  salloc 19\n  mem[r31+2] := 10000\n  halt\nb1: plain\n  prmsplit r28, r29\n  jump r29\n",
+            "b0: plain\n  salloc 19\n  mem[r31+2] := 10000\n  halt\nb1: plain\n  prmsplit r28, \
+            r29\n  jump r29\n",
         ),
         (
             "main { print 2 + 3; }",
-            "b0: plain\n  salloc 19\n  mem[r31+2] := 10000\n  r0 := 2\n  r0 := r0 add 3\n  print r0\n  halt\nb1: plain\n  prmsplit r28, r29\n  jump r29\n",
+            "b0: plain\n  salloc 19\n  mem[r31+2] := 10000\n  r0 := 2\n  r0 := r0 add 3\n  print \
+            r0\n  halt\nb1: plain\n  prmsplit r28, r29\n  jump r29\n",
         ),
         (
             "main { print 1 + 2 * 3; print 4; }",
-            "b0: plain\n  salloc 19\n  mem[r31+2] := 10000\n  r0 := 1\n  r1 := 2\n  r1 := r1 mul 3\n  r0 := r0 add r1\n  print r0\n  r0 := 4\n  print r0\n  halt\nb1: plain\n  prmsplit r28, r29\n  jump r29\n",
+            "b0: plain\n  salloc 19\n  mem[r31+2] := 10000\n  r0 := 1\n  r1 := 2\n  r1 := r1 mul \
+            3\n  r0 := r0 add r1\n  print r0\n  r0 := 4\n  print r0\n  halt\nb1: plain\n  \
+            prmsplit r28, r29\n  jump r29\n",
         ),
         (
             "main { print 007; }",
-            "b0: plain\n  salloc 19\n  mem[r31+2] := 10000\n  r0 := 7\n  print r0\n  halt\nb1: plain\n  prmsplit r28, r29\n  jump r29\n",
+            "b0: plain\n  salloc 19\n  mem[r31+2] := 10000\n  r0 := 7\n  print r0\n  halt\nb1: \
+            plain\n  prmsplit r28, r29\n  jump r29\n",
         ),
     ];
     for (source, text) in cases {
@@ -61,9 +66,12 @@ fn printed_again(alloc: Global, text: &[u8]) -> Option<Vec<u8>> {
 fn a_code_text_assembles_to_the_code_that_has_it(rt: HostRuntime) -> Result<(), Fail> {
     let cases = [
         "main { }",
-        "input a; table b[rows(a)][2]; main { par i in 0..rows(a) carry b[i] { b[i][0] = a[i][0] / i; } emit b; }",
-        "fn f(k) { let r = k; if k { call r = f(k - 1); } return r; } main { let x = 0; let y = 0; both x = f(1), y = f(2); print x + y; }",
-        "main { let s = 0; par i in 0..9 reduce s by affine { fold s with i; } while s { s = s / 2; } }",
+        "input a; table b[rows(a)][2]; main { par i in 0..rows(a) carry b[i] { b[i][0] = a[i][0] \
+        / i; } emit b; }",
+        "fn f(k) { let r = k; if k { call r = f(k - 1); } return r; } main { let x = 0; let y = \
+        0; both x = f(1), y = f(2); print x + y; }",
+        "main { let s = 0; par i in 0..9 reduce s by affine { fold s with i; } while s { s = s / \
+        2; } }",
     ];
     for source in cases {
         let called = call_with(
@@ -166,10 +174,14 @@ fn a_code_text_assembles_to_what_lower_makes(rt: HostRuntime) -> Result<(), Fail
     let cases = [
         "main { }",
         "main { print 2 + 3 * -4; }",
-        "input a; table b[rows(a)][2]; main { par i in 0..rows(a) carry b[i] { b[i][0] = a[i][0] / i; } emit b; }",
-        "fn f(k) { let r = k; if k { call r = f(k - 1); } return r; } main { let x = 0; let y = 0; both x = f(1), y = f(2); print x + y; }",
-        "main { let s = 0; par i in 0..9 reduce s by affine { fold s with i; } while s { s = s / 2; } }",
-        "table t[2][2]; main { loop i in 0..2 { if i == 1 { t[i][0] = i % 2; } else { t[i][1] = 9223372036854775807; } } emit t; }",
+        "input a; table b[rows(a)][2]; main { par i in 0..rows(a) carry b[i] { b[i][0] = a[i][0] \
+        / i; } emit b; }",
+        "fn f(k) { let r = k; if k { call r = f(k - 1); } return r; } main { let x = 0; let y = \
+        0; both x = f(1), y = f(2); print x + y; }",
+        "main { let s = 0; par i in 0..9 reduce s by affine { fold s with i; } while s { s = s / \
+        2; } }",
+        "table t[2][2]; main { loop i in 0..2 { if i == 1 { t[i][0] = i % 2; } else { t[i][1] = \
+        9223372036854775807; } } emit t; }",
     ];
     let mut last: Option<Code> = None;
     for source in cases {

@@ -93,7 +93,8 @@ main {
 ";
 
 const AFFINE: &str =
-    "# The hash h = 31 * h + a[i], row by row, as a reduction of the maps x -> 31 * x + a[i]: they are put together in
+    "# The hash h = 31 * h + a[i], row by row, as a reduction of the maps x -> 31 * x + a[i]: \
+    they are put together in
 # order, and any neighbours may be put together first. A map m * x + c is the number m * 2^32 + c.
 input a;
 
@@ -107,7 +108,8 @@ main {
 ";
 
 const NESTED: &str =
-    "# The distance of each two rows of a table: the outer loop carries the rows of the result, the inner one the cells
+    "# The distance of each two rows of a table: the outer loop carries the rows of the result, \
+    the inner one the cells
 # of a row.
 input a;
 table d[rows(a)][rows(a)];
@@ -129,7 +131,8 @@ main {
 ";
 
 const COLLATZ: &str =
-    "# The start below the given number that takes the most steps to come to 1, and how many they are.
+    "# The start below the given number that takes the most steps to come to 1, and how many they \
+    are.
 input n;
 
 fn steps(x) {

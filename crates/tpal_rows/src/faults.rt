@@ -155,8 +155,8 @@ const WRITES: [&[(u32, u32)]; 9] = [
     &[(3, 0)],
 ];
 
-// How many bytes the sink keeps where writes have these sizes and these fail, and whether one of them
-// failed.
+// How many bytes the sink keeps where writes have these sizes and these fail, and whether one of
+// them failed.
 fn kept(pieces: &[usize], writes: &[(u32, u32)]) -> (usize, bool) {
     let mut before = 0usize;
     for (number, piece) in pieces.iter().enumerate() {

@@ -5,8 +5,8 @@ use std::alloc::Global;
 use std::test::Fail;
 use tpal_tool::Status;
 
-// Whether a call with these words makes so many fetches and ends so. There are the texts of `p` and,
-// under the name `t`, of tables.
+// Whether a call with these words makes so many fetches and ends so. There are the texts of `p`
+// and, under the name `t`, of tables.
 fn fetches(
     alloc: Global,
     words: &[&str],

@@ -1,6 +1,6 @@
 //! Tests that cross crates: whole calls over a shelf and a sink in memory, with the text and the
-//! status that each owes, worked out by hand, and the fetches and writes that it makes. It stands on
-//! the top call and has no code of its own.
+//! status that each owes, worked out by hand, and the fetches and writes that it makes. It stands
+//! on the top call and has no code of its own.
 #![tactic(auto)]
 
 #[cfg(test)]

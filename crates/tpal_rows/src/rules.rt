@@ -104,7 +104,9 @@ fn parallel_loops_have_their_rules(rt: HostRuntime) -> Result<(), Fail> {
             "E8 C6 at 1:54",
         ),
         (
-            "table t[2][2];\nfn g(x) { return t[x][0]; }\nfn h(x) { let r = 0; call r = g(x); return r; }\nmain {\n  par i in 0..2 carry t[i] { let r = 0; call r = h(i); t[i][0] = r; }\n}",
+            "table t[2][2];\nfn g(x) { return t[x][0]; }\nfn h(x) { let r = 0; call r = g(x); \
+            return r; }\nmain {\n  par i in 0..2 carry t[i] { let r = 0; call r = h(i); t[i][0] = \
+            r; }\n}",
             "E8 C8 at 5:50",
         ),
     ];

@@ -108,7 +108,8 @@ fn programs_without_tables_print(rt: HostRuntime) -> Result<(), Fail> {
             "3\n2\n1\n0\n",
         ),
         (
-            "main { let n = 3; let s = 0; loop i in 0..n { n = 9; loop j in i..3 { s = s + 10 * i + j; } } print s; }",
+            "main { let n = 3; let s = 0; loop i in 0..n { n = 9; loop j in i..3 { s = s + 10 * i \
+            + j; } } print s; }",
             "48\n",
         ),
         (
@@ -116,19 +117,23 @@ fn programs_without_tables_print(rt: HostRuntime) -> Result<(), Fail> {
             "-9223372036854775808\n0\n",
         ),
         (
-            "fn f(a, b) { a = a - b; return 10 * a + b; } main { let x = 7; call x = f(x, 2); print x; }",
+            "fn f(a, b) { a = a - b; return 10 * a + b; } main { let x = 7; call x = f(x, 2); \
+            print x; }",
             "52\n",
         ),
         (
-            "fn f(a) { let r = a; if a { call r = f(a - 1); r = r + a; } return r; } main { let x = 0; call x = f(100); print x; }",
+            "fn f(a) { let r = a; if a { call r = f(a - 1); r = r + a; } return r; } main { let x \
+            = 0; call x = f(100); print x; }",
             "5050\n",
         ),
         (
-            "fn f(a) { return 2 * a; } main { let x = 1; let y = 2; both x = f(y), y = f(x); print x; print y; }",
+            "fn f(a) { return 2 * a; } main { let x = 1; let y = 2; both x = f(y), y = f(x); \
+            print x; print y; }",
             "4\n2\n",
         ),
         (
-            "main { let s = 1; par i in 1..6 reduce s by mul { fold s with i; } print s; par i in 3..0 { } }",
+            "main { let s = 1; par i in 1..6 reduce s by mul { fold s with i; } print s; par i in \
+            3..0 { } }",
             "120\n",
         ),
     ];
@@ -252,22 +257,26 @@ fn tables_are_read_and_written(rt: HostRuntime) -> Result<(), Fail> {
         (AFFINE, "table a 2 1 8589934592 4294967299", "8589934595\n"),
         (PRODUCTS, "", "1 2 3\n2 4 6\n3 6 9\n"),
         (
-            "input a; table b[cols(a)][rows(a)]; main { loop i in 0..rows(a) { loop j in 0..cols(a) { b[j][i] = a[i][j]; } } emit b; emit a; }",
+            "input a; table b[cols(a)][rows(a)]; main { loop i in 0..rows(a) { loop j in \
+            0..cols(a) { b[j][i] = a[i][j]; } } emit b; emit a; }",
             "table a 2 3 1 2 3 -4 5 6",
             "1 -4\n2 5\n3 6\n1 2 3\n-4 5 6\n",
         ),
         (
-            "input a; main { let m = 9; let n = -9; par i in 0..rows(a) reduce m by min, n by max { fold m with a[i][0]; fold n with a[i][0]; } print m; print n; }",
+            "input a; main { let m = 9; let n = -9; par i in 0..rows(a) reduce m by min, n by max \
+            { fold m with a[i][0]; fold n with a[i][0]; } print m; print n; }",
             "table a 3 1 4 -2 3",
             "-2\n4\n",
         ),
         (
-            "input a; fn f(i) { return a[i][0] * a[i][0]; } main { let s = 0; par i in 0..rows(a) reduce s by add { let r = 0; call r = f(i); fold s with r; } print s; }",
+            "input a; fn f(i) { return a[i][0] * a[i][0]; } main { let s = 0; par i in 0..rows(a) \
+            reduce s by add { let r = 0; call r = f(i); fold s with r; } print s; }",
             "table a 3 1 4 -2 3",
             "29\n",
         ),
         (
-            "table t[2][2]; main { par j in 0..2 carry t[1][j] { t[1][j] = t[1][j] + j + 5; } emit t; }",
+            "table t[2][2]; main { par j in 0..2 carry t[1][j] { t[1][j] = t[1][j] + j + 5; } \
+            emit t; }",
             "",
             "0 0\n5 6\n",
         ),

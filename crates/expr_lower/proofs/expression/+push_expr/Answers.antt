@@ -1,11 +1,13 @@
-use Rattle.std.proofs.Common.{◌≡◌, ℕ, suc, ◌+◌, ◌++◌, ◌∷◌, [], List, length, max, cond, arith, ap, sym, ◌∙◌, append_assoc}
+use Rattle.std.proofs.Common.{◌≡◌, ℕ, suc, ◌+◌, ◌++◌, ◌∷◌, [], List, length, max, cond, arith, ap}
+use Rattle.std.proofs.Common.{sym, ◌∙◌, append_assoc}
 use Rattle.std.proofs.Math.Nat.{le-max_left}
 use Rattle.tp_value.specs.declared.TrapKind.TheVariants.{Divide}
 use Rattle.loop_syntax.specs.declared.Expr.{Expr}
 use Rattle.loop_rules.specs.Limits.{height}
 use Rattle.tpal_syntax.specs.declared.blocks.Block.{Block}
 use Rattle.tpal_syntax.specs.declared.instructions.Instr.{Instr}
-use Rattle.expr_lower.specs.Bodies.{trap_count, body_of, traps_of, operation, literal, can_trap, trap_block}
+use Rattle.expr_lower.specs.Bodies.{trap_count, body_of, traps_of, operation, literal, can_trap}
+use Rattle.expr_lower.specs.Bodies.{trap_block}
 use Rattle.expr_lower.proofs.Law.{height_positive}
 use Rattle.expr_lower.proofs.expression.+push_expr.Goals as goal
 

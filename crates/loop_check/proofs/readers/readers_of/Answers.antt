@@ -1,4 +1,5 @@
-use Rattle.std.proofs.Common.{◌≡◌, ◌<◌, ◌+◌, ◌∙◌, arith, ℕ, List, [], get_or, ap, subst, sym, length}
+use Rattle.std.proofs.Common.{◌≡◌, ◌<◌, ◌+◌, ◌∙◌, arith, ℕ, List, [], get_or, ap, subst, sym}
+use Rattle.std.proofs.Common.{length}
 use Rattle.std.specs.Borrow.{Bor}
 use Rattle.loop_check.specs.Walk.{texts_of}
 use Rattle.loop_check.proofs.Walking.{texts_length}

@@ -6,8 +6,10 @@ use Rattle.loop_check.specs.declared.round.Round.{Round}
 use Rattle.loop_rules.specs.Search.{lowest_in}
 use Rattle.loop_check.specs.Search.{checked_rules}
 use Rattle.loop_check.specs.Walk.{spot, inside, texts_of, rounds_of}
-use Rattle.loop_rules.proofs.Walking.{two_parts, in_if, in_while, list_found, list_stands, block_left, ok_map}
-use Rattle.loop_check.proofs.Walking.{texts_more, texts_take, texts_length, loop_left, looped_found, par_found}
+use Rattle.loop_rules.proofs.Walking.{two_parts, in_if, in_while, list_found, list_stands}
+use Rattle.loop_rules.proofs.Walking.{block_left, ok_map}
+use Rattle.loop_check.proofs.Walking.{texts_more, texts_take, texts_length, loop_left, looped_found}
+use Rattle.loop_check.proofs.Walking.{par_found}
 use Rattle.loop_check.proofs.statement.+walk.Goals as goal
 
 pub in_block-returns : goal.in_block-returns

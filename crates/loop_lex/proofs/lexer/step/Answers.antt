@@ -1,5 +1,6 @@
 use Rattle.std.proofs.Common.{length, ap, length-drop, arith}
-use Rattle.loop_lex.proofs.Steps.{bounds_so_far, step_blank, step_comment, step_token, step_bad, step_large, piece_some, comment_some}
+use Rattle.loop_lex.proofs.Steps.{bounds_so_far, step_blank, step_comment, step_token, step_bad}
+use Rattle.loop_lex.proofs.Steps.{step_large, piece_some, comment_some}
 use Rattle.loop_lex.proofs.lexer.step.Goals as goal
 
 pub place_behind-requires-clause-line : goal.place_behind-requires-clause-line

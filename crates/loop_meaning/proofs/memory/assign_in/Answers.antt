@@ -1,4 +1,5 @@
-use Rattle.std.proofs.Common.{rules, ◌≡◌, true, ◌<◌, ◌≤◌, ◌∙◌, ap, sym, length, get_or, set, bytes_eq}
+use Rattle.std.proofs.Common.{rules, ◌≡◌, true, ◌<◌, ◌≤◌, ◌∙◌, ap, sym, length, get_or, set}
+use Rattle.std.proofs.Common.{bytes_eq}
 use Rattle.std.specs.Int.{w64}
 use Rattle.std.proofs.lemmas.Int.{to_z-of_z}
 use Rattle.loop_meaning.proofs.Found.{assign_found, assign_end}

@@ -1,4 +1,5 @@
-use Rattle.std.proofs.Common.{◌≡◌, ◌<◌, ◌≤◌, ◌-◌, ◌+◌, sym, ◌∙◌, arith, rules, SFits, refl, suc, [], ◌∷◌, Some, None, pos}
+use Rattle.std.proofs.Common.{◌≡◌, ◌<◌, ◌≤◌, ◌-◌, ◌+◌, sym, ◌∙◌, arith, rules, SFits, refl, suc, []}
+use Rattle.std.proofs.Common.{◌∷◌, Some, None, pos}
 use Rattle.std.specs.Int.{w64}
 use Rattle.std.proofs.lemmas.Int.{to_z-of_z}
 use Rattle.tp_value.specs.declared.limits.TheConstants.{MAX_CALL_DEPTH}
@@ -7,7 +8,11 @@ use Rattle.loop_meaning.specs.declared.argument.Numbers.TheVariants.{All}
 use Rattle.loop_meaning.specs.State.{Chance}
 use Rattle.loop_meaning.specs.Statements.{run_list, block}
 use Rattle.loop_meaning.specs.Ends.{setting_of, state_of, NumbersOf}
-use Rattle.loop_meaning.proofs.Runs.{ok_map, run_then, run_else, run_while_is, run_loop_is, run_par_is, while_trap, while_zero, while_spent, while_stopped, while_again, turns_out, iterate_on, iterate_stopped, iterate_end, offset_is, ends_alike, ends_unlike, alike_trans, alike_back}
+use Rattle.loop_meaning.proofs.Runs.{ok_map, run_then, run_else, run_while_is, run_loop_is}
+use Rattle.loop_meaning.proofs.Runs.{run_par_is, while_trap, while_zero, while_spent, while_stopped}
+use Rattle.loop_meaning.proofs.Runs.{while_again, turns_out, iterate_on, iterate_stopped}
+use Rattle.loop_meaning.proofs.Runs.{iterate_end, offset_is, ends_alike, ends_unlike, alike_trans}
+use Rattle.loop_meaning.proofs.Runs.{alike_back}
 use Rattle.loop_meaning.proofs.Weights.{level, level_falls}
 use Rattle.loop_meaning.proofs.Calls.{call_spent, call_deep, call_enters, call_notes, both_notes}
 use Rattle.loop_meaning.proofs.run.+run.Goals as goal

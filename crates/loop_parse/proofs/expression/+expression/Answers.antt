@@ -8,7 +8,10 @@ use Rattle.loop_parse.specs.Reading.{sum_op_of, product_op_of}
 use Rattle.loop_parse.proofs.Chains.{Continues-fails, Continues-step, Continues-stop, Continues-end}
 use Rattle.loop_parse.proofs.Steps.{unary_primary, gives_nested, primary_name}
 use Rattle.loop_parse.proofs.expression.+expression.Goals as goal
-use Rattle.loop_parse.proofs.expression.+expression.Goals.{product-in-Some+in_default-product_op, product-in_default, sum-in-Some+in_default-sum_op, sum-in_default}
+use Rattle.loop_parse.proofs.expression.+expression.Goals.{product-in-Some+in_default-product_op}
+use Rattle.loop_parse.proofs.expression.+expression.Goals.{product-in_default}
+use Rattle.loop_parse.proofs.expression.+expression.Goals.{sum-in-Some+in_default-sum_op}
+use Rattle.loop_parse.proofs.expression.+expression.Goals.{sum-in_default}
 
 none_some : {A : Type 0} (a : A) → Some a ≡ None → ⊥
 none_some a is = cc

@@ -1,8 +1,10 @@
-use Rattle.std.proofs.Common.{◌≡◌, ◌≤◌, ◌&&◌, nat_le, true, false, length, take, ap, sym, length-take, Ok, Err, arith, ◌∙◌}
+use Rattle.std.proofs.Common.{◌≡◌, ◌≤◌, ◌&&◌, nat_le, true, false, length, take, ap, sym}
+use Rattle.std.proofs.Common.{length-take, Ok, Err, arith, ◌∙◌}
 use Rattle.loop_syntax.specs.Tree.{tree_of}
 use Rattle.loop_parse.specs.Terms.{seen}
 use Rattle.loop_parse.specs.Reading.{Form, Deep, expr, window, is_empty}
-use Rattle.loop_parse.proofs.Windows.{outer_deep_ok, outer_ok, outer_deep_fault, outer_fault, outer_deep}
+use Rattle.loop_parse.proofs.Windows.{outer_deep_ok, outer_ok, outer_deep_fault, outer_fault}
+use Rattle.loop_parse.proofs.Windows.{outer_deep}
 use Rattle.loop_parse.proofs.expression.outer.Goals as goal
 
 pub returns-then-is_beyond-clause-reads : goal.returns-then-is_beyond-clause-reads

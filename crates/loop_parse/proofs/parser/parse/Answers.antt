@@ -8,11 +8,13 @@ use Rattle.loop_syntax.specs.Tree.{ProgramTree, program_of}
 use Rattle.loop_parse.specs.declared.reader.Halt.{Halt}
 use Rattle.loop_parse.specs.declared.parser.ParseFault.{ParseFault}
 use Rattle.loop_parse.specs.Terms.{Token, seen, tokens_of}
-use Rattle.loop_parse.specs.Text.{Reads, TextFault, FirstTextFault, IsOnlyTree, IsCause, IsOnlyCause}
+use Rattle.loop_parse.specs.Text.{Reads, TextFault, FirstTextFault, IsOnlyTree, IsCause}
+use Rattle.loop_parse.specs.Text.{IsOnlyCause}
 use Rattle.loop_parse.specs.Parsing.{Finishes}
 use Rattle.loop_parse.specs.Reading as reading
 use Rattle.loop_parse.specs.Reading.{Fails, within}
-use Rattle.loop_parse.proofs.Texts.{finished_tree, finished_fault, halted_fault, only_tree, no_fault}
+use Rattle.loop_parse.proofs.Texts.{finished_tree, finished_fault, halted_fault, only_tree}
+use Rattle.loop_parse.proofs.Texts.{no_fault}
 use Rattle.loop_parse.proofs.parser.parse.Goals as goal
 
 pub lexemes-requires : goal.lexemes-requires

@@ -5,7 +5,8 @@ use Rattle.loop_syntax.specs.declared.statement.Stmt.TheOpen.{ParLoop-F}
 use Rattle.loop_syntax.specs.declared.statement.Stmt.TheOpen as layers
 use Rattle.loop_syntax.specs.declared.statement.Stmt.TheFolds.{fold-roll-Stmt, fold-roll-ParLoop}
 use Rattle.loop_syntax.specs.declared.statement.ParLoop.{ParLoop, roll-ParLoop}
-use Rattle.loop_syntax.specs.Tree.{node_of, nodes_of, Node, NPar, ParHead, Nodes, spelled, tree_of, carry_of, reduce_of, stmt_step, par_step}
+use Rattle.loop_syntax.specs.Tree.{node_of, nodes_of, Node, NPar, ParHead, Nodes, spelled, tree_of}
+use Rattle.loop_syntax.specs.Tree.{carry_of, reduce_of, stmt_step, par_step}
 use Rattle.loop_parse.specs.Terms.{seen}
 use Rattle.loop_parse.specs.Reading.{par_tail, block}
 use Rattle.loop_parse.proofs.Complete.{bind_at}

@@ -2,7 +2,8 @@ use Rattle.std.proofs.Common.{◌≡◌, ◌∙◌, ◌++◌, ◌∷◌, [], ap,
 use Rattle.loop_rules.specs.Declarations.{declared_in, declared_list}
 use Rattle.loop_rules.specs.Walk.{named}
 use Rattle.loop_rules.proofs.Walking.{ok_map}
-use Rattle.loop_rules.proofs.Declaring.{declared_if, declared_while, declared_loop, declared_par, pushed_two, named-append}
+use Rattle.loop_rules.proofs.Declaring.{declared_if, declared_while, declared_loop, declared_par}
+use Rattle.loop_rules.proofs.Declaring.{pushed_two, named-append}
 use Rattle.loop_rules.proofs.declaration.+declared.Goals as goal
 
 pub push_declared-returns-in_ok-push_all-in-If : goal.push_declared-returns-in_ok-push_all-in-If

@@ -1,8 +1,11 @@
-use Rattle.std.proofs.Common.{◌≡◌, ◌∙◌, ap, arith, ℕ, suc, take, vec_len, length, length-append, ◌++◌, ◌∷◌, []}
+use Rattle.std.proofs.Common.{◌≡◌, ◌∙◌, ap, arith, ℕ, suc, take, vec_len, length, length-append}
+use Rattle.std.proofs.Common.{◌++◌, ◌∷◌, []}
 use Rattle.loop_rules.specs.Search.{resolved_rules}
 use Rattle.loop_rules.specs.Sites.{Spot, site, Declares, in_loop, in_whole, in_list}
 use Rattle.loop_rules.specs.Walk.{spot_of}
-use Rattle.loop_rules.proofs.Walking.{two_parts, in_if, in_while, in_looped, list_found, list_stands, block_left, loop_left, popped, par_left, par_found, ok_map}
+use Rattle.loop_rules.proofs.Walking.{two_parts, in_if, in_while, in_looped, list_found}
+use Rattle.loop_rules.proofs.Walking.{list_stands, block_left, loop_left, popped, par_left}
+use Rattle.loop_rules.proofs.Walking.{par_found, ok_map}
 use Rattle.loop_rules.proofs.statement.+walk.Goals as goal
 
 pub in_block-returns : goal.in_block-returns

@@ -3,7 +3,8 @@ use Rattle.loop_rules.specs.declared.fault.Fault.{Fault}
 use Rattle.loop_rules.specs.Search.{lowest_at, lowest_in, resolved_rules}
 use Rattle.loop_rules.specs.declared.part.Part.TheVariants.{OfFunc}
 use Rattle.loop_rules.specs.Declarations.{declared_list}
-use Rattle.loop_rules.specs.Sites.{Spot, site, top, tables_of, func_spot, in_params, in_list, in_whole, spot_of_list, DeclaresAll, DeclaresFunc}
+use Rattle.loop_rules.specs.Sites.{Spot, site, top, tables_of, func_spot, in_params, in_list}
+use Rattle.loop_rules.specs.Sites.{in_whole, spot_of_list, DeclaresAll, DeclaresFunc}
 use Rattle.loop_rules.specs.Walk.{spot_of_params}
 use Rattle.loop_rules.proofs.Walking.{site_first, ok_map}
 use Rattle.loop_rules.proofs.Wholes.{after_params}

@@ -3,7 +3,8 @@ use Rattle.std.specs.Prelude.{Ok}
 use Rattle.schedule_core.specs.Apply.{Gives, SidesFit}
 use Rattle.schedule_core.specs.Effects.{can}
 use Rattle.schedule_core.proofs.Asked.{can_merge}
-use Rattle.schedule_core.proofs.Events.{gives_open, gives_claim, gives_arrive, gives_free, gives_finish}
+use Rattle.schedule_core.proofs.Events.{gives_open, gives_claim, gives_arrive, gives_free}
+use Rattle.schedule_core.proofs.Events.{gives_finish}
 use Rattle.schedule_core.proofs.applying.happen.Goals as goal
 
 pub returns-in-Ok : goal.returns-in-Ok

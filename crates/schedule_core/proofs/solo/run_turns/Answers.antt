@@ -8,7 +8,8 @@ use Rattle.schedule_core.specs.declared.lanes.Opened.{Opened}
 use Rattle.schedule_core.specs.declared.lanes.Tally.{Tally}
 use Rattle.schedule_core.specs.Lanes.{IsStage, after_turn}
 use Rattle.schedule_core.specs.Solo.{SoloRun}
-use Rattle.schedule_core.proofs.Soloing.{Running, running_first, running_fits, running_on, running_less, running_over}
+use Rattle.schedule_core.proofs.Soloing.{Running, running_first, running_fits, running_on}
+use Rattle.schedule_core.proofs.Soloing.{running_less, running_over}
 use Rattle.schedule_core.proofs.solo.run_turns.Goals as goal
 
 pub turns-init : goal.turns-init

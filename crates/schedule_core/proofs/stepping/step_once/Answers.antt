@@ -1,4 +1,5 @@
-use Rattle.schedule_core.proofs.Once.{told_pause, told_beat, told_asks, told_forks, told_arrived, told_halted, told_stuck}
+use Rattle.schedule_core.proofs.Once.{told_pause, told_beat, told_asks, told_forks, told_arrived}
+use Rattle.schedule_core.proofs.Once.{told_halted, told_stuck}
 use Rattle.schedule_core.proofs.stepping.step_once.Goals as goal
 
 pub returns-then-beats-eq0-clause-step : goal.returns-then-beats-eq0-clause-step

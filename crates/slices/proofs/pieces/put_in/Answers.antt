@@ -1,5 +1,6 @@
 use Rattle.std.proofs.Common.{arith, sym, ◌∙◌, ap, ◌<◌, length, is_some, to_z-of_z}
-use Rattle.slices.proofs.SpanLists.{same_set, first_around, put_at, count_put, passed_more, none_of_is_some}
+use Rattle.slices.proofs.SpanLists.{same_set, first_around, put_at, count_put, passed_more}
+use Rattle.slices.proofs.SpanLists.{none_of_is_some}
 use Rattle.slices.proofs.pieces.put_in.Goals as goal
 
 pub returns-then-put-clause-found : goal.returns-then-put-clause-found

@@ -1,7 +1,8 @@
 use Rattle.std.proofs.Common.{◌≡◌, ◌<◌, ◌∙◌, arith, ap, sym, length, get_or, cond, None, ℕ}
 use Rattle.std.specs.Prelude.{nat_lt}
 use Rattle.slices.specs.Spans.{span_at}
-use Rattle.slices.proofs.Splits.{same_left, kept_more, given_more, reaching_more, reaching_stopped, kept_stopped, sides_count, left_more, left_after, on_err}
+use Rattle.slices.proofs.Splits.{same_left, kept_more, given_more, reaching_more, reaching_stopped}
+use Rattle.slices.proofs.Splits.{kept_stopped, sides_count, left_more, left_after, on_err}
 use Rattle.slices.proofs.pieces.split_each.Goals as goal
 
 pub loop-span-preserved : goal.loop-span-preserved

@@ -1,4 +1,5 @@
-use Rattle.std.proofs.Common.{◌≡◌, ◌∙◌, ◌-◌, ◌+◌, suc, ap, sym, subst, arith, length, [], ◌++◌, ◌∷◌, SFits, w64, rules}
+use Rattle.std.proofs.Common.{◌≡◌, ◌∙◌, ◌-◌, ◌+◌, suc, ap, sym, subst, arith, length, [], ◌++◌, ◌∷◌}
+use Rattle.std.proofs.Common.{SFits, w64, rules}
 use Rattle.std.proofs.lemmas.Result.{err_from_is_err_and}
 use Rattle.table_text.specs.Reading.{tokens_at, read, filled, Filling, TokenMisfits}
 use Rattle.table_text.specs.Wanted.{ANumber, misfit}

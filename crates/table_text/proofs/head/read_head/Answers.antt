@@ -1,7 +1,8 @@
 use Rattle.std.proofs.Common.{◌∙◌, sym, length}
 use Rattle.std.proofs.lemmas.Result.{err_from_is_err_and}
 use Rattle.table_text.specs.Reading.{tokens_at, has_name}
-use Rattle.table_text.proofs.Steps.{read-word, read-no_word, read-name, read-no_name, read-rows, read-no_rows, read-cols, read-no_cols, OnFault-any, OnFault-map}
+use Rattle.table_text.proofs.Steps.{read-word, read-no_word, read-name, read-no_name, read-rows}
+use Rattle.table_text.proofs.Steps.{read-no_rows, read-cols, read-no_cols, OnFault-any, OnFault-map}
 use Rattle.table_text.proofs.head.read_head.Goals as goal
 
 pub returns-then-not-is_table_word-clause-fault : goal.returns-then-not-is_table_word-clause-fault

@@ -1,10 +1,12 @@
-use Rattle.std.proofs.Common.{◌≡◌, ◌⊎◌, ◌∙◌, ℕ, List, sym, inl, inr, refl, length, [], Ok, Err, Result}
+use Rattle.std.proofs.Common.{◌≡◌, ◌⊎◌, ◌∙◌, ℕ, List, sym, inl, inr, refl, length, [], Ok, Err}
+use Rattle.std.proofs.Common.{Result}
 use Rattle.tp_value.specs.declared.values.Table.{Table}
 use Rattle.table_text.specs.declared.fault.TableFault.{TableFault}
 use Rattle.table_text.specs.Token.{tokens_of}
 use Rattle.table_text.specs.TablesText.{TablesOf, FirstTableFault}
 use Rattle.table_text.specs.Reading.{read, Between}
-use Rattle.table_text.proofs.Soundness.{TablesOf-read, FirstTableFault-read, ok_same, err_same, err_no_ok}
+use Rattle.table_text.proofs.Soundness.{TablesOf-read, FirstTableFault-read, ok_same, err_same}
+use Rattle.table_text.proofs.Soundness.{err_no_ok}
 use Rattle.table_text.proofs.Completeness.{read-TablesOf, read-FirstTableFault}
 use Rattle.table_text.proofs.laws.text_is_read_one_way.Goals as goal
 

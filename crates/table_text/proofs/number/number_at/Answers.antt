@@ -1,9 +1,11 @@
-use Rattle.std.proofs.Common.{arith, sym, ap, ◌∙◌, ◌+◌, ◌<◌, eqb, get_or, inl, inr, SFits, w64, rules}
+use Rattle.std.proofs.Common.{arith, sym, ap, ◌∙◌, ◌+◌, ◌<◌, eqb, get_or, inl, inr, SFits, w64}
+use Rattle.std.proofs.Common.{rules}
 use Rattle.std.proofs.lemmas.Int.{to_z-of_z}
 use Rattle.table_text.specs.Token.{is_64_bits, signed_value}
 use Rattle.table_text.proofs.Numbers.{no_digits, stops_there, takes_number, too_great}
 use Rattle.table_text.proofs.number.number_at.Goals as goal
-use Rattle.table_text.proofs.number.number_at.Goals.{then-digits-first-via-then-digits-first, then-digits-first-via-else-digits-first+then-goes_on}
+use Rattle.table_text.proofs.number.number_at.Goals.{then-digits-first-via-then-digits-first}
+use Rattle.table_text.proofs.number.number_at.Goals.{then-digits-first-via-else-digits-first+then-goes_on}
 
 pub returns-then-digits-first-clause-none : goal.returns-then-digits-first-clause-none
 returns-then-digits-first-clause-none c =

@@ -4,7 +4,8 @@ use Rattle.table_text.specs.declared.fault.TableFault.{TableFault}
 use Rattle.table_text.specs.declared.fault.TableFault.TheVariants.{Form, Cells, Repeated, NoMemory}
 use Rattle.table_text.specs.Token.{tokens_of}
 use Rattle.table_text.specs.Reading.{read, Between, OnFault}
-use Rattle.table_text.proofs.Soundness.{TablesOf-read, FirstTableFault-read, ok_same, err_same, err_no_ok}
+use Rattle.table_text.proofs.Soundness.{TablesOf-read, FirstTableFault-read, ok_same, err_same}
+use Rattle.table_text.proofs.Soundness.{err_no_ok}
 use Rattle.table_text.proofs.Completeness.{read-TablesOf, read-FirstTableFault}
 use Rattle.table_text.proofs.reading.read_tables.Goals as goal
 

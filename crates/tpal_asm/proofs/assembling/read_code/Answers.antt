@@ -1,4 +1,5 @@
-use Rattle.std.proofs.Common.{◌≡◌, ◌+◌, ℕ, List, [], ◌∷◌, ◌++◌, length, refl, sym, ap, subst, ◌∙◌, eq-eqb, arith}
+use Rattle.std.proofs.Common.{◌≡◌, ◌+◌, ℕ, List, [], ◌∷◌, ◌++◌, length, refl, sym, ap, subst, ◌∙◌}
+use Rattle.std.proofs.Common.{eq-eqb, arith}
 use Rattle.std.proofs.lemmas.Bool.{eqb-true, false≢true}
 use Rattle.tpal_syntax.specs.declared.blocks.Block.{Block}
 use Rattle.tpal_syntax.specs.declared.blocks.CodeTable.{CodeTable}
@@ -9,7 +10,8 @@ use Rattle.tpal_asm.specs.Labels.{heads}
 use Rattle.tpal_asm.specs.Stages.{Outside, IsWhole}
 use Rattle.tpal_asm.specs.Faults.{FirstFault, OnFault, IsWrong}
 use Rattle.tpal_asm.specs.Steps.{seen}
-use Rattle.tpal_asm.proofs.Loops.{led-start, led-step, led-front, led-fault, led-missing, led-right, led-code, blocks-seen, one_line, if_both, end_fault}
+use Rattle.tpal_asm.proofs.Loops.{led-start, led-step, led-front, led-fault, led-missing, led-right}
+use Rattle.tpal_asm.proofs.Loops.{led-code, blocks-seen, one_line, if_both, end_fault}
 use Rattle.tpal_asm.proofs.assembling.read_code.Goals as goal
 
 empty : (rest : List ℕ) → length rest ≡ 0 → rest ≡ []

@@ -1,4 +1,5 @@
-use Rattle.std.proofs.Common.{◌≡◌, ℕ, List, ◌∷◌, take, drop, get_or, sym, ap, ◌∙◌, add-one, arith, eq-eqb}
+use Rattle.std.proofs.Common.{◌≡◌, ℕ, List, ◌∷◌, take, drop, get_or, sym, ap, ◌∙◌, add-one, arith}
+use Rattle.std.proofs.Common.{eq-eqb}
 use Rattle.tpal_asm.specs.Lines.{pieces}
 use Rattle.tpal_asm.proofs.Pieces.{pieces-at, pieces-none, take-line}
 use Rattle.tpal_asm.proofs.lines.next_line.Goals as goal

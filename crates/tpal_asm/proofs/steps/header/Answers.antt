@@ -1,4 +1,5 @@
-use Rattle.std.proofs.Common.{◌≡◌, [], ℕ, List, true, false, length, refl, sym, ap, ◌∙◌, subst, arith}
+use Rattle.std.proofs.Common.{◌≡◌, [], ℕ, List, true, false, length, refl, sym, ap, ◌∙◌, subst}
+use Rattle.std.proofs.Common.{arith}
 use Rattle.std.proofs.lemmas.Bool.{lt-ltb, le-ltb}
 use Rattle.tpal_asm.specs.Steps.{NoteFits, NoteUnfit}
 use Rattle.tpal_asm.specs.Faults.{IsWrong}
@@ -6,7 +7,8 @@ use Rattle.tpal_syntax.specs.declared.instructions.Instr.{Instr}
 use Rattle.tpal_syntax.specs.Conditions.{block_names}
 use Rattle.tpal_asm.specs.Labels.{heads, names_of, place_of}
 use Rattle.tpal_asm.specs.Stages.{Outside, Inside, Says, is_among}
-use Rattle.tpal_asm.proofs.HeaderSteps.{header_unread, header_right, header_formed, header_repeated, header_many, header_labelled}
+use Rattle.tpal_asm.proofs.HeaderSteps.{header_unread, header_right, header_formed, header_repeated}
+use Rattle.tpal_asm.proofs.HeaderSteps.{header_many, header_labelled}
 use Rattle.tpal_asm.proofs.HeaderFaults.{note_wrong, each_line}
 use Rattle.tpal_asm.proofs.LabelsFind.{labels-find}
 use Rattle.tpal_asm.proofs.Outside.{among_place, length-block_names}

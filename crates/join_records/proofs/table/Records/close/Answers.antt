@@ -1,7 +1,8 @@
 use Rattle.std.proofs.Common.{◌∙◌, ap, rules, arith}
 use Rattle.join_records.specs.Words.{bit}
 use Rattle.join_records.specs.Views.{saw_finish}
-use Rattle.join_records.proofs.Calls.{last_total, last_here, last_before, saw_left, saw_right, byte_bit, bit_small}
+use Rattle.join_records.proofs.Calls.{last_total, last_here, last_before, saw_left, saw_right}
+use Rattle.join_records.proofs.Calls.{byte_bit, bit_small}
 use Rattle.join_records.proofs.Joining.{joins}
 use Rattle.join_records.proofs.Seats.{settles}
 use Rattle.join_records.proofs.table.Records.close.Goals as goal

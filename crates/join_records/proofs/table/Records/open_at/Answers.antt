@@ -5,7 +5,8 @@ use Rattle.join_records.specs.declared.views.Grip.TheVariants.{Filling}
 use Rattle.tpal_machine.specs.declared.ends.End.TheVariants.{At}
 use Rattle.tpal_machine.specs.declared.ends.SideName.TheVariants.{Left}
 use Rattle.join_records.specs.declared.views.Stage.TheVariants.{Steady}
-use Rattle.join_records.specs.Views.{in_hand, NoneMet, opened_view, one_opened, with_ends, with_hand, read, holds_end}
+use Rattle.join_records.specs.Views.{in_hand, NoneMet, opened_view, one_opened, with_ends}
+use Rattle.join_records.specs.Views.{with_hand, read, holds_end}
 use Rattle.join_records.proofs.Functions.{dropped_twice}
 use Rattle.join_records.proofs.Calls.{filled_here, filled_none_met}
 use Rattle.join_records.proofs.table.Records.open_at.Goals as goal

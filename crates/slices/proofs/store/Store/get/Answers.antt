@@ -1,4 +1,5 @@
-use Rattle.std.proofs.Common.{◌≡◌, ◌<◌, ◌∙◌, Some, ap, sym, arith, rules, length, get_or, to_z, of_z, w64}
+use Rattle.std.proofs.Common.{◌≡◌, ◌<◌, ◌∙◌, Some, ap, sym, arith, rules, length, get_or, to_z}
+use Rattle.std.proofs.Common.{of_z, w64}
 use Rattle.slices.specs.Stored.{store_at}
 use Rattle.slices.proofs.Flats.{flat_within, flat_past}
 use Rattle.slices.proofs.store.Store.get.Goals as goal

@@ -3,7 +3,8 @@ use Rattle.std.specs.Prelude.{IsSome}
 use Rattle.slices.specs.Spans.{AreApart}
 use Rattle.slices.specs.Stored.{store_at, is_owned, stored}
 use Rattle.slices.specs.Holding.{SameSize, CommonCell}
-use Rattle.slices.proofs.Seen.{seen, opened_view, seen_size, seen_same, common_seen, none_common, reached_inside, apart_sum, same_size, no_common, joined_holdings}
+use Rattle.slices.proofs.Seen.{seen, opened_view, seen_size, seen_same, common_seen, none_common}
+use Rattle.slices.proofs.Seen.{reached_inside, apart_sum, same_size, no_common, joined_holdings}
 use Rattle.slices.proofs.table.Held.append.Goals as goal
 
 pub returns-then-overlaps-clause-cause : goal.returns-then-overlaps-clause-cause

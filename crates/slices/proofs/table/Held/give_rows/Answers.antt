@@ -1,4 +1,5 @@
-use Rattle.std.proofs.Common.{◌≡◌, ◌<◌, ◌*◌, ◌+◌, ◌∙◌, ap, sym, subst, refl, true, cond, not, None, to_z-of_z}
+use Rattle.std.proofs.Common.{◌≡◌, ◌<◌, ◌*◌, ◌+◌, ◌∙◌, ap, sym, subst, refl, true, cond, not, None}
+use Rattle.std.proofs.Common.{to_z-of_z}
 use Rattle.std.specs.Prelude.{pos, int_lt}
 use Rattle.slices.specs.Pieces.{piece_at}
 use Rattle.slices.specs.Stored.{store_at, is_owned}

@@ -1,11 +1,13 @@
-use Rattle.std.proofs.Common.{◌≡◌, ◌+◌, ◌-◌, ◌≤◌, ◌<◌, ◌++◌, ◌∷◌, [], List, get_or, set, replicate, length, length-append, subst, sym, ap, ◌∙◌, arith}
+use Rattle.std.proofs.Common.{◌≡◌, ◌+◌, ◌-◌, ◌≤◌, ◌<◌, ◌++◌, ◌∷◌, [], List, get_or, set, replicate}
+use Rattle.std.proofs.Common.{length, length-append, subst, sym, ap, ◌∙◌, arith}
 use Rattle.std.specs.Prelude.{All, Some}
 use Rattle.std.proofs.lemmas.List.{length-set, length-replicate}
 use Rattle.stack_marks.specs.declared.links.Link.{Link}
 use Rattle.stack_marks.specs.Linked.{marks_from, mark_of, bare, AreLinked}
 use Rattle.stack_marks.proofs.Linking.{padded}
 use Rattle.stack_marks.proofs.Following.{opened}
-use Rattle.stack_marks.proofs.Chains.{link_any, with_newer, newest_stands, first_added, later_added, padded_linked}
+use Rattle.stack_marks.proofs.Chains.{link_any, with_newer, newest_stands, first_added, later_added}
+use Rattle.stack_marks.proofs.Chains.{padded_linked}
 use Rattle.stack_marks.proofs.links.Links.add.Goals as goal
 
 pub invariant_of-self : goal.invariant_of-self

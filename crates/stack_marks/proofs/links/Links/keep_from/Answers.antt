@@ -2,7 +2,8 @@ use Rattle.std.proofs.Common.{◌≡◌, ◌^◌, length, subst, sym, ap, ◌∙
 use Rattle.std.specs.Prelude.{Some, slice_get, filter, nat_le, []}
 use Rattle.stack_marks.specs.Stacks.{InOrder}
 use Rattle.stack_marks.specs.Links.{from_on}
-use Rattle.stack_marks.proofs.Rising.{no_first, first_from, first_gone, below_gone, shorter, without_first}
+use Rattle.stack_marks.proofs.Rising.{no_first, first_from, first_gone, below_gone, shorter}
+use Rattle.stack_marks.proofs.Rising.{without_first}
 use Rattle.stack_marks.proofs.links.Links.keep_from.Goals as goal
 
 pub returns-then-mark-low : goal.returns-then-mark-low

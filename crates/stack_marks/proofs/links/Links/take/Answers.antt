@@ -1,4 +1,5 @@
-use Rattle.std.proofs.Common.{◌≡◌, ◌-◌, ◌<◌, List, get_or, set, length, subst, sym, ap, ◌∙◌, arith, refl, false}
+use Rattle.std.proofs.Common.{◌≡◌, ◌-◌, ◌<◌, List, get_or, set, length, subst, sym, ap, ◌∙◌, arith}
+use Rattle.std.proofs.Common.{refl, false}
 use Rattle.std.specs.Prelude.{Any}
 use Rattle.std.specs.Vec.{vec_capacity}
 use Rattle.std.proofs.lemmas.List.{length-set}
@@ -6,7 +7,8 @@ use Rattle.stack_marks.specs.declared.links.Link.{Link}
 use Rattle.stack_marks.specs.Links.{without}
 use Rattle.stack_marks.specs.Linked.{bare, AreLinked}
 use Rattle.stack_marks.proofs.Following.{opened}
-use Rattle.stack_marks.proofs.Chains.{found, link_any, alone, oldest_gone, newest_gone, between_gone, neighbours, with_newer, with_older}
+use Rattle.stack_marks.proofs.Chains.{found, link_any, alone, oldest_gone, newest_gone}
+use Rattle.stack_marks.proofs.Chains.{between_gone, neighbours, with_newer, with_older}
 use Rattle.stack_marks.proofs.links.Links.take.Goals as goal
 
 pub overflow_sub-index : goal.overflow_sub-index
