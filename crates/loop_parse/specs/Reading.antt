@@ -197,9 +197,18 @@ primary_at inner (Literal n) t ts = Ok (TInt n t.place, ts)
 primary_at inner (Name x) t ts = name_rest inner (record { text = x; place = t.place }) ts
 primary_at inner (Spelling s) t ts = fixed_at inner s t ts
 
+-- whether a bracket opens
+abbrev pub opens : List Token → Bool
+opens [] = false
+opens (t ∷ ts) = is_fixed OpenRound t.kind
+
 abbrev pub primary_of : Reader Tree → Reader Tree
 primary_of inner [] = Err (Form [])
 primary_of inner (t ∷ ts) = primary_at inner t.kind t ts
+
+-- what was read after a minus, negated
+abbrev pub opposite : Place → Reply Tree → Reply Tree
+opposite at read = read >>= λ e. Ok (TNeg e.0 at, e.1)
 
 abbrev pub unary_of : Reader Tree → Reader Tree
 unary_of inner [] = Err (Form [])

@@ -1,13 +1,13 @@
 // Expressions.
 
 ghost use Rattle.std.specs.Prelude.{◌≡◌, ℕ, ◌+◌, ◌<◌, ◌≤◌, length, IfOk, OnOk, [], ◌∷◌, ◌++◌, take};
-ghost use Rattle.std.specs.Prelude.{drop, ◌-◌, ◌&&◌, nat_le};
+ghost use Rattle.std.specs.Prelude.{drop, ◌-◌, ◌&&◌, nat_le, false};
 ghost use Rattle.loop_syntax.specs.Tree.{spelled, tree_of, TBin, TNeg, TCell};
 ghost use Rattle.loop_parse.specs.Terms.{saw, seen};
 ghost use Rattle.loop_parse.specs.Reading.{Gives, is_fixed, expect, name, primary, unary, product};
 ghost use Rattle.loop_parse.specs.Reading.{sum, expr, sum_op_of, product_op_of, compare_op_of};
 ghost use Rattle.loop_parse.specs.Reading.{nested, name_rest, name_cell, sized, outer, window};
-ghost use Rattle.loop_parse.specs.Reading.{is_empty};
+ghost use Rattle.loop_parse.specs.Reading.{is_empty, chain_rest, opens, opposite};
 
 use crate::reader::{Halt, expect, is, name, next};
 use crate::terminal::{Fixed, Lexeme, Terminal};
@@ -34,7 +34,7 @@ pub(crate) fn outer<'a>(
             if is_beyond(source, tokens, left) {
                 return Err(Halt::Deep(last_looked_at(source, tokens)));
             }
-            Ok((found, widened(source, tokens, left)))
+            Ok((Box::into_inner(found), widened(source, tokens, left)))
         }
         Err(Halt::Form(left)) => {
             if is_beyond(source, tokens, left) {
@@ -113,19 +113,39 @@ fn expr<'a>(
     alloc: Global,
     source: &[u8],
     tokens: &'a [Lexeme],
-) -> Result<(Expr, &'a [Lexeme]), Halt<'a>>
+) -> Result<(Box<Expr>, &'a [Lexeme]), Halt<'a>>
     ensures reads { (n : ℕ) → length (seen source.now tokens.now) ≤ n →
-        Gives source.now (λ x. (tree_of x.0, seen source.now x.1.now)) result
+        Gives source.now (λ x. (tree_of x.0.value, seen source.now x.1.now)) result
         (expr n (seen source.now tokens.now)) }
     ensures shorter { IfOk result (λ x.
         length (seen source.now x.1.now) < length (seen source.now tokens.now)) }
 {
     let (left, rest) = sum(alloc, source, tokens)?;
-    let Some((first, after)) = next(source, rest) else {
-        return Ok((left, rest));
+    compared(alloc, source, left, rest)
+}
+
+/// What stands after a sum: a comparison with another one, or nothing. This and its like below are
+/// apart from what reads the first operand: one reader of each level stands on the stack for every
+/// bracket that is open.
+#[cycle(expression)]
+#[inline(never)]
+fn compared<'a>(
+    alloc: Global,
+    source: &[u8],
+    left: Box<Expr>,
+    tokens: &'a [Lexeme],
+) -> Result<(Box<Expr>, &'a [Lexeme]), Halt<'a>>
+    ensures reads { (n : ℕ) → length (seen source.now tokens.now) ≤ n →
+        Gives source.now (λ x. (tree_of x.0.value, seen source.now x.1.now)) result
+        (chain_rest (sum n) compare_op_of 1 (tree_of left.value) (seen source.now tokens.now)) }
+    ensures shorter { IfOk result (λ x.
+        length (seen source.now x.1.now) ≤ length (seen source.now tokens.now)) }
+{
+    let Some((first, after)) = next(source, tokens) else {
+        return Ok((left, tokens));
     };
     let Some(op) = compare_op(source, first) else {
-        return Ok((left, rest));
+        return Ok((left, tokens));
     };
     let (right, rest) = sum(alloc, source, after)?;
     Ok((binary(alloc, op, first.place, left, right)?, rest))
@@ -133,13 +153,14 @@ fn expr<'a>(
 
 /// An expression inside another one.
 #[cycle(expression)]
+#[inline(always)]
 fn inner<'a>(
     alloc: Global,
     source: &[u8],
     tokens: &'a [Lexeme],
-) -> Result<(Expr, &'a [Lexeme]), Halt<'a>>
+) -> Result<(Box<Expr>, &'a [Lexeme]), Halt<'a>>
     ensures reads { (n : ℕ) → length (seen source.now tokens.now) < n →
-        Gives source.now (λ x. (tree_of x.0, seen source.now x.1.now)) result
+        Gives source.now (λ x. (tree_of x.0.value, seen source.now x.1.now)) result
         (nested n (seen source.now tokens.now)) }
     ensures shorter { IfOk result (λ x.
         length (seen source.now x.1.now) < length (seen source.now tokens.now)) }
@@ -149,25 +170,46 @@ fn inner<'a>(
 
 /// Products, added and subtracted.
 #[cycle(expression)]
-#[tactic(auto, using(crate::proofs::Chains::chain_steps), unfolding(crate::specs::Reading::sum))]
+#[tactic(auto, unfolding(crate::specs::Reading::sum))]
 fn sum<'a>(
     alloc: Global,
     source: &[u8],
     tokens: &'a [Lexeme],
-) -> Result<(Expr, &'a [Lexeme]), Halt<'a>>
+) -> Result<(Box<Expr>, &'a [Lexeme]), Halt<'a>>
     ensures reads { (n : ℕ) → length (seen source.now tokens.now) ≤ n →
-        Gives source.now (λ x. (tree_of x.0, seen source.now x.1.now)) result
+        Gives source.now (λ x. (tree_of x.0.value, seen source.now x.1.now)) result
         (sum n (seen source.now tokens.now)) }
     ensures shorter { IfOk result (λ x.
         length (seen source.now x.1.now) < length (seen source.now tokens.now)) }
 {
-    let (mut left, mut rest) = product(alloc, source, tokens)?;
-    while let Some((first, after)) = next(source, rest) {
-        let Some(op) = sum_op(source, first) else {
+    let (first, rest) = product(alloc, source, tokens)?;
+    terms(alloc, source, first, rest)
+}
+
+/// What stands after the first product: products, added and subtracted.
+#[cycle(expression)]
+#[inline(never)]
+#[tactic(auto, using(crate::proofs::Chains::chain_steps))]
+fn terms<'a>(
+    alloc: Global,
+    source: &[u8],
+    first: Box<Expr>,
+    tokens: &'a [Lexeme],
+) -> Result<(Box<Expr>, &'a [Lexeme]), Halt<'a>>
+    ensures reads { (n m : ℕ) → length (seen source.now tokens.now) ≤ n →
+        length (seen source.now tokens.now) ≤ m →
+        Gives source.now (λ x. (tree_of x.0.value, seen source.now x.1.now)) result
+        (chain_rest (product n) sum_op_of m (tree_of first.value) (seen source.now tokens.now)) }
+    ensures shorter { IfOk result (λ x.
+        length (seen source.now x.1.now) ≤ length (seen source.now tokens.now)) }
+{
+    let (mut left, mut rest) = (first, tokens);
+    while let Some((token, after)) = next(source, rest) {
+        let Some(op) = sum_op(source, token) else {
             break;
         };
         let (right, more) = product(alloc, source, after)?;
-        left = binary(alloc, op, first.place, left, right)?;
+        left = binary(alloc, op, token.place, left, right)?;
         rest = more;
     }
     Ok((left, rest))
@@ -175,25 +217,46 @@ fn sum<'a>(
 
 /// Factors, multiplied and divided.
 #[cycle(expression)]
-#[tactic(auto, using(crate::proofs::Chains::chain_steps), unfolding(crate::specs::Reading::product))]
+#[tactic(auto, unfolding(crate::specs::Reading::product))]
 fn product<'a>(
     alloc: Global,
     source: &[u8],
     tokens: &'a [Lexeme],
-) -> Result<(Expr, &'a [Lexeme]), Halt<'a>>
+) -> Result<(Box<Expr>, &'a [Lexeme]), Halt<'a>>
     ensures reads { (n : ℕ) → length (seen source.now tokens.now) ≤ n →
-        Gives source.now (λ x. (tree_of x.0, seen source.now x.1.now)) result
+        Gives source.now (λ x. (tree_of x.0.value, seen source.now x.1.now)) result
         (product n (seen source.now tokens.now)) }
     ensures shorter { IfOk result (λ x.
         length (seen source.now x.1.now) < length (seen source.now tokens.now)) }
 {
-    let (mut left, mut rest) = unary(alloc, source, tokens)?;
-    while let Some((first, after)) = next(source, rest) {
-        let Some(op) = product_op(source, first) else {
+    let (first, rest) = unary(alloc, source, tokens)?;
+    factors(alloc, source, first, rest)
+}
+
+/// What stands after the first factor: factors, multiplied and divided.
+#[cycle(expression)]
+#[inline(never)]
+#[tactic(auto, using(crate::proofs::Chains::chain_steps))]
+fn factors<'a>(
+    alloc: Global,
+    source: &[u8],
+    first: Box<Expr>,
+    tokens: &'a [Lexeme],
+) -> Result<(Box<Expr>, &'a [Lexeme]), Halt<'a>>
+    ensures reads { (n m : ℕ) → length (seen source.now tokens.now) ≤ n →
+        length (seen source.now tokens.now) ≤ m →
+        Gives source.now (λ x. (tree_of x.0.value, seen source.now x.1.now)) result
+        (chain_rest (unary n) product_op_of m (tree_of first.value) (seen source.now tokens.now)) }
+    ensures shorter { IfOk result (λ x.
+        length (seen source.now x.1.now) ≤ length (seen source.now tokens.now)) }
+{
+    let (mut left, mut rest) = (first, tokens);
+    while let Some((token, after)) = next(source, rest) {
+        let Some(op) = product_op(source, token) else {
             break;
         };
         let (right, more) = unary(alloc, source, after)?;
-        left = binary(alloc, op, first.place, left, right)?;
+        left = binary(alloc, op, token.place, left, right)?;
         rest = more;
     }
     Ok((left, rest))
@@ -206,9 +269,9 @@ fn unary<'a>(
     alloc: Global,
     source: &[u8],
     tokens: &'a [Lexeme],
-) -> Result<(Expr, &'a [Lexeme]), Halt<'a>>
+) -> Result<(Box<Expr>, &'a [Lexeme]), Halt<'a>>
     ensures reads { (n : ℕ) → length (seen source.now tokens.now) ≤ n →
-        Gives source.now (λ x. (tree_of x.0, seen source.now x.1.now)) result
+        Gives source.now (λ x. (tree_of x.0.value, seen source.now x.1.now)) result
         (unary n (seen source.now tokens.now)) }
     ensures shorter { IfOk result (λ x.
         length (seen source.now x.1.now) < length (seen source.now tokens.now)) }
@@ -217,10 +280,28 @@ fn unary<'a>(
         return Err(Halt::Form(tokens));
     };
     if is(source, first, Fixed::Minus) {
-        let (factor, rest) = unary(alloc, source, after)?;
-        return Ok((negated(alloc, factor, first.place)?, rest));
+        return opposite(alloc, source, first.place, after);
     }
     primary(alloc, source, tokens)
+}
+
+/// The factor after a minus, negated.
+#[cycle(expression)]
+#[inline(never)]
+fn opposite<'a>(
+    alloc: Global,
+    source: &[u8],
+    place: Place,
+    tokens: &'a [Lexeme],
+) -> Result<(Box<Expr>, &'a [Lexeme]), Halt<'a>>
+    ensures reads { (n : ℕ) → length (seen source.now tokens.now) ≤ n →
+        Gives source.now (λ x. (tree_of x.0.value, seen source.now x.1.now)) result
+        (opposite place (unary n (seen source.now tokens.now))) }
+    ensures shorter { IfOk result (λ x.
+        length (seen source.now x.1.now) < length (seen source.now tokens.now)) }
+{
+    let (factor, rest) = unary(alloc, source, tokens)?;
+    Ok((negated(alloc, factor, place)?, rest))
 }
 
 /// A literal, a variable, a cell, a table's size or an expression in brackets.
@@ -230,9 +311,36 @@ fn primary<'a>(
     alloc: Global,
     source: &[u8],
     tokens: &'a [Lexeme],
-) -> Result<(Expr, &'a [Lexeme]), Halt<'a>>
+) -> Result<(Box<Expr>, &'a [Lexeme]), Halt<'a>>
     ensures reads { (n : ℕ) → length (seen source.now tokens.now) ≤ n →
-        Gives source.now (λ x. (tree_of x.0, seen source.now x.1.now)) result
+        Gives source.now (λ x. (tree_of x.0.value, seen source.now x.1.now)) result
+        (primary n (seen source.now tokens.now)) }
+    ensures shorter { IfOk result (λ x.
+        length (seen source.now x.1.now) < length (seen source.now tokens.now)) }
+{
+    let Some((first, after)) = next(source, tokens) else {
+        return Err(Halt::Form(tokens));
+    };
+    if !is(source, first, Fixed::OpenRound) {
+        return atom(alloc, source, tokens);
+    }
+    let (found, rest) = inner(alloc, source, after)?;
+    let (_close, rest) = expect(source, rest, Fixed::CloseRound)?;
+    Ok((found, rest))
+}
+
+/// A literal, a variable, a cell or a table's size.
+#[cycle(expression)]
+#[inline(never)]
+#[tactic(auto, unfolding(crate::specs::Reading::primary))]
+fn atom<'a>(
+    alloc: Global,
+    source: &[u8],
+    tokens: &'a [Lexeme],
+) -> Result<(Box<Expr>, &'a [Lexeme]), Halt<'a>>
+    ensures reads { (n : ℕ) → length (seen source.now tokens.now) ≤ n →
+        opens (seen source.now tokens.now) ≡ false →
+        Gives source.now (λ x. (tree_of x.0.value, seen source.now x.1.now)) result
         (primary n (seen source.now tokens.now)) }
     ensures shorter { IfOk result (λ x.
         length (seen source.now x.1.now) < length (seen source.now tokens.now)) }
@@ -241,20 +349,15 @@ fn primary<'a>(
         return Err(Halt::Form(tokens));
     };
     match first.terminal {
-        Terminal::Literal(value) => Ok((Expr::Int(value, first.place), after)),
+        Terminal::Literal(value) => Ok((node(alloc, Expr::Int(value, first.place))?, after)),
         Terminal::Name => cell_or_variable(alloc, source, tokens),
-        Terminal::Fixed(Fixed::OpenRound) => {
-            let (found, rest) = inner(alloc, source, after)?;
-            let (_close, rest) = expect(source, rest, Fixed::CloseRound)?;
-            Ok((found, rest))
-        }
         Terminal::Fixed(Fixed::Rows) => {
             let (table, rest) = sized(alloc, source, after)?;
-            Ok((Expr::Rows(table), rest))
+            Ok((node(alloc, Expr::Rows(table))?, rest))
         }
         Terminal::Fixed(Fixed::Cols) => {
             let (table, rest) = sized(alloc, source, after)?;
-            Ok((Expr::Cols(table), rest))
+            Ok((node(alloc, Expr::Cols(table))?, rest))
         }
         Terminal::Fixed(_) => Err(Halt::Form(tokens)),
     }
@@ -262,13 +365,14 @@ fn primary<'a>(
 
 /// A name, with the two indexes of a cell or alone.
 #[cycle(expression)]
+#[inline(never)]
 fn cell_or_variable<'a>(
     alloc: Global,
     source: &[u8],
     tokens: &'a [Lexeme],
-) -> Result<(Expr, &'a [Lexeme]), Halt<'a>>
+) -> Result<(Box<Expr>, &'a [Lexeme]), Halt<'a>>
     ensures reads { (n : ℕ) → length (seen source.now tokens.now) ≤ n →
-        Gives source.now (λ x. (tree_of x.0, seen source.now x.1.now)) result
+        Gives source.now (λ x. (tree_of x.0.value, seen source.now x.1.now)) result
         (name_cell (nested n) (seen source.now tokens.now)) }
     ensures shorter { IfOk result (λ x.
         length (seen source.now x.1.now) < length (seen source.now tokens.now)) }
@@ -284,18 +388,18 @@ fn name_rest<'a>(
     source: &[u8],
     name: Name,
     tokens: &'a [Lexeme],
-) -> Result<(Expr, &'a [Lexeme]), Halt<'a>>
+) -> Result<(Box<Expr>, &'a [Lexeme]), Halt<'a>>
     ensures reads { (n : ℕ) → length (seen source.now tokens.now) < n →
-        Gives source.now (λ x. (tree_of x.0, seen source.now x.1.now)) result
+        Gives source.now (λ x. (tree_of x.0.value, seen source.now x.1.now)) result
         (name_rest (nested n) (spelled name) (seen source.now tokens.now)) }
     ensures shorter { IfOk result (λ x.
         length (seen source.now x.1.now) ≤ length (seen source.now tokens.now)) }
 {
     let Some((first, after)) = next(source, tokens) else {
-        return Ok((Expr::Var(name), tokens));
+        return Ok((node(alloc, Expr::Var(name))?, tokens));
     };
     if !is(source, first, Fixed::OpenSquare) {
-        return Ok((Expr::Var(name), tokens));
+        return Ok((node(alloc, Expr::Var(name))?, tokens));
     }
     let (row, rest) = inner(alloc, source, after)?;
     let (_close, rest) = expect(source, rest, Fixed::CloseSquare)?;
@@ -361,31 +465,37 @@ fn product_op(source: &[u8], token: Lexeme) -> Option<BinOp>
     }
 }
 
-fn negated(alloc: Global, inner: Expr, place: Place) -> Result<Expr, AllocError>
-    ensures { IfOk result (λ e. tree_of e ≡ TNeg (tree_of inner) place) }
+/// A node of a tree. Trees go from reader to reader in boxes: one reader of each level stands on
+/// the stack for every bracket that is open.
+fn node(alloc: Global, tree: Expr) -> Result<Box<Expr>, AllocError>
+    ensures { IfOk result (λ e. tree_of e.value ≡ tree_of tree) }
 {
-    let inner = Box::new(alloc, inner)?;
-    Ok(Expr::Neg(inner, place))
+    let tree = Box::new(alloc, tree)?;
+    Ok(tree)
 }
 
-fn cell(alloc: Global, name: Name, row: Expr, col: Expr) -> Result<Expr, AllocError>
-    ensures { IfOk result (λ e. tree_of e ≡ TCell (spelled name) (tree_of row) (tree_of col)) }
+fn negated(alloc: Global, inner: Box<Expr>, place: Place) -> Result<Box<Expr>, AllocError>
+    ensures { IfOk result (λ e. tree_of e.value ≡ TNeg (tree_of inner.value) place) }
 {
-    let row = Box::new(alloc, row)?;
-    let col = Box::new(alloc, col)?;
-    Ok(Expr::Cell(name, row, col))
+    node(alloc, Expr::Neg(inner, place))
+}
+
+fn cell(alloc: Global, name: Name, row: Box<Expr>, col: Box<Expr>) -> Result<Box<Expr>, AllocError>
+    ensures { IfOk result
+        (λ e. tree_of e.value ≡ TCell (spelled name) (tree_of row.value) (tree_of col.value)) }
+{
+    node(alloc, Expr::Cell(name, row, col))
 }
 
 fn binary(
     alloc: Global,
     op: BinOp,
     place: Place,
-    left: Expr,
-    right: Expr,
-) -> Result<Expr, AllocError>
-    ensures { IfOk result (λ e. tree_of e ≡ TBin op place (tree_of left) (tree_of right)) }
+    left: Box<Expr>,
+    right: Box<Expr>,
+) -> Result<Box<Expr>, AllocError>
+    ensures { IfOk result
+        (λ e. tree_of e.value ≡ TBin op place (tree_of left.value) (tree_of right.value)) }
 {
-    let left = Box::new(alloc, left)?;
-    let right = Box::new(alloc, right)?;
-    Ok(Expr::Bin(op, place, left, right))
+    node(alloc, Expr::Bin(op, place, left, right))
 }

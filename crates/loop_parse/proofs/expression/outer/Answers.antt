@@ -10,16 +10,16 @@ use Rattle.loop_parse.proofs.expression.outer.Goals as goal
 pub returns-then-is_beyond-clause-reads : goal.returns-then-is_beyond-clause-reads
 returns-then-is_beyond-clause-reads c = λ n h.
     let l : length (seen c.args.source.now c.looked_at.result.now) ≤ n = omega (arith, length-take 257 (seen c.args.source.now c.args.tokens.now), ap length c.looked_at.ensures) in
-    let e : expr n (take window (seen c.args.source.now c.args.tokens.now)) ≡ Ok (tree_of c.in-Ok.found, (seen c.args.source.now c.in-Ok.left.now)) = ap (expr n) (sym c.looked_at.ensures) ∙ c.in-Ok.ensures.reads n l in
+    let e : expr n (take window (seen c.args.source.now c.args.tokens.now)) ≡ Ok (tree_of c.in-Ok.found.value, (seen c.args.source.now c.in-Ok.left.now)) = ap (expr n) (sym c.looked_at.ensures) ∙ c.in-Ok.ensures.reads n l in
     let k : (nat_le window (length (seen c.args.source.now c.args.tokens.now)) && is_empty (seen c.args.source.now c.in-Ok.left.now)) ≡ true = sym c.is_beyond.ensures ∙ c.if-is_beyond.true in
-    outer_deep_ok n (seen c.args.source.now c.args.tokens.now) (seen c.args.source.now c.in-Ok.left.now) (tree_of c.in-Ok.found) e k ∙ ap (λ us. Err (Deep us)) (sym c.last_looked_at.ensures)
+    outer_deep_ok n (seen c.args.source.now c.args.tokens.now) (seen c.args.source.now c.in-Ok.left.now) (tree_of c.in-Ok.found.value) e k ∙ ap (λ us. Err (Deep us)) (sym c.last_looked_at.ensures)
 
 pub returns-else-is_beyond-clause-reads : goal.returns-else-is_beyond-clause-reads
 returns-else-is_beyond-clause-reads c = λ n h.
     let l : length (seen c.args.source.now c.looked_at.result.now) ≤ n = omega (arith, length-take 257 (seen c.args.source.now c.args.tokens.now), ap length c.looked_at.ensures) in
-    let e : expr n (take window (seen c.args.source.now c.args.tokens.now)) ≡ Ok (tree_of c.in-Ok.found, (seen c.args.source.now c.in-Ok.left.now)) = ap (expr n) (sym c.looked_at.ensures) ∙ c.in-Ok.ensures.reads n l in
+    let e : expr n (take window (seen c.args.source.now c.args.tokens.now)) ≡ Ok (tree_of c.in-Ok.found.value, (seen c.args.source.now c.in-Ok.left.now)) = ap (expr n) (sym c.looked_at.ensures) ∙ c.in-Ok.ensures.reads n l in
     let k : (nat_le window (length (seen c.args.source.now c.args.tokens.now)) && is_empty (seen c.args.source.now c.in-Ok.left.now)) ≡ false = sym c.is_beyond.ensures ∙ c.if-is_beyond.false in
-    outer_ok n (seen c.args.source.now c.args.tokens.now) (seen c.args.source.now c.in-Ok.left.now) (tree_of c.in-Ok.found) e k ∙ ap (λ us. Ok (tree_of c.in-Ok.found, us)) (sym c.widened.ensures)
+    rw c.into_inner.ensures (outer_ok n (seen c.args.source.now c.args.tokens.now) (seen c.args.source.now c.in-Ok.left.now) (tree_of c.in-Ok.found.value) e k ∙ ap (λ us. Ok (tree_of c.in-Ok.found.value, us)) (sym c.widened.ensures))
 
 pub returns-then-is_beyond-2-clause-reads : goal.returns-then-is_beyond-2-clause-reads
 returns-then-is_beyond-2-clause-reads c = λ n h.
