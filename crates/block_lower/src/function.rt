@@ -37,7 +37,7 @@ fn most_of(f: &Func) -> usize
 }
 
 /// How many cells it has.
-#[tactic(auto, using(crate::proofs::Adding::few_kept_by_list))]
+#[tactic(auto, using(crate::proofs::Counts::Adding::few_kept_by_list))]
 fn size_of(f: &Func) -> u16
     requires { FuncIsSmall f.now }
     ensures { result ≡ programs.size_of f.now }

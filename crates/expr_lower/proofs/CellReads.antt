@@ -46,8 +46,8 @@ use Rattle.expr_lower.proofs.Evaluating.{EvaluatesOnBoth, with_operand, with_sec
 use Rattle.expr_lower.proofs.Evaluating.{holds_front, holds_back}
 use Rattle.expr_lower.proofs.Indexes.{and_false, lesser_below, both_positions, IsPosition}
 use Rattle.expr_lower.proofs.Indexes.{not_below_size, below_size}
-use Rattle.expr_lower.proofs.Registers.{register_set, register_other, kept_set, kept_counted}
-use Rattle.expr_lower.proofs.Registers.{kept_twice, kept_wider}
+use Rattle.expr_lower.proofs.Keeping.{register_set, register_other, kept_set, kept_counted}
+use Rattle.expr_lower.proofs.Keeping.{kept_twice, kept_wider}
 use Rattle.expr_lower.proofs.Standing.{next, behind, split}
 
 module _ (code : Listing) (heartbeat : ℕ) (K : Back code heartbeat) where

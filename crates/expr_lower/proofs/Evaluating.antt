@@ -33,7 +33,7 @@ use Rattle.expr_lower.specs.Bodies.{trap_block}
 use Rattle.expr_lower.specs.Holding.{Holds, IsHeld}
 use Rattle.expr_lower.specs.Leaving.{Keeps, moved, moved_to}
 use Rattle.expr_lower.specs.Standing.{Remains}
-use Rattle.expr_lower.proofs.Registers.{kept_twice, kept_wider}
+use Rattle.expr_lower.proofs.Keeping.{kept_twice, kept_wider}
 use Rattle.expr_lower.proofs.Standing.{next, behind, split}
 
 -- ---- what a task holds

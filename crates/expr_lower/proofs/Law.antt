@@ -33,7 +33,7 @@ use Rattle.expr_lower.specs.Standing.{AreAt}
 use Rattle.expr_lower.proofs.CellReads.{on_rows, on_cols, cell_law}
 use Rattle.expr_lower.proofs.Evaluating.{Evaluates, with_operand}
 use Rattle.expr_lower.proofs.Operations.{IsNumber, ends_with, on_literal, operation_law}
-use Rattle.expr_lower.proofs.Registers.{register_set, kept_set}
+use Rattle.expr_lower.proofs.Keeping.{register_set, kept_set}
 use Rattle.expr_lower.proofs.Standing.{next, behind, front, back}
 
 -- ---- trap blocks

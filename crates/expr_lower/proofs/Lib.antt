@@ -1,5 +1,5 @@
 pub mod Standing
-pub mod Registers
+pub mod Keeping
 pub mod Evaluating
 pub mod Operations
 pub mod Indexes

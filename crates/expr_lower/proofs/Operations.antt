@@ -45,8 +45,8 @@ use Rattle.expr_lower.specs.Standing.{Remains, AreAt}
 use Rattle.expr_lower.proofs.Evaluating.{After, after_moved, calculates, tests, Evaluates}
 use Rattle.expr_lower.proofs.Evaluating.{EvaluatesOn, with_second, holds_moved, holds_front}
 use Rattle.expr_lower.proofs.Evaluating.{holds_back}
-use Rattle.expr_lower.proofs.Registers.{register_set, kept_set, kept_counted, kept_twice}
-use Rattle.expr_lower.proofs.Registers.{kept_wider}
+use Rattle.expr_lower.proofs.Keeping.{register_set, kept_set, kept_counted, kept_twice}
+use Rattle.expr_lower.proofs.Keeping.{kept_wider}
 use Rattle.expr_lower.proofs.Standing.{next, behind, split}
 
 -- ---- numbers

@@ -34,7 +34,7 @@ use Rattle.tpal_machine.specs.Step.{Asks, Forks, step, advanced}
 use Rattle.tpal_machine.proofs.Kit.{Back, IsCalm}
 use Rattle.expr_lower.specs.Leaving.{moved}
 use Rattle.expr_lower.specs.Standing.{Remains, AreAt}
-use Rattle.expr_lower.proofs.Registers.{register_set, register_other}
+use Rattle.expr_lower.proofs.Keeping.{register_set, register_other}
 use Rattle.expr_lower.proofs.Standing.{next, behind}
 use Rattle.handler_gen.specs.Blocks.{ask, left_returns, call_cut_block, back_block}
 use Rattle.handler_gen.specs.Blocks.{call_child_block, call_handler_blocks, call_target, to}

@@ -17,7 +17,7 @@ use Rattle.tpal_machine.specs.State.{State}
 use Rattle.tpal_machine.specs.Step.{advanced}
 use Rattle.tpal_machine.proofs.Kit.{Back, on_jump}
 use Rattle.expr_lower.specs.Standing.{Remains}
-use Rattle.expr_lower.proofs.Registers.{register_set}
+use Rattle.expr_lower.proofs.Keeping.{register_set}
 use Rattle.expr_lower.proofs.Standing.{next, behind, at_end}
 use Rattle.handler_gen.specs.Blocks.{dispatch_block}
 use Rattle.handler_gen.specs.Dispatching.{dispatched, Dispatches}

@@ -28,7 +28,7 @@ use Rattle.tpal_machine.specs.State.{State}
 use Rattle.tpal_machine.proofs.Kit.{Back, IsCalm}
 use Rattle.expr_lower.specs.Leaving.{moved}
 use Rattle.expr_lower.specs.Standing.{Remains}
-use Rattle.expr_lower.proofs.Registers.{register_set, register_other}
+use Rattle.expr_lower.proofs.Keeping.{register_set, register_other}
 use Rattle.handler_gen.specs.Blocks.{loop_child_block, units, to}
 use Rattle.handler_gen.specs.Halves.{ChildGoesOn}
 use Rattle.handler_gen.specs.LoopCuts.{loop_work, loop_halves, loop_mark, table_cuts, with_units}

@@ -23,7 +23,7 @@ use Rattle.tpal_machine.specs.State.{State}
 use Rattle.tpal_machine.proofs.Kit.{Back}
 use Rattle.expr_lower.specs.Leaving.{moved}
 use Rattle.expr_lower.specs.Standing.{Remains}
-use Rattle.expr_lower.proofs.Registers.{register_set, register_other}
+use Rattle.expr_lower.proofs.Keeping.{register_set, register_other}
 use Rattle.handler_gen.specs.Blocks.{cut_places}
 use Rattle.handler_gen.specs.LoopCuts.{HasRow, table_cut, table_cuts, number_of}
 use Rattle.handler_gen.specs.Sites.{at_of, IsLowCarry, IsNoRow}

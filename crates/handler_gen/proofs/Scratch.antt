@@ -4,7 +4,7 @@ use Rattle.std.specs.Prelude.{slice_set}
 use Rattle.std.proofs.lemmas.List.{length-set}
 use Rattle.tpal_syntax.specs.declared.words.Word.{Word}
 use Rattle.tpal_machine.specs.Reading.{register}
-use Rattle.expr_lower.proofs.Registers.{register_set, register_other}
+use Rattle.expr_lower.proofs.Keeping.{register_set, register_other}
 
 -- what r24, r25 and r26 hold; all others but r27 are those of a task
 pub record Scratch (before words : List Word) (rec place next : Word) : Type 0 where

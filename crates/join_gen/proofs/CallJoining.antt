@@ -32,7 +32,7 @@ use Rattle.tpal_machine.specs.Step.{Ends, advanced}
 use Rattle.tpal_machine.proofs.Kit.{Back, IsCalm}
 use Rattle.expr_lower.specs.Leaving.{moved}
 use Rattle.expr_lower.specs.Standing.{Remains, AreAt}
-use Rattle.expr_lower.proofs.Registers.{register_set, register_other}
+use Rattle.expr_lower.proofs.Keeping.{register_set, register_other}
 use Rattle.expr_lower.proofs.Standing.{at_end}
 use Rattle.handler_gen.specs.Blocks.{call_target, to}
 use Rattle.handler_gen.specs.Reaching as reaching

@@ -25,7 +25,7 @@ use Rattle.tpal_machine.specs.State.{State}
 use Rattle.tpal_machine.proofs.Kit.{Back}
 use Rattle.expr_lower.specs.Leaving.{moved}
 use Rattle.expr_lower.specs.Standing.{Remains}
-use Rattle.expr_lower.proofs.Registers.{register_set, register_other}
+use Rattle.expr_lower.proofs.Keeping.{register_set, register_other}
 use Rattle.handler_gen.proofs.Cells.{Has, some_word, has_set}
 use Rattle.handler_gen.proofs.Offsets.{cells_of}
 use Rattle.handler_gen.proofs.Straight.{calculates, stores}

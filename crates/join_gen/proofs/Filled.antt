@@ -9,7 +9,7 @@ use Rattle.tpal_syntax.specs.declared.words.Word.TheVariants.{Int, Rec}
 use Rattle.tpal_machine.specs.Merge.{filled, renamed, merged_registers}
 use Rattle.tpal_machine.specs.Reading.{register}
 use Rattle.tpal_machine.specs.State.{no_words}
-use Rattle.expr_lower.proofs.Registers.{register_set, register_other}
+use Rattle.expr_lower.proofs.Keeping.{register_set, register_other}
 use Rattle.handler_gen.specs.Blocks.{renames_from}
 use Rattle.join_gen.specs.LoopJoins.{words_from, handed}
 

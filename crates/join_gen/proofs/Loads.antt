@@ -17,7 +17,7 @@ use Rattle.tpal_machine.specs.State.{State}
 use Rattle.tpal_machine.proofs.Kit.{Back}
 use Rattle.expr_lower.specs.Leaving.{moved}
 use Rattle.expr_lower.specs.Standing.{Remains}
-use Rattle.expr_lower.proofs.Registers.{register_set, register_other}
+use Rattle.expr_lower.proofs.Keeping.{register_set, register_other}
 use Rattle.handler_gen.specs.Blocks.{renames_from}
 use Rattle.handler_gen.proofs.Straight.{loads}
 use Rattle.join_gen.specs.Blocks.{loads_from}

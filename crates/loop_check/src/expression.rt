@@ -51,7 +51,7 @@ fn reads(spot: &Spot, found: &mut Option<Fault>, table: &Name, row: &Expr, colum
 }
 
 /// An expression inside another one.
-#[tactic(auto, using(crate::proofs::Searching::lowest_in_append))]
+#[tactic(auto, using(loop_rules::proofs::Searching::lowest_in_append))]
 fn in_expr(spot: &Spot, readers: &[Reader], found: &mut Option<Fault>, expression: &Expr)
     ensures { found.new
         ≡ lowest_in (checked_rules readers.now) found.old

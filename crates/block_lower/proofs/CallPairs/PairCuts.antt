@@ -22,7 +22,7 @@ use Rattle.tpal_machine.specs.RestState.{RestState}
 use Rattle.tpal_machine.specs.State.{State}
 use Rattle.expr_lower.specs.Leaving.{moved_to}
 use Rattle.expr_lower.specs.Standing.{AreAt}
-use Rattle.expr_lower.proofs.Registers.{register_other, register_set}
+use Rattle.expr_lower.proofs.Keeping.{register_other, register_set}
 use Rattle.handler_gen.specs.Blocks.{call_handler_blocks, dispatch_block}
 use Rattle.handler_gen.specs.CallCuts.{CutsCalls, IsAtCalls, IsRoundCalls, call_halves, call_mark}
 use Rattle.handler_gen.specs.CallCuts.{call_work}

@@ -25,7 +25,7 @@ use Rattle.tpal_machine.specs.State as machine
 use Rattle.tpal_machine.specs.Step.{advanced, at_block}
 use Rattle.tpal_machine.proofs.Kit.{Back, on_calc}
 use Rattle.expr_lower.specs.Standing.{Remains}
-use Rattle.expr_lower.proofs.Registers.{register_other, register_set}
+use Rattle.expr_lower.proofs.Keeping.{register_other, register_set}
 use Rattle.expr_lower.proofs.Standing.{at_end, behind, next}
 use Rattle.handler_gen.specs.CallCuts.{call_mark}
 use Rattle.handler_gen.proofs.Ready.{beat_is, diverted_to, goes_in}

@@ -24,7 +24,7 @@ use Rattle.tpal_machine.specs.State as machine
 use Rattle.tpal_machine.specs.Step.{advanced, at_block}
 use Rattle.tpal_machine.proofs.Kit.{Back, on_calc, on_move, on_salloc, on_sfree}
 use Rattle.expr_lower.specs.Standing.{Remains}
-use Rattle.expr_lower.proofs.Registers.{register_other, register_set}
+use Rattle.expr_lower.proofs.Keeping.{register_other, register_set}
 use Rattle.expr_lower.proofs.Standing.{behind, next}
 use Rattle.handler_gen.specs.Blocks.{call_target}
 use Rattle.handler_gen.specs.Sites.{joined_label}

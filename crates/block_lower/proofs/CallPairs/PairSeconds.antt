@@ -25,7 +25,7 @@ use Rattle.tpal_machine.specs.State as machine
 use Rattle.tpal_machine.specs.Step.{advanced}
 use Rattle.tpal_machine.proofs.Kit.{Back, on_load, on_salloc}
 use Rattle.expr_lower.specs.Standing.{Remains}
-use Rattle.expr_lower.proofs.Registers.{register_other, register_set}
+use Rattle.expr_lower.proofs.Keeping.{register_other, register_set}
 use Rattle.expr_lower.proofs.Standing.{behind, next, regrouped}
 use Rattle.block_lower.specs.Code.{Opens, load, passed, to}
 use Rattle.block_lower.specs.Layout.{Activation, Entry, kept_by_both, kept_cell, levels_cell}

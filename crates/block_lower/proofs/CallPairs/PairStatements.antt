@@ -35,7 +35,7 @@ use Rattle.tpal_machine.specs.State as machine
 use Rattle.tpal_machine.specs.Step.{advanced}
 use Rattle.tpal_machine.proofs.Kit.{Back, IsCalm, on_if_not, on_load}
 use Rattle.expr_lower.specs.Standing.{AreAt, Remains}
-use Rattle.expr_lower.proofs.Registers.{register_other, register_set}
+use Rattle.expr_lower.proofs.Keeping.{register_other, register_set}
 use Rattle.expr_lower.proofs.Standing.{behind, next, regrouped}
 use Rattle.frame_machine.specs.Modes as mode
 use Rattle.handler_gen.specs.Blocks.{dispatch_block}

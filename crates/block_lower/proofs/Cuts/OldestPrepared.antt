@@ -27,7 +27,7 @@ use Rattle.tpal_machine.specs.State.{State}
 use Rattle.tpal_machine.proofs.Kit.{Back, IsCalm}
 use Rattle.expr_lower.specs.declared.scope.Scope.{Scope}
 use Rattle.expr_lower.specs.Leaving.{moved_to}
-use Rattle.expr_lower.proofs.Registers.{register_set, register_other}
+use Rattle.expr_lower.proofs.Keeping.{register_set, register_other}
 use Rattle.handler_gen.specs.LoopCuts.{IsAtLoop, HasRow, loop_mark}
 use Rattle.handler_gen.specs.Reaching.{Reaches}
 use Rattle.handler_gen.specs.Sites.{is_of_cells, prep_label, split_label}

@@ -28,7 +28,7 @@ use Rattle.expr_lower.specs.declared.scope.Scope.{Scope}
 use Rattle.expr_lower.specs.Leaving.{moved}
 use Rattle.expr_lower.specs.Scopes.{offset_of, table_number}
 use Rattle.expr_lower.specs.Standing.{Remains}
-use Rattle.expr_lower.proofs.Registers.{register_set, register_other}
+use Rattle.expr_lower.proofs.Keeping.{register_set, register_other}
 use Rattle.handler_gen.specs.LoopCuts.{HasRow, number_of, table_cuts}
 use Rattle.handler_gen.specs.Sites.{is_of_cells}
 use Rattle.handler_gen.proofs.Straight.{loads, moves}

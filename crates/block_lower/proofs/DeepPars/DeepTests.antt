@@ -30,7 +30,7 @@ use Rattle.tpal_machine.specs.State as machine
 use Rattle.tpal_machine.specs.Step.{advanced}
 use Rattle.tpal_machine.proofs.Kit.{Back, on_if, on_if_not}
 use Rattle.expr_lower.specs.Standing.{Remains}
-use Rattle.expr_lower.proofs.Registers.{register_other}
+use Rattle.expr_lower.proofs.Keeping.{register_other}
 use Rattle.expr_lower.proofs.Standing.{behind, next}
 use Rattle.handler_gen.proofs.Marks.{on_prmpop}
 use Rattle.handler_gen.specs.Sites.{over_label}

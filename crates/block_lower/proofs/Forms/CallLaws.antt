@@ -38,7 +38,7 @@ use Rattle.tpal_machine.specs.State as machine
 use Rattle.tpal_machine.specs.Step.{advanced, at_block}
 use Rattle.tpal_machine.proofs.Kit.{Back, on_calc, on_load, on_sfree, on_if, on_if_not}
 use Rattle.expr_lower.specs.Standing.{Remains}
-use Rattle.expr_lower.proofs.Registers.{register_set, register_other}
+use Rattle.expr_lower.proofs.Keeping.{register_set, register_other}
 use Rattle.expr_lower.proofs.Standing.{next, behind, regrouped}
 use Rattle.block_lower.specs.Code.{Opens, Calls, call_test, call_exit}
 use Rattle.block_lower.specs.Layout.{levels_cell, Entry, entry_of, Activation}

@@ -37,7 +37,7 @@ use Rattle.tpal_machine.specs.State as machine
 use Rattle.tpal_machine.specs.Step.{advanced}
 use Rattle.tpal_machine.proofs.Kit.{Back, on_calc}
 use Rattle.expr_lower.specs.Standing.{Remains}
-use Rattle.expr_lower.proofs.Registers.{register_set, register_other}
+use Rattle.expr_lower.proofs.Keeping.{register_set, register_other}
 use Rattle.expr_lower.proofs.Standing.{next, behind}
 use Rattle.handler_gen.proofs.Words.{word_same, word_other, words_as_many}
 use Rattle.block_lower.specs.Code.{Opens, call_entry, parameter_cell}

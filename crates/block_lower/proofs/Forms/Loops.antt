@@ -40,7 +40,7 @@ use Rattle.tpal_machine.proofs.Kit.{Back, on_calc, on_load, on_if, on_if_not}
 use Rattle.expr_lower.specs.Bodies.{literal}
 use Rattle.expr_lower.specs.Leaving.{moved, moved_to}
 use Rattle.expr_lower.specs.Standing.{Remains}
-use Rattle.expr_lower.proofs.Registers.{register_set, register_other}
+use Rattle.expr_lower.proofs.Keeping.{register_set, register_other}
 use Rattle.expr_lower.proofs.Standing.{next, behind}
 use Rattle.handler_gen.proofs.Words.{word_same, word_other}
 use Rattle.block_lower.specs.Code.{Computes, Opens, to, store, load, below_test, step_up}

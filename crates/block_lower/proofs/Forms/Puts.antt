@@ -33,7 +33,7 @@ use Rattle.expr_lower.specs.Leaving.{moved, moved_to}
 use Rattle.expr_lower.specs.Scopes.{table_number}
 use Rattle.expr_lower.specs.Standing.{Remains, AreAt}
 use Rattle.expr_lower.proofs.CellReads.{range_law, Trapped, Passed}
-use Rattle.expr_lower.proofs.Registers.{register_set, register_other}
+use Rattle.expr_lower.proofs.Keeping.{register_set, register_other}
 use Rattle.expr_lower.proofs.Standing.{next, behind}
 use Rattle.handler_gen.proofs.Words.{word_same, word_other}
 use Rattle.block_lower.specs.Code as code_of

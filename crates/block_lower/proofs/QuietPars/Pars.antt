@@ -42,7 +42,7 @@ use Rattle.tpal_machine.proofs.Kit.{Back, IsCalm, on_calc, on_if, on_if_not}
 use Rattle.expr_lower.specs.Bodies.{trap_block}
 use Rattle.expr_lower.specs.Leaving.{moved}
 use Rattle.expr_lower.specs.Standing.{Remains, AreAt}
-use Rattle.expr_lower.proofs.Registers.{register_set, register_other}
+use Rattle.expr_lower.proofs.Keeping.{register_set, register_other}
 use Rattle.expr_lower.proofs.Standing.{next, behind}
 use Rattle.block_lower.specs.Code.{Computes, Opens, to, store, load}
 use Rattle.block_lower.specs.Layout.{value_cell, bound_cell, Activation}

@@ -22,7 +22,7 @@ use Rattle.tpal_machine.specs.Reading.{block_at, note_of, register}
 use Rattle.tpal_machine.specs.State as machine
 use Rattle.tpal_machine.specs.Step.{advanced}
 use Rattle.tpal_machine.proofs.Kit.{Back}
-use Rattle.expr_lower.proofs.Registers.{register_other, register_set}
+use Rattle.expr_lower.proofs.Keeping.{register_other, register_set}
 use Rattle.expr_lower.proofs.Standing.{at_end}
 use Rattle.handler_gen.specs.LoopCuts.{loop_mark}
 use Rattle.handler_gen.proofs.Ready.{beat_is, diverted_to, goes_in}

@@ -44,7 +44,7 @@ use Rattle.tpal_machine.specs.Step.{advanced}
 use Rattle.tpal_machine.proofs.Kit.{Back, on_load, owing}
 use Rattle.expr_lower.specs.Scopes.{HasTable, HasVariable, table_number}
 use Rattle.expr_lower.specs.Standing.{Remains}
-use Rattle.expr_lower.proofs.Registers.{register_other, register_set}
+use Rattle.expr_lower.proofs.Keeping.{register_other, register_set}
 use Rattle.expr_lower.proofs.Standing.{behind, next}
 use Rattle.handler_gen.proofs.Marks.{on_prmpop}
 use Rattle.handler_gen.proofs.Reaching.{reached}

@@ -33,7 +33,7 @@ use Rattle.tpal_machine.specs.Step.{advanced}
 use Rattle.tpal_machine.proofs.Kit.{Back, on_calc, on_if_not, on_load}
 use Rattle.expr_lower.specs.Leaving.{moved, moved_to}
 use Rattle.expr_lower.specs.Standing.{Remains}
-use Rattle.expr_lower.proofs.Registers.{register_other, register_set}
+use Rattle.expr_lower.proofs.Keeping.{register_other, register_set}
 use Rattle.expr_lower.proofs.Standing.{behind, next}
 use Rattle.handler_gen.proofs.Ready.{diverted_to, goes_in}
 use Rattle.block_lower.specs.Code.{Opens, OpensAs, below_test, load, to}

@@ -19,7 +19,7 @@ use Rattle.tpal_machine.specs.State as machine
 use Rattle.tpal_machine.specs.Step.{advanced}
 use Rattle.tpal_machine.proofs.Kit.{Back, on_load, on_jump}
 use Rattle.expr_lower.specs.Leaving.{moved}
-use Rattle.expr_lower.proofs.Registers.{register_set, register_other}
+use Rattle.expr_lower.proofs.Keeping.{register_set, register_other}
 use Rattle.expr_lower.proofs.Standing.{next, behind, at_end}
 use Rattle.block_lower.specs.Code.{load}
 use Rattle.block_lower.specs.Layout.{cursor_cell, rec_cell, return_cell, value_cell, Entry}

@@ -8,5 +8,5 @@ pub returns-in-Some : goal.returns-in-Some
 returns-in-Some c =
     let g = c.in-Some.g.now in
     let found = c.in-Some.ensures in
-    func_uses c.args.usage.now c.args.program.now g c.in_list.new.found c.in_expr.new.found (rw c.deref-in-Some.ensures.value at c.in_list.ensures) c.in_expr.ensures
+    func_uses c.args.usage.now c.args.program.now g c.in_list.new.found c.in_expr.new.found (rw c.deref.ensures.value at c.in_list.ensures) c.in_expr.ensures
     ∙ ap {A = Option Func} {B = Bool} (uses c.args.program.now c.args.usage.now) (sym found)

@@ -1,6 +1,8 @@
 use Rattle.std.proofs.Common.{◌≡◌, ℕ, ◌+◌, length, subst, ap, sym, ◌∙◌, arith}
 use Rattle.tpal_syntax.specs.declared.sites.LoopSite.{LoopSite}
-use Rattle.block_lower.specs.Lowering.{BeginsDeep}
+use Rattle.block_lower.specs.Lowering.{BeginsDeep, BeginsPar}
+use Rattle.block_lower.specs.Writing.{next_label}
+use Rattle.expr_lower.specs.Bodies.{trap_count}
 use Rattle.block_lower.specs.Layout.{cursor_cell}
 use Rattle.block_lower.specs.Sites.{loop_site}
 use Rattle.block_lower.specs.Sizes.{added_by_list}
@@ -92,6 +94,17 @@ returns-clause-code c =
     let check = c.next_label.result + c.trap_count.result + c.trap_count-2.result in
     let head = check + 2 + c.site_blocks.result in
     let exit = head + 2 + c.added_by_body.result in
+    let spot : next_label self.out + trap_count l.from + trap_count l.to ≡ check =
+    omega (
+      arith,
+      c.next_label.ensures,
+      c.trap_count.ensures,
+      c.trap_count-2.ensures,
+      c.requires.labels,
+    ) in
+    let code =
+    subst (λ (n : ℕ). BeginsPar self.scope l n exit self.out c.begin_par.new.self.out) spot
+    begun.code in
     let size = rw c.deref-2.ensures.value at c.added_by_body.ensures in
     let long = length self.scope.cells.items in
     let here = (rw c.cursor_cell.ensures at is)
@@ -105,5 +118,5 @@ returns-clause-code c =
     c.begin_par.new.self.out c.store.new.self.out c.push_begin.new.self.out
     c.push_deep_site.new.self.out here
     (rw here (s.right_deep _ (omega (arith, c.requires.labels, label, begun.labels))))
-    begun.code (omega (arith, begun.labels, stored.labels)) stored.pushed
+    code (omega (arith, begun.labels, stored.labels)) stored.pushed
     (rw c.first_label.ensures at pushed.code) (rw (on, scope) at round_it.code))

@@ -1,4 +1,7 @@
-use Rattle.std.proofs.Common.{◌≡◌, ℕ, ◌+◌, length, ap, ◌∙◌, arith}
+use Rattle.std.proofs.Common.{◌≡◌, ℕ, ◌+◌, length, ap, subst, ◌∙◌, arith}
+use Rattle.expr_lower.specs.Bodies.{trap_count}
+use Rattle.block_lower.specs.Lowering.{BeginsPar}
+use Rattle.block_lower.specs.Writing.{next_label}
 use Rattle.block_lower.specs.Sites.{loop_site}
 use Rattle.block_lower.proofs.Written.LoweredPars.{par_begun}
 use Rattle.block_lower.proofs.Written.Sited.{site_fits}
@@ -45,11 +48,21 @@ returns-clause-site c =
 
 pub returns-clause-code : goal.returns-clause-code
 returns-clause-code c =
+    let self = c.args.self.now in
+    let l = c.args.l.now in
     let bounds = c.in_ok-bounds.ensures in
     let some = c.in_ok-push_some.ensures in
-    par_begun c.args.self.now.scope c.args.l.now
-    (c.next_label.result + c.trap_count.result + c.trap_count-2.result) c.args.exit
-    c.args.self.now.out c.bounds.new.self.out c.push_some.new.self.out c.push_length.new.self.out
-    bounds.code some.code some.fresh
+    let check = c.next_label.result + c.trap_count.result + c.trap_count-2.result in
+    let spot : check ≡ next_label self.out + trap_count l.from + trap_count l.to =
+    omega (
+      arith,
+      c.next_label.ensures,
+      c.trap_count.ensures,
+      c.trap_count-2.ensures,
+      c.requires.labels,
+    ) in
+    subst (λ (n : ℕ). BeginsPar self.scope l n c.args.exit self.out c.push_length.new.self.out) spot
+    (par_begun self.scope l check c.args.exit self.out c.bounds.new.self.out
+    c.push_some.new.self.out c.push_length.new.self.out bounds.code some.code some.fresh
     (omega (arith, bounds.labels, some.labels, ap length some.fresh.traps))
-    c.in_ok-push_length.ensures.code
+    c.in_ok-push_length.ensures.code)

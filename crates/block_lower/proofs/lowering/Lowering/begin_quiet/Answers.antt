@@ -2,7 +2,9 @@ use Rattle.std.proofs.Common.{◌≡◌, ℕ, ◌+◌, length, refl, subst, ap, 
 use Rattle.tpal_syntax.specs.declared.sites.LoopSite.{LoopSite}
 use Rattle.block_lower.specs.declared.repeat.Bound.TheVariants as bound
 use Rattle.block_lower.specs.declared.repeat.Turns.{Turns}
-use Rattle.block_lower.specs.Lowering.{BeginsQuiet}
+use Rattle.block_lower.specs.Lowering.{BeginsQuiet, BeginsPar}
+use Rattle.block_lower.specs.Writing.{next_label}
+use Rattle.expr_lower.specs.Bodies.{trap_count}
 use Rattle.block_lower.specs.Layout.{value_cell}
 use Rattle.block_lower.specs.Sites.{loop_site}
 use Rattle.block_lower.specs.Sizes.{added_by_list}
@@ -91,6 +93,17 @@ returns-clause-code c =
     let check = c.next_label.result + c.trap_count.result + c.trap_count-2.result in
     let first = check + 2 + c.site_blocks.result in
     let exit = first + c.added_by_body-body.result + c.added_by_body-body.result in
+    let spot : next_label self.out + trap_count l.from + trap_count l.to ≡ check =
+    omega (
+      arith,
+      c.next_label.ensures,
+      c.trap_count.ensures,
+      c.trap_count-2.ensures,
+      c.requires.labels,
+    ) in
+    let code =
+    subst (λ (n : ℕ). BeginsPar self.scope l n exit self.out c.begin_par.new.self.out) spot
+    begun.code in
     let size = rw c.deref-2.ensures.value at c.added_by_body-body.ensures in
     let blocks = rw c.deref.ensures.value at c.site_blocks.ensures in
     let long = length self.scope.cells.items in
@@ -111,7 +124,7 @@ returns-clause-code c =
     (quiet_begun self.on c.args.round self.scope l site turns check first exit self.out
     c.begin_par.new.self.out c.push_begin.new.self.out c.push_site.new.self.out here
     (rw here (s.right _ (omega (arith, c.requires.labels, label, begun.labels))))
-    c.over_label.ensures begun.code
+    c.over_label.ensures code
     (omega (arith, begun.labels)) pushed.code (rw scope at round_it.code)
     (omega (
       arith,
