@@ -194,8 +194,11 @@ main { let x = 0; call x = f(9999); print x; }' >deep_pairs
 { printf 'main { print -'; repeat '(' 127; printf 7; repeat ')' 127; printf '; }'; } >most_tokens
 { printf 'main { print 1'; repeat ' + 1' 23; printf '; }'; } >high
 { printf 'main {'; repeat ' if 1 {' 31; printf ' print 7;'; repeat ' }' 32; } >blocks
+{ printf 'main {'; repeat ' if 1 {' 31; printf ' print '; repeat '(' 127; printf 7; repeat ')' 127
+  printf ';'; repeat ' }' 32; } >blocks_and_brackets
 { printf 'main {'; for i in 1 2 3 4 5 6 7 8; do printf ' par i%s in 0..1 {' $i; done; repeat ' }' 9; } >loops
 { printf 'main { print '; repeat '(' 1000000; } >open_brackets
+{ printf 'main {'; repeat ' if 1 {' 31; printf ' print '; repeat '(' 1000000; } >open_in_blocks
 { printf 'main { print '; repeat '-' 1000000; } >signs
 { printf 'main {'; repeat ' if 1 {' 140000; } >open_blocks
 { repeat '{' 1000000; } >braces
@@ -214,6 +217,7 @@ small 'brackets' 0 '7\n' run brackets
 small 'an expression of 256 tokens' 0 '-7\n' run most_tokens
 small 'an expression of height 24' 0 '24\n' run high
 small 'blocks 32 deep' 0 '7\n' run blocks
+small 'brackets in blocks 32 deep' 0 '7\n' run blocks_and_brackets
 small 'parallel loops 8 deep' 0 '' run loops --beat 1
 small 'parallel loops 8 deep by 4 workers' 0 '' run loops --beat 1 --workers 4
 small 'a long program' 0 '' run long
@@ -222,11 +226,12 @@ small 'a sample' 2 'out of fuel\n' sample 1 --fuel 100000 --beat 1
 small 'a sample by 4 workers' 2 'out of fuel\n' sample 1 --fuel 100000 --beat 1 --workers 4
 for command in run compile; do
   small "open brackets to $command" 3 'refused E14 at 1:270\n' $command open_brackets
+  small "open brackets in blocks to $command" 3 'refused E14 at 1:487\n' $command open_in_blocks
   small "signs to $command" 3 'refused E14 at 1:270\n' $command signs
   small "open blocks to $command" 3 'refused E14 at 1:230\n' $command open_blocks
   small "braces to $command" 3 'refused E3 at 1:1\n' $command braces
 done
-for text in deep deep_pairs brackets most_tokens high blocks loops long comment; do
+for text in deep deep_pairs brackets most_tokens high blocks blocks_and_brackets loops long comment; do
   status=0
   call compile $text || status=$?
   tail -n 2 out >end
