@@ -3,10 +3,11 @@
 ghost use Rattle.std.specs.Prelude.{◌≡◌, ℕ, ◌+◌, ◌<◌, ◌≤◌, ◌==◌, ◌&&◌, if◌then◌else◌, nat_le};
 ghost use Rattle.std.specs.Prelude.{nat_lt, None, Some, true, false, is_some, IsSome, IfOk, IfErr};
 ghost use Rattle.std.specs.Prelude.{OnOk, OnErr};
+ghost use Rattle.std.specs.Arc.{arc_value};
 ghost use Rattle.std.specs.Bool.{OnTrue, OnFalse};
 ghost use Rattle.std.specs.Vec.{vec_len, vec_capacity};
 ghost use Rattle.slices.specs.Spans.{or_else, between, AreApart};
-ghost use Rattle.slices.specs.Pieces.{piece_at, reaching};
+ghost use Rattle.slices.specs.Pieces.{spans_of, piece_at, reaching};
 ghost use Rattle.slices.specs.Stored.{stored, store_at, reaching_in, is_owned, is_open};
 ghost use Rattle.slices.specs.Stored.{further_spans, SameStored};
 
@@ -255,14 +256,13 @@ impl Store {
         self.open();
         let alloc = self.pieces().alloc();
         match replace(self, Store::Owned(Pieces::none(alloc))) {
-            Store::Owned(pieces) => match Arc::new(alloc, pieces) {
-                Ok(shared) => {
-                    let second = Arc::try_clone(&shared);
-                    *self = Store::Shared(shared);
-                    Ok(Store::Shared(second?))
+            Store::Owned(pieces) => match handles_on(alloc, pieces) {
+                Ok((first, second)) => {
+                    *self = first;
+                    Ok(second)
                 }
-                Err(failed) => {
-                    *self = Store::Owned(failed.value);
+                Err(store) => {
+                    *self = store;
                     Err(AllocError)
                 }
             },
@@ -294,6 +294,34 @@ impl Store {
                 Err(_) => Err(Store::Shared(shared)),
             },
         }
+    }
+}
+
+/// Two handles on the pieces. Where memory is wanting the pieces are handed back, owned unless a
+/// handle is left on them.
+fn handles_on(alloc: Global, pieces: Pieces) -> Result<(Store, Store), Store>
+    ensures cells { IfOk result
+        (λ both. (stored both.0 ≡ spans_of pieces) × (stored both.1 ≡ spans_of pieces)) }
+    ensures shared { IfOk result (λ both. (is_owned both.0 ≡ false) × (is_owned both.1 ≡ false)) }
+    ensures handed_back { IfErr result (λ store. stored store ≡ spans_of pieces) }
+{
+    let shared = match Arc::new(alloc, pieces) {
+        Ok(shared) => shared,
+        Err(failed) => return Err(Store::Owned(failed.value)),
+    };
+    match Arc::try_clone(&shared) {
+        Ok(second) => Ok((Store::Shared(shared), Store::Shared(second))),
+        Err(_) => Err(unshared(shared)),
+    }
+}
+
+/// The pieces, owned where this is their only handle.
+fn unshared(shared: Arc<Pieces, Global>) -> Store
+    ensures { stored result ≡ spans_of (arc_value shared) }
+{
+    match Arc::try_unwrap(shared) {
+        Ok(pieces) => Store::Owned(pieces),
+        Err(shared) => Store::Shared(shared),
     }
 }
 
