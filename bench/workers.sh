@@ -2,8 +2,10 @@
 # What more workers gain: five programs with 1, 2, 4 and 16 workers at a heartbeat of 10,000, and by
 # one worker at 10^9. Prints for each the seconds that the run by one worker takes, the least of RUNS
 # with all in turn, how many times as fast the others are, and the tasks, the beats and the skipped
-# beats. Needs as many free processors as workers to say anything. Words behind the script choose
-# programs by their names. PROGRAM is a built `tpal`, else the repository's is built.
+# beats; and how much more two and four separate runs by one worker get done at once than one alone,
+# which is what the machine itself has to give. Needs as many free processors as workers to say
+# anything. Words behind the script choose programs by their names. PROGRAM is a built `tpal`, else
+# the repository's is built.
 set -eu
 cd "$(dirname "$0")/.."
 runs=${RUNS:-5}
@@ -99,6 +101,12 @@ def spent(kind):
     subprocess.run(words(kind), check=True, stdout=subprocess.DEVNULL)
     return time.monotonic() - began
 
+def at_once(count):
+    began = time.monotonic()
+    started = [subprocess.Popen(words(kinds[0]), stdout=subprocess.DEVNULL) for _ in range(count)]
+    assert not any(run.wait() for run in started)
+    return time.monotonic() - began
+
 def shown(kind):
     told = subprocess.run(words(kind) + ["--show"], check=True, capture_output=True, text=True).stdout
     return told.rstrip("\n").rpartition("\n")[2]
@@ -111,11 +119,16 @@ for name, source in programs.items():
     printed = {subprocess.run(words(kind), check=True, capture_output=True).stdout for kind in kinds}
     assert len(printed) == 1, (name, printed)
     times = dict.fromkeys(kinds, 1e9)
+    separate = dict.fromkeys((2, 4), 1e9)
     for _ in range(runs):
         for kind in kinds:
             times[kind] = min(times[kind], spent(kind))
+        for count in separate:
+            separate[count] = min(separate[count], at_once(count))
     alone = times[kinds[0]]
     print(f"{name}: one worker {alone:.3f} s, {alone / times[plain]:.3f} of that at a heartbeat of 10^9")
     for kind in kinds:
         print(f"  workers {kind[0]}, heartbeat {kind[1]}: {alone / times[kind]:.2f} times as fast; {shown(kind)}")
+    for count, seconds in separate.items():
+        print(f"  {count} separate runs by one worker at once: {count * alone / seconds:.2f} times the work")
 PY
