@@ -1,6 +1,6 @@
 -- How a beat goes on.
-use Rattle.std.specs.Prelude.{ℕ, ◌+◌, ◌-◌, ◌^◌, min, Bool, true, false, not, ◌&&◌, if◌then◌else◌}
-use Rattle.std.specs.Prelude.{nat_le}
+use Rattle.std.specs.Prelude.{◌≡◌, ℕ, ◌+◌, ◌-◌, ◌^◌, min, Bool, true, false, not, ◌&&◌, nat_le}
+use Rattle.std.specs.Prelude.{if◌then◌else◌}
 use Rattle.beat_count.specs.BeatState.{BeatState}
 
 -- a beat that has counted nothing
@@ -27,3 +27,8 @@ entered heartbeat marked allowed beat =
 -- the beat once its grant is used
 abbrev pub taken : BeatState → BeatState
 taken beat = record beat { granted = false }
+
+-- an entry of a promotion-ready block changes nothing, and control isn't diverted
+pub record IsCalm (heartbeat : ℕ) (marked allowed : Bool) (beat : BeatState) : Type 0 where
+  pub stays : entered heartbeat marked allowed beat ≡ beat
+  pub goes : is_diverted heartbeat marked allowed beat ≡ false

@@ -1,7 +1,8 @@
 // When a task may be diverted.
 
-ghost use Rattle.std.specs.Prelude.{◌≡◌};
+ghost use Rattle.std.specs.Prelude.{◌≡◌, ◌<◌, ℕ};
 ghost use Rattle.beat_count.specs.Heartbeat.{no_beat, counted, is_diverted, entered, taken};
+ghost use Rattle.beat_count.specs.Heartbeat.{IsCalm};
 ghost use Rattle.beat_count.specs.Counting.{counted_times};
 
 use std::marker::Model;
@@ -72,6 +73,24 @@ impl Beat {
             return true;
         }
         false
+    }
+
+    /// A number of instructions: while fewer are counted, control that enters a promotion-ready
+    /// block just goes on. It is 2^64 - 1 where no heartbeat diverts, and 0 before an entry that is
+    /// passed over.
+    pub fn calm(&self, heartbeat: u64, marked: bool, allowed: bool) -> u64
+        ensures { (n : ℕ)
+            → n < result
+            → IsCalm heartbeat marked allowed (counted_times n self.now) }
+    {
+        if self.quiet {
+            return 0;
+        }
+        if marked && allowed {
+            heartbeat.saturating_sub(self.count)
+        } else {
+            u64::MAX
+        }
     }
 
     /// Uses the grant: answers whether there was one. There is none afterwards.

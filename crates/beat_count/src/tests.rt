@@ -18,6 +18,17 @@ fn a_beat_diverts_once(rt: HostRuntime) {
 }
 
 #[test]
+fn a_beat_is_calm_until_it_is_due(rt: HostRuntime) {
+    let mut beat = Beat::new();
+    beat.count_many(3);
+    assert_eq!(rt; beat.calm(10, true, true), 7);
+    assert_eq!(rt; beat.calm(2, true, true), 0);
+    assert_eq!(rt; beat.calm(2, false, true), u64::MAX);
+    assert_eq!(rt; beat.enter(2, true, true), true);
+    assert_eq!(rt; beat.calm(10, true, false), 0);
+}
+
+#[test]
 fn a_tick_beyond_the_limit_stops(rt: HostRuntime) {
     let mut fuel = Fuel::at(3, 1);
     for (within, ticks) in [(true, 2), (true, 3), (false, 4), (false, 4)] {
