@@ -4,6 +4,8 @@
 pub mod Parts
 -- the conditions that every code meets
 pub mod Conditions
+-- what the ops of a code stand for
+pub mod Ops
 -- what contracts see of a code
 pub mod Listing
 -- the one text of a code

@@ -1,6 +1,8 @@
 // Codes that are made, and codes that are refused.
 
-use crate::{Block, CarryAt, Code, CodeTable, CutKind, Instr, Note, Target, Term, Value};
+use crate::{
+    Alu, Block, CarryAt, Code, CodeTable, CutKind, Instr, Note, Op, Span, Target, Term, Value,
+};
 use std::alloc::Global;
 use std::test::Fail;
 use tp_value::{Items, NoMemory, Place};
@@ -158,5 +160,33 @@ fn a_code_lends_its_lists(rt: HostRuntime) -> Result<(), Fail> {
     assert_eq!(rt; code.tables().len(), 0);
     assert_eq!(rt; code.blocks().len(), 1);
     assert!(rt; Code::new(rt.alloc(), Vec::new(rt.alloc()), Vec::new(rt.alloc()))?.is_none());
+    Ok(())
+}
+
+#[test]
+fn blocks_are_ops(rt: HostRuntime) -> Result<(), Fail> {
+    let body = [
+        Instr::Calc {
+            to: 1,
+            left: 2,
+            alu: Alu::Sub,
+            right: Value::Int(-5),
+        },
+        Instr::Move {
+            to: 0,
+            value: Value::Int(1 << 31),
+        },
+    ];
+    let jump = Term::Jump(Value::Label(1));
+    let mut blocks = Vec::new(rt.alloc());
+    blocks.push(block(rt.alloc(), b"main", Note::Plain, &body, jump)?)?;
+    blocks.push(block(rt.alloc(), b"last", Note::Ready(0), &[], Term::Halt)?)?;
+    let code = Code::new(rt.alloc(), Vec::new(rt.alloc()), blocks)?.ok_or("a code")?;
+    let flat = code.flat();
+    let ops = [Op::SubInt(1, 2, -5), Op::Leave, Op::Jump(1), Op::Leave];
+    assert_eq!(rt; flat.ops.as_slice(), ops.as_slice());
+    let spans = [Span { start: 0, end: 3 }, Span { start: 3, end: 4 }];
+    assert_eq!(rt; flat.spans.as_slice(), spans.as_slice());
+    assert_eq!(rt; flat.doors[1].end, usize::MAX);
     Ok(())
 }
