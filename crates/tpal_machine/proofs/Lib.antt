@@ -40,8 +40,12 @@ pub mod Undiverted
 pub mod Kit
 -- a code written by hand, and what it owes
 pub mod Sample
--- instructions that go on to the next one, counted afterwards
+-- steps that go on, counted afterwards
 pub mod Further
+-- ops that go on and ops that jump, as steps of a turn
+pub mod OpSteps
+-- a run over the ops of a code
+pub mod Running
 -- what takes memory
 pub mod Memory
 -- what a step, a turn, an answer and a merge keep

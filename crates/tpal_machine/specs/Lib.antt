@@ -30,6 +30,10 @@ pub mod Fit
 pub mod Answer
 -- instructions that go on to the next one of their block
 pub mod Passing
+-- what an op does where nothing can divert the task
+pub mod Acting
+-- a run over the ops of a code
+pub mod Running
 -- what a step, a turn and a merge give belongs to the code
 pub mod Belonging
 -- what a task will end with, whatever is promoted

@@ -37,7 +37,7 @@ fn words_of(
 ) -> Result<Vec<(u8, Word)>, NoMemory>
     ensures { IfOk result (λ words. words.items ≡ words_of registers.now renames.now) }
 {
-    let mut words = Vec::new(alloc);
+    let mut words = Vec::with_capacity(alloc, renames.len())?;
     for pair in renames {
         words.push((pair.0, register(registers, pair.0)))?;
     }
@@ -94,44 +94,52 @@ fn slices_of(
 
 /// A side that stopped.
 #[tactic(auto, using(crate::proofs::Memory::done_is))]
-fn side_of(frame: Frame, code: &Code, target: u32, stop: Stop) -> Result<Side, NoMemory>
+fn side_of(frame: Box<Frame>, code: &Code, target: u32, stop: Stop) -> Result<Side, NoMemory>
     ensures side { IfOk result (λ side.
-        side ≡ side_of (the_target code.now target) stop (state_of frame)) }
+        side ≡ side_of (the_target code.now target) stop (state_of frame.value)) }
     ensures memory { OnErr result (stop ≡ stops.Done) }
 {
+    let mut frame = frame;
     let alloc = *frame.output.allocator();
     let ticks = frame.fuel.spent();
+    let output = replace(&mut frame.output, Vec::new(alloc));
     if !is_done(stop) {
         return Ok(Side {
             stop,
             ticks,
-            output: Items::new(frame.output),
+            output: Items::new(output),
             words: Items::new(Vec::new(alloc)),
             slices: Items::new(Vec::new(alloc)),
         });
     }
     let words = words_of(alloc, &frame.registers, renames_of(code, target))?;
-    let slices = slices_of(alloc, frame.tables, carries_of(code, target))?;
+    let tables = replace(&mut frame.tables, Vec::new(alloc));
+    let slices = slices_of(alloc, tables, carries_of(code, target))?;
     Ok(Side {
         stop,
         ticks,
-        output: Items::new(frame.output),
+        output: Items::new(output),
         words: Items::new(words),
         slices: Items::new(slices),
     })
 }
 
 /// What a task ends with, by a stop.
-pub(crate) fn ended(frame: Frame, code: &Code, stop: Stop) -> Result<Ending, NoMemory>
-    ensures ended { IfOk result (λ ending. ending ≡ ended code.now stop (state_of frame)) }
-    ensures memory { OnErr result (Collects (Ends (ended code.now stop (state_of frame)))) }
+pub(crate) fn ended(frame: Box<Frame>, code: &Code, stop: Stop) -> Result<Ending, NoMemory>
+    ensures ended { IfOk result (λ ending. ending ≡ ended code.now stop (state_of frame.value)) }
+    ensures memory { OnErr result (Collects (Ends (ended code.now stop (state_of frame.value)))) }
 {
     match frame.goal {
-        Goal::Root => Ok(Ending::Root(Outcome {
-            stop,
-            ticks: frame.fuel.spent(),
-            output: Items::new(frame.output),
-        })),
+        Goal::Root => {
+            let mut frame = frame;
+            let alloc = *frame.output.allocator();
+            let output = replace(&mut frame.output, Vec::new(alloc));
+            Ok(Ending::Root(Outcome {
+                stop,
+                ticks: frame.fuel.spent(),
+                output: Items::new(output),
+            }))
+        }
         Goal::At { rec, side, target } => {
             let out = side_of(frame, code, target, stop)?;
             Ok(Ending::At { rec, side, out })

@@ -6,7 +6,8 @@ ghost use Rattle.stack_marks.specs.Causes.{CutCause};
 ghost use Rattle.stack_marks.specs.Stacks.{StackValue};
 ghost use Rattle.tpal_machine.specs.Answer.{FailsAs, forked_state};
 ghost use Rattle.tpal_machine.specs.Cut as cutting;
-ghost use Rattle.tpal_machine.specs.Seen.{state_of, AreLow, ArePartsSound};
+ghost use Rattle.tpal_machine.specs.Seen.{rest_state, state_of, AreLow, ArePartsSound};
+ghost use Rattle.tpal_machine.specs.Seen.{IsRestSound};
 
 use crate::blocks::{carries_of, kind_of};
 use crate::cut::{TableCut, carried, cut_tables};
@@ -37,67 +38,45 @@ pub(crate) fn position(at: u64) -> Word
     Word::Int(at as i64)
 }
 
-/// The parts of a task by the parts of its stack and the cuts of its tables.
-fn parted(
-    frame: Frame,
+/// The rest and the child of a task by the parts of its stack and the cuts of its tables. The task
+/// goes on as the left, where it stands.
+fn come_apart(
+    frame: &mut Frame,
     stacks: Cut,
     cuts: &[(u8, TableCut)],
     tie: Tie,
     base: u64,
     child: u32,
-) -> Result<ForkParts, Trouble>
+) -> Result<(Kept, Box<Frame>), Trouble>
     requires left { All (λ m. m.base ≤ 2 ^ 62) stacks.left.marks }
     requires rest { stacks.rest.marks ≡ [] }
     requires child { stacks.child.marks ≡ [] }
     requires base { base ≤ 2 ^ 62 }
     ensures parts { IfOk result
-        (λ parts. forked_state parts
-        ≡ cutting.parted stacks.left stacks.rest stacks.child child tie base cuts.now
-        (state_of frame)) }
-    ensures sound { IfOk result ArePartsSound }
+        (λ made. cutting.parted stacks.left stacks.rest stacks.child child tie base cuts.now
+        (state_of frame.old)
+        ≡ record {
+          rec = made.0.rec;
+          left = state_of frame.new;
+          rest = rest_state made.0;
+          child = state_of made.1.value;
+        }) }
+    ensures left { IfOk result (λ made. AreLow frame.new) }
+    ensures rest { IfOk result (λ made. IsRestSound made.0) }
+    ensures child { IfOk result (λ made. AreLow made.1.value) }
     ensures err { IfErr result (λ trouble. trouble ≡ Trouble.NoMemory) }
 {
     let alloc = *frame.output.allocator();
-    let tables = cut_tables(alloc, frame.tables, cuts)?;
+    let held = replace(&mut frame.tables, Vec::new(alloc));
+    let tables = cut_tables(alloc, held, cuts)?;
     let rest_made = copy_of(alloc, &frame.made)?;
     let child_made = copy_of(alloc, &frame.made)?;
     let mut registers = frame.registers;
     registers[31] = position(base);
     let limit = frame.fuel.limit();
-    let mut beat = frame.beat;
-    beat.take();
-    Ok(ForkParts {
-        left: Frame {
-            registers: frame.registers,
-            stack: stacks.left,
-            tables: tables.left,
-            made: frame.made,
-            fuel: frame.fuel,
-            beat,
-            output: Vec::new(alloc),
-            goal: Goal::At {
-                rec: tie.rec,
-                side: SideName::Left,
-                target: tie.target,
-            },
-            block: frame.block,
-            at: frame.at,
-            pending: None,
-            met: None,
-            waiting: frame.waiting,
-        },
-        rest: Kept {
-            stack: stacks.rest,
-            tables: tables.rest,
-            output: frame.output,
-            goal: frame.goal,
-            base,
-            rec: tie.rec,
-            target: tie.target,
-            limit,
-            made: rest_made,
-        },
-        child: Frame {
+    let right = Box::new(
+        alloc,
+        Frame {
             registers,
             stack: stacks.child,
             tables: tables.child,
@@ -116,6 +95,58 @@ fn parted(
             met: None,
             waiting: None,
         },
+    )?;
+    let rest = Kept {
+        stack: stacks.rest,
+        tables: tables.rest,
+        output: replace(&mut frame.output, Vec::new(alloc)),
+        goal: frame.goal,
+        base,
+        rec: tie.rec,
+        target: tie.target,
+        limit,
+        made: rest_made,
+    };
+    frame.stack = stacks.left;
+    frame.tables = tables.left;
+    frame.beat.take();
+    frame.goal = Goal::At {
+        rec: tie.rec,
+        side: SideName::Left,
+        target: tie.target,
+    };
+    frame.pending = None;
+    frame.met = None;
+    Ok((rest, right))
+}
+
+/// The parts of a task by the parts of its stack and the cuts of its tables. The left keeps the
+/// task's own box.
+fn parted(
+    frame: Box<Frame>,
+    stacks: Cut,
+    cuts: &[(u8, TableCut)],
+    tie: Tie,
+    base: u64,
+    child: u32,
+) -> Result<ForkParts, Trouble>
+    requires left { All (λ m. m.base ≤ 2 ^ 62) stacks.left.marks }
+    requires rest { stacks.rest.marks ≡ [] }
+    requires child { stacks.child.marks ≡ [] }
+    requires base { base ≤ 2 ^ 62 }
+    ensures parts { IfOk result
+        (λ parts. forked_state parts
+        ≡ cutting.parted stacks.left stacks.rest stacks.child child tie base cuts.now
+        (state_of frame.value)) }
+    ensures sound { IfOk result ArePartsSound }
+    ensures err { IfErr result (λ trouble. trouble ≡ Trouble.NoMemory) }
+{
+    let mut frame = frame;
+    let (rest, right) = come_apart(&mut frame, stacks, cuts, tie, base, child)?;
+    Ok(ForkParts {
+        left: frame,
+        rest,
+        child: right,
     })
 }
 
@@ -139,20 +170,22 @@ fn cut_trouble(fault: StackFault) -> Trouble
 /// The fork of a task by a mark, under a record that is its own.
 #[tactic(auto, using(crate::proofs::Refusals::work_goes, crate::proofs::Stacks::low_above))]
 fn fork_at(
-    frame: Frame,
+    frame: Box<Frame>,
     code: &Code,
     tie: Tie,
     mark: Mark,
     child: u32,
 ) -> Result<ForkParts, Trouble>
-    requires low { AreLow frame }
+    requires low { AreLow frame.value }
     requires base { mark.base ≤ 2 ^ 62 }
     ensures ok { IfOk result
-        (λ parts. cutting.forked_at code.now child tie mark (state_of frame)
+        (λ parts. cutting.forked_at code.now child tie mark (state_of frame.value)
         ≡ Ok (forked_state parts)) }
     ensures sound { IfOk result ArePartsSound }
     ensures err { IfErr result
-        (λ trouble. FailsAs (cutting.forked_at code.now child tie mark (state_of frame)) trouble) }
+        (λ trouble.
+        FailsAs (cutting.forked_at code.now child tie mark (state_of frame.value))
+        trouble) }
 {
     let alloc = *frame.output.allocator();
     let cuts = carried(alloc, &frame.registers, carries_of(code, tie.target));
@@ -168,14 +201,15 @@ fn fork_at(
 }
 
 /// The fork of a task under a record that is its own.
-fn fork_under(frame: Frame, code: &Code, tie: Tie, child: u32) -> Result<ForkParts, Trouble>
-    requires low { AreLow frame }
+fn fork_under(frame: Box<Frame>, code: &Code, tie: Tie, child: u32) -> Result<ForkParts, Trouble>
+    requires low { AreLow frame.value }
     ensures ok { IfOk result
-        (λ parts. cutting.fork_under code.now child tie (state_of frame)
+        (λ parts. cutting.fork_under code.now child tie (state_of frame.value)
         ≡ Ok (forked_state parts)) }
     ensures sound { IfOk result ArePartsSound }
     ensures err { IfErr result
-        (λ trouble. FailsAs (cutting.fork_under code.now child tie (state_of frame)) trouble) }
+        (λ trouble.
+        FailsAs (cutting.fork_under code.now child tie (state_of frame.value)) trouble) }
 {
     let mut beat = frame.beat;
     if !beat.take() {
@@ -188,13 +222,19 @@ fn fork_under(frame: Frame, code: &Code, tie: Tie, child: u32) -> Result<ForkPar
 }
 
 /// `fork rA, @l`, by value: the task comes apart.
-pub(crate) fn fork(frame: Frame, code: &Code, rec: u8, child: u32) -> Result<ForkParts, Trouble>
-    requires low { AreLow frame }
+pub(crate) fn fork(
+    frame: Box<Frame>,
+    code: &Code,
+    rec: u8,
+    child: u32,
+) -> Result<ForkParts, Trouble>
+    requires low { AreLow frame.value }
     ensures ok { IfOk result
-        (λ parts. cutting.fork code.now rec child (state_of frame) ≡ Ok (forked_state parts)) }
+        (λ parts.
+        cutting.fork code.now rec child (state_of frame.value) ≡ Ok (forked_state parts)) }
     ensures sound { IfOk result ArePartsSound }
     ensures err { IfErr result
-        (λ trouble. FailsAs (cutting.fork code.now rec child (state_of frame)) trouble) }
+        (λ trouble. FailsAs (cutting.fork code.now rec child (state_of frame.value)) trouble) }
 {
     match register(&frame.registers, rec) {
         Word::Int(_) | Word::Label(_) | Word::Nil => Err(Trouble::Stuck(Fault::NotRec)),

@@ -138,6 +138,7 @@ fn merged_task(
         ≡ merging.merged_task (the_target code.now kept.target) (rest_state kept) left right ticks
         output.items) }
 {
+    let alloc = *output.allocator();
     let registers = merged_registers(
         kept.base,
         renames_of(code, kept.target),
@@ -147,8 +148,9 @@ fn merged_task(
     let mut tables = kept.tables;
     append_parts(&mut tables, left.slices.into_vec())?;
     append_parts(&mut tables, right.slices.into_vec())?;
-    Ok(Task {
-        frame: Frame {
+    let frame = Box::new(
+        alloc,
+        Frame {
             registers,
             stack: kept.stack,
             tables,
@@ -166,7 +168,8 @@ fn merged_task(
             }),
             waiting: None,
         },
-    })
+    )?;
+    Ok(Task { frame })
 }
 
 /// Both ended by a stop.

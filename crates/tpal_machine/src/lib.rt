@@ -5,6 +5,7 @@
 //! instructions comes to. Start with `task`, then `turn`.
 #![tactic(auto)]
 
+mod acting;
 mod blocks;
 mod cut;
 mod ending;
@@ -15,7 +16,6 @@ mod faults;
 mod flow;
 mod fork;
 mod joining;
-mod jumps;
 pub mod laws;
 mod making;
 mod moves;

@@ -6,7 +6,7 @@ use crate::task::Frame;
 /// The task that goes on, the rest and the new task.
 #[derive(Drop)]
 pub(crate) struct ForkParts {
-    pub(crate) left: Frame,
+    pub(crate) left: Box<Frame>,
     pub(crate) rest: Kept,
-    pub(crate) child: Frame,
+    pub(crate) child: Box<Frame>,
 }

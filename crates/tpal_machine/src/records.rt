@@ -74,8 +74,8 @@ fn given(task: Task, rec: Option<u32>) -> Task
     }
 }
 
-fn answered(frame: Frame, wait: Wait, rec: Option<u32>) -> Frame
-    ensures { state_of result ≡ effect.with_answer (Some wait) rec (state_of frame) }
+fn answered(frame: Box<Frame>, wait: Wait, rec: Option<u32>) -> Box<Frame>
+    ensures { state_of result.value ≡ effect.with_answer (Some wait) rec (state_of frame.value) }
 {
     let mut frame = frame;
     frame.waiting = None;

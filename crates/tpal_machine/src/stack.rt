@@ -29,6 +29,7 @@ fn above(stack: &Stack, from: i64, off: u16) -> i64
 }
 
 /// `rA := mem[rB+n]`.
+#[inline(always)]
 #[tactic(auto, using(crate::proofs::Numbers::on_number_none, crate::proofs::Stacks::beyond_the_top))]
 pub(crate) fn load(frame: &mut Frame, to: u8, base: u8, off: u16) -> Result<(), Fault>
     requires to { to < 32 }
@@ -51,6 +52,7 @@ pub(crate) fn load(frame: &mut Frame, to: u8, base: u8, off: u16) -> Result<(), 
 }
 
 /// `mem[rA+n] := v`.
+#[inline(always)]
 #[tactic(auto, using(crate::proofs::Numbers::on_number_none, crate::proofs::Stacks::beyond_the_top))]
 pub(crate) fn store(frame: &mut Frame, base: u8, off: u16, value: Value) -> Result<(), Fault>
     requires base { base < 32 }

@@ -1,6 +1,6 @@
 // A task: what it holds between two instructions.
 
-ghost use Rattle.std.specs.Prelude.{◌≡◌, ◌≤◌};
+ghost use Rattle.std.specs.Prelude.{◌≡◌, ◌≤◌, IfOk};
 ghost use Rattle.tpal_machine.specs.State.{first_state};
 
 use crate::ends::{Goal, Tie, Wait};
@@ -30,10 +30,11 @@ pub(crate) struct Frame {
     pub(crate) waiting: Option<Wait>,
 }
 
-/// A task. Contracts see it as its `State`.
+/// A task. Contracts see it as its `State`. What it holds stands in a box, since tasks are handed
+/// over at every fork, claim and turn.
 #[derive(Drop)]
 pub struct Task {
-    pub(crate) frame: Frame,
+    pub(crate) frame: Box<Frame>,
 }
 
 impl Model for Task {
@@ -47,9 +48,9 @@ impl Model for Task {
 
     ghost use Rattle.tpal_machine.specs.Seen.{state_of, AreLow};
 
-    ghost view = { λ task. state_of task.frame };
+    ghost view = { λ task. state_of task.frame.value };
 
-    ghost invariant = { λ task. AreLow task.frame };
+    ghost invariant = { λ task. AreLow task.frame.value };
 }
 
 impl Task {
@@ -67,18 +68,19 @@ impl Task {
         ensures belongs { IfOk result (RunsOn code.now) }
     {
         let _blocks = code.blocks();
-        Ok(first_task(alloc, tables, fuel))
+        first_task(alloc, tables, fuel)
     }
 }
 
-fn first_task(alloc: Global, tables: Vec<Held>, fuel: u64) -> Task
+fn first_task(alloc: Global, tables: Vec<Held>, fuel: u64) -> Result<Task, NoMemory>
     requires { fuel ≤ MAX_FUEL }
-    ensures { result ≡ first_state tables.items fuel }
+    ensures { IfOk result (λ task. task ≡ first_state tables.items fuel) }
 {
     let mut registers = [Word::Nil; 32];
     registers[31] = Word::Int(0);
-    Task {
-        frame: Frame {
+    let frame = Box::new(
+        alloc,
+        Frame {
             registers,
             stack: Stack::new(alloc, 0),
             tables,
@@ -93,5 +95,6 @@ fn first_task(alloc: Global, tables: Vec<Held>, fuel: u64) -> Task
             met: None,
             waiting: None,
         },
-    }
+    )?;
+    Ok(Task { frame })
 }
