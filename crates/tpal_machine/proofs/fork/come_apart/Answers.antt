@@ -7,8 +7,11 @@ use Rattle.tpal_machine.proofs.fork.come_apart.Goals as goal
 
 pub returns-clause-parts : goal.returns-clause-parts
 returns-clause-parts c =
-    let rest_made : c.in_ok-rest_made.rest_made.items ≡ c.args.frame.now.made.items = cc c.in_ok-rest_made.ensures in
-    let child_made : c.in_ok-child_made.child_made.items ≡ c.args.frame.now.made.items = cc c.in_ok-child_made.ensures in
+    let rest_made : c.in_ok-rest_made.rest_made.items ≡ c.args.frame.now.made.items =
+        cc c.in_ok-rest_made.ensures in
+    let child_made : c.in_ok-child_made.child_made.items ≡ c.args.frame.now.made.items =
+        cc c.in_ok-child_made.ensures in
+    let limit = c.limit-limit.ensures.limit in
     let held = ap (λ v. v.items) c.replace-held.ensures.value in
     sym (λ i. record {
       rec = c.args.tie.rec;
@@ -35,7 +38,7 @@ returns-clause-parts c =
         base = c.args.base;
         rec = c.args.tie.rec;
         target = c.args.tie.target;
-        limit = c.limit-limit.ensures.limit i;
+        limit = limit i;
         made = rest_made i;
       };
       child = (ap state_of c.in_ok-right.ensures.ok ∙ (λ j. record {
@@ -43,7 +46,7 @@ returns-clause-parts c =
         stack = c.args.stacks.child;
         tables = (rw held at c.in_ok-tables.ensures.child) j;
         made = child_made j;
-        fuel = (c.new-2.ensures ∙ ap (λ n. record { limit = n; ticks = 0 }) c.limit-limit.ensures.limit) j;
+        fuel = (c.new-2.ensures ∙ ap (λ n. record { limit = n; ticks = 0 }) limit) j;
         beat = c.new-3.ensures j;
         output = c.new-4.ensures.items j;
         goal = goals.At c.args.tie.rec Right c.args.tie.target;
