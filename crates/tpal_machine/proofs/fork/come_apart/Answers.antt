@@ -8,9 +8,9 @@ use Rattle.tpal_machine.proofs.fork.come_apart.Goals as goal
 pub returns-clause-parts : goal.returns-clause-parts
 returns-clause-parts c =
     let rest_made : c.in_ok-rest_made.rest_made.items ≡ c.args.frame.now.made.items =
-        cc c.in_ok-rest_made.ensures in
+    cc c.in_ok-rest_made.ensures in
     let child_made : c.in_ok-child_made.child_made.items ≡ c.args.frame.now.made.items =
-        cc c.in_ok-child_made.ensures in
+    cc c.in_ok-child_made.ensures in
     let limit = c.limit-limit.ensures.limit in
     let held = ap (λ v. v.items) c.replace-held.ensures.value in
     sym (λ i. record {

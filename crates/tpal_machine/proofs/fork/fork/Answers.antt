@@ -11,9 +11,9 @@ returns-then-tie-number-clause-ok c =
     let frame = c.args.frame.value in
     let number = c.in-Rec.number in
     let held : register frame.registers c.args.rec ≡ words.Rec number =
-        sym (rw c.deref.ensures at c.in-Rec.ensures) in
+    sym (rw c.deref.ensures at c.in-Rec.ensures) in
     let pending : frame.pending ≡ Some c.in-Some.tie = cc c.in-Some.is in
     let same =
-        fork_is c.args.code.now c.args.rec c.args.child (state_of frame) number c.in-Some.tie
-        held pending c.if-tie-number.true in
+    fork_is c.args.code.now c.args.rec c.args.child (state_of frame) number c.in-Some.tie
+    held pending c.if-tie-number.true in
     IfOk-weaker c.fork_under.result _ _ (λ parts h. same ∙ h) c.fork_under.ensures.ok

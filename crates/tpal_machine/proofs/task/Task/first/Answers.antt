@@ -8,7 +8,7 @@ pub returns-clause-belongs : goal.returns-clause-belongs
 returns-clause-belongs c =
     let code = c.args.code.now in
     let runs =
-        first_of code c.args.tables.items c.args.fuel c.blocks-blocks.ensures.right
-        c.requires.tables in
+    first_of code c.args.tables.items c.args.fuel c.blocks-blocks.ensures.right
+    c.requires.tables in
     IfOk-weaker c.first_task.result _ _ (λ task same. subst (RunsOn code) (sym same) runs)
     c.first_task.ensures
