@@ -50,6 +50,23 @@ calm_before n heartbeat marked allowed b low speaks soon =
     (calm_at heartbeat marked allowed (record b { count = count }) speaks
     (ap (λ (t : Bool). t && (marked && allowed)) (not_yet heartbeat count below)))
 
+by_then : (a b : ℕ) → a ≤ b → nat_le a b ≡ true
+by_then a b reached = grind (arith, nat_tests, reached)
+
+-- once the heartbeat is due
+pub due_then : (n heartbeat : ℕ) (marked allowed : Bool) (b : BeatState)
+    → b.count ≤ 2 ^ 64 - 1 → heartbeat ≤ 2 ^ 64 - 1 → b.quiet ≡ false → (marked && allowed) ≡ true
+    → n ≡ heartbeat - b.count
+    → is_diverted heartbeat marked allowed (counted_times n b) ≡ true
+due_then n heartbeat marked allowed b low some speaks can left =
+    let count : ℕ = min (b.count + n) (2 ^ 64 - 1) in
+    let reached : heartbeat ≤ count = omega (arith, low, some, left) in
+    subst (λ (c : BeatState). is_diverted heartbeat marked allowed c ≡ true)
+    (sym (counted_times_is n b low))
+    (ap (λ (q : Bool). not q && (nat_le heartbeat count && (marked && allowed))) speaks
+    ∙ ap (λ (t : Bool). t && (marked && allowed)) (by_then heartbeat count reached)
+    ∙ can)
+
 -- counting makes no beat quiet, nor ends that
 still_speaks : (n : ℕ) (b : BeatState) → (counted_times n b).quiet ≡ b.quiet
 unfolding counted_times

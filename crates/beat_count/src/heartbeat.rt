@@ -1,6 +1,6 @@
 // When a task may be diverted.
 
-ghost use Rattle.std.specs.Prelude.{◌≡◌, ◌<◌, ℕ};
+ghost use Rattle.std.specs.Prelude.{◌≡◌, ◌<◌, ◌-◌, ◌^◌, ℕ, true, false};
 ghost use Rattle.beat_count.specs.Heartbeat.{no_beat, counted, is_diverted, entered, taken};
 ghost use Rattle.beat_count.specs.Heartbeat.{IsCalm};
 ghost use Rattle.beat_count.specs.Counting.{counted_times};
@@ -75,13 +75,16 @@ impl Beat {
         false
     }
 
-    /// A number of instructions: while fewer are counted, control that enters a promotion-ready
-    /// block just goes on. It is 2^64 - 1 where no heartbeat diverts, and 0 before an entry that is
-    /// passed over.
+    /// How many instructions: while fewer are counted, control that enters a promotion-ready block
+    /// just goes on, and when so many are, it is diverted. It is 2^64 - 1 where no heartbeat
+    /// diverts, and 0 before an entry that is passed over.
     pub fn calm(&self, heartbeat: u64, marked: bool, allowed: bool) -> u64
-        ensures { (n : ℕ)
+        ensures calm { (n : ℕ)
             → n < result
             → IsCalm heartbeat marked allowed (counted_times n self.now) }
+        ensures most { self.now.quiet ≡ false
+            → result < 2 ^ 64 - 1
+            → is_diverted heartbeat marked allowed (counted_times result self.now) ≡ true }
     {
         if self.quiet {
             return 0;
