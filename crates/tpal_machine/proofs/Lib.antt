@@ -2,6 +2,8 @@
 pub mod Lists
 -- words that are no numbers
 pub mod Numbers
+-- vectors in which an element is written over by itself
+pub mod Vectors
 -- held tables that are equal
 pub mod Holdings
 -- what is known of the blocks of a code

@@ -15,6 +15,7 @@ mod execute;
 mod faults;
 mod flow;
 mod fork;
+mod joined;
 mod joining;
 pub mod laws;
 mod making;

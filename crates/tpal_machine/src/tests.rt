@@ -334,6 +334,62 @@ fn each_fault_has_a_code(rt: HostRuntime) -> Result<(), Fail> {
     Ok(())
 }
 
+const fn load(to: u8, off: u16) -> Instr {
+    Instr::Load { to, base: 31, off }
+}
+
+const fn calc(to: u8, left: u8, alu: Alu, right: Value) -> Instr {
+    Instr::Calc {
+        to,
+        left,
+        alu,
+        right,
+    }
+}
+
+#[test]
+fn each_of_several_faults_at_its_place(rt: HostRuntime) -> Result<(), Fail> {
+    let test = Instr::IfJump { test: 1, label: 5 };
+    let size = calc(1, 1, Alu::Le, Value::Reg(9));
+    let sign = calc(1, 1, Alu::Lt, Value::Int(0));
+    let sum = calc(1, 1, Alu::Add, Value::Int(1));
+    let store = Instr::Store {
+        base: 31,
+        off: 0,
+        value: Value::Reg(1),
+    };
+    let cases: [([Instr; 4], (Fault, u32, u32)); 6] = [
+        (
+            [ONE_CELL, Instr::Rows { to: 1, table: 0 }, size, test],
+            (Fault::NotInt, 0, 2),
+        ),
+        (
+            [ONE_CELL, Instr::Cols { to: 1, table: 0 }, size, test],
+            (Fault::NotInt, 0, 2),
+        ),
+        (
+            [ONE_CELL, calc(1, 2, Alu::Min, Value::Reg(31)), sign, test],
+            (Fault::NotInt, 0, 1),
+        ),
+        (
+            [ONE_CELL, load(1, 0), load(2, 1), test],
+            (Fault::OutOfRange, 0, 2),
+        ),
+        ([ONE_CELL, load(1, 0), sum, store], (Fault::NotInt, 0, 2)),
+        (
+            [ONE_CELL, calc(1, 31, Alu::Lt, Value::Reg(2)), test, test],
+            (Fault::NotInt, 0, 1),
+        ),
+    ];
+    for (main, wanted) in cases {
+        assert_eq!(rt;
+            fault_of(rt.alloc(), Ground::Zero, &main, Term::Halt, &[])?,
+            Some(wanted)
+        );
+    }
+    Ok(())
+}
+
 #[test]
 fn a_turn_counts_its_steps(rt: HostRuntime) -> Result<(), Fail> {
     let main = [Instr::Print(31), Instr::Tick];

@@ -9,6 +9,7 @@ mod blocks;
 mod codes;
 mod conditions;
 mod instructions;
+mod joined;
 mod names;
 mod notes;
 mod ops;

@@ -190,3 +190,67 @@ fn blocks_are_ops(rt: HostRuntime) -> Result<(), Fail> {
     assert_eq!(rt; flat.doors[1].end, usize::MAX);
     Ok(())
 }
+
+const fn calc(to: u8, left: u8, alu: Alu, right: Value) -> Instr {
+    Instr::Calc {
+        to,
+        left,
+        alu,
+        right,
+    }
+}
+
+// The op that stands at the beginning of a body.
+fn first_op(alloc: Global, body: &[Instr]) -> Result<Option<Op>, NoMemory> {
+    let mut blocks = Vec::new(alloc);
+    blocks.push(block(alloc, b"main", Note::Plain, body, Term::Halt)?)?;
+    let mut tables = Vec::new(alloc);
+    tables.push(CodeTable::Made)?;
+    match Code::new(alloc, tables, blocks)? {
+        None => Ok(None),
+        Some(code) => Ok(code.flat().ops.first().copied()),
+    }
+}
+
+#[test]
+fn several_instructions_are_one_op(rt: HostRuntime) -> Result<(), Fail> {
+    let rows = Instr::Rows { to: 2, table: 0 };
+    let cols = Instr::Cols { to: 2, table: 0 };
+    let reaches = calc(2, 2, Alu::Le, Value::Reg(1));
+    let sign = calc(2, 2, Alu::Lt, Value::Int(0));
+    let jump = Instr::IfJump { test: 2, label: 0 };
+    let load = Instr::Load {
+        to: 2,
+        base: 31,
+        off: 7,
+    };
+    let second = Instr::Load {
+        to: 3,
+        base: 31,
+        off: 8,
+    };
+    let sum = calc(2, 2, Alu::Add, Value::Int(-1));
+    let store = Instr::Store {
+        base: 31,
+        off: 7,
+        value: Value::Reg(2),
+    };
+    let least = calc(2, 0, Alu::Min, Value::Reg(1));
+    let less = calc(2, 0, Alu::Lt, Value::Reg(1));
+    let cases: [(&[Instr], Op); 10] = [
+        (&[rows, reaches, jump], Op::RowsTest(2, 0, 1, 0)),
+        (&[cols, reaches, jump], Op::ColsTest(2, 0, 1, 0)),
+        (&[rows, reaches], Op::Rows(2, 0)),
+        (&[rows, sign, jump], Op::Rows(2, 0)),
+        (&[least, sign, jump], Op::BelowTest(2, 0, 1, 0)),
+        (&[least, reaches, jump], Op::CalcReg(Alu::Min, 2, 0, 1)),
+        (&[less, jump], Op::LtTest(2, 0, 1, 0)),
+        (&[load, second], Op::LoadTwo(2, 3, 31, 7, 8)),
+        (&[load, sum, store], Op::AddCell(2, 31, 7, -1)),
+        (&[load, sum, second], Op::Load(2, 31, 7)),
+    ];
+    for (body, op) in cases {
+        assert_eq!(rt; first_op(rt.alloc(), body)?, Some(op));
+    }
+    Ok(())
+}
