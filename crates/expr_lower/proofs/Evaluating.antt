@@ -1,7 +1,7 @@
 -- Instructions that leave the number of an answer in a register, or trap where it is a trap: what they are
 -- over any predicate that goes backwards, and how those of two operands are put together.
-use Rattle.std.proofs.Common.{◌≡◌, ℕ, ◌+◌, Bool, true, false, List, [], ◌∷◌, ◌++◌, Some, Ok, refl}
-use Rattle.std.proofs.Common.{ap, ◌∙◌, arith}
+use Rattle.std.proofs.Common.{◌≡◌, ℕ, ◌+◌, Bool, true, false, List, [], ◌∷◌, ◌++◌, Option, Some}
+use Rattle.std.proofs.Common.{None, Ok, refl, ap, ◌∙◌, arith}
 use Rattle.std.specs.Prelude.{ℤ, pos, slice_set}
 use Rattle.std.specs.List.{AllByRecursion}
 use Rattle.beat_count.specs.BeatState.{BeatState}
@@ -14,7 +14,7 @@ use Rattle.loop_meaning.specs.declared.value.Answer.{Answer}
 use Rattle.loop_meaning.specs.declared.value.Answer.TheVariants.{Number, Traps}
 use Rattle.loop_meaning.specs.declared.value.Variable.{Variable}
 use Rattle.loop_meaning.specs.Expressions.{Value, bind_answer}
-use Rattle.loop_meaning.specs.State.{Note}
+use Rattle.loop_meaning.specs.State.{Note, lookup}
 use Rattle.tpal_syntax.specs.Conditions.{is_ready}
 use Rattle.tpal_syntax.specs.declared.instructions.Alu.{Alu}
 use Rattle.tpal_syntax.specs.declared.instructions.Instr.{Instr}
@@ -30,8 +30,9 @@ use Rattle.tpal_machine.specs.State.{State}
 use Rattle.tpal_machine.proofs.Kit.{Back, IsNext, on_calc, on_if, on_if_not}
 use Rattle.expr_lower.specs.declared.scope.Scope.{Scope}
 use Rattle.expr_lower.specs.Bodies.{trap_block}
-use Rattle.expr_lower.specs.Holding.{Holds, IsHeld}
+use Rattle.expr_lower.specs.Holding.{Holds, HasNumber, IsHeld}
 use Rattle.expr_lower.specs.Leaving.{Keeps, moved, moved_to}
+use Rattle.expr_lower.specs.Scopes.{offset_of, register_of}
 use Rattle.expr_lower.specs.Standing.{Remains}
 use Rattle.expr_lower.proofs.Keeping.{kept_twice, kept_wider}
 use Rattle.expr_lower.proofs.Standing.{next, behind, split}
@@ -68,13 +69,22 @@ holds_back scope vars tables state xs ys holds = record {
   cells = held_back scope tables state xs ys holds.cells;
 }
 
+-- a variable's number stays where the registers above 23 are kept
+number_moved : (home : Option ℕ) (off to : ℕ) (n base : ℤ) (state : State) (words : List Word)
+    (beat : BeatState) (at : ℕ) → Keeps to state words beat → HasNumber state base home off n
+    → HasNumber (moved state words beat at) base home off n
+number_moved (Some r) off to n base state words beat at keeps has =
+    (has.0, has.1, keeps.above r has.0 ∙ has.2)
+number_moved None off to n base state words beat at keeps has = has
+
 -- a task still holds them where the registers above 23 are kept
 pub holds_moved : (scope : Scope) (vars : List Variable) (tables : List Table) (notes : List Note) (to : ℕ) (state : State) (words : List Word) (beat : BeatState) (at : ℕ) → Keeps to state words beat → Holds scope vars tables notes state → Holds scope vars tables notes (moved state words beat at)
 holds_moved scope vars tables notes to state words beat at keeps holds = record {
   registers = keeps.size ∙ holds.registers;
   base = holds.base;
   is_base = keeps.above 31 (omega arith) ∙ holds.is_base;
-  variables = holds.variables;
+  variables = λ x has. number_moved (register_of scope x) (offset_of scope x) to (lookup vars x)
+      holds.base state words beat at keeps (holds.variables x has);
   rows = holds.rows;
   cols = holds.cols;
   cells = holds.cells;

@@ -22,8 +22,9 @@ use Rattle.tpal_syntax.specs.declared.instructions.Value as operands
 use Rattle.tpal_syntax.specs.declared.instructions.Value.TheVariants as value
 use Rattle.expr_lower.specs.declared.scope.Scope.{Scope}
 use Rattle.expr_lower.specs.Bodies.{literal, can_trap, may_be_zero, trap_count, calculation, turned}
-use Rattle.expr_lower.specs.Bodies.{division, operation, below_test, row_test, col_test, body_of}
-use Rattle.expr_lower.specs.Scopes.{IsIn, cell_in, number_in, has_table_in}
+use Rattle.expr_lower.specs.Bodies.{division, operation, below_test, row_test, col_test}
+use Rattle.expr_lower.specs.Bodies.{variable_read, body_of}
+use Rattle.expr_lower.specs.Scopes.{IsIn, cell_in, register_in, number_in, has_table_in}
 use Rattle.expr_lower.proofs.Law.{Fits, fits}
 
 -- ---- tests
@@ -40,6 +41,24 @@ offset_low [] x are = omega arith
 offset_low (c ∷ cs) x (is, are) = by_name (bytes_eq c.0.items x) (offset_low cs x are)
   where
     by_name : (same : Bool) → cell_in cs x ≤ 511 → cond same c.1 (cell_in cs x) ≤ 511
+    by_name true low = is
+    by_name false low = low
+
+-- the registers of a scope are ones that a code has
+abbrev pub AreRegisters : List (Vec ℕ Global × ℕ) → Type 0
+AreRegisters regs = AllByRecursion (λ r. r.1 < 32) regs
+
+abbrev IsRegister : Option ℕ → Type 0
+IsRegister None = ⊤
+IsRegister (Some r) = r < 32
+
+register_low : (regs : List (Vec ℕ Global × ℕ)) (x : List ℕ) → AreRegisters regs
+    → IsRegister (register_in regs x)
+register_low [] x are = tt
+register_low (r ∷ rs) x (is, are) = by_name (bytes_eq r.0.items x) (register_low rs x are)
+  where
+    by_name : (same : Bool) → IsRegister (register_in rs x)
+        → IsRegister (cond same (Some r.1) (register_in rs x))
     by_name true low = is
     by_name false low = low
 
@@ -176,20 +195,47 @@ module _ (tables blocks : ℕ) where
 
   -- ---- expressions
 
+  read_fits : (home : Option ℕ) (off to : ℕ) → to < 32 → IsRegister home → off ≤ 511
+      → AreFitting (variable_read home off to)
+  read_fits (Some r) off to first second third =
+      both _ _ (both _ _ (low to first) (low r second)) refl
+  read_fits None off to first second third =
+      both _ _ (both _ _ (both _ _ (low to first) refl) (le-leb off 511 third)) refl
+
   -- the instructions of an expression, in a code with at least the scope's tables and with its trap blocks
-  pub body_fits : (scope : Scope) (e : Expr) (label to : ℕ) → AreOffsets scope.cells.items → length scope.tables.items ≤ tables → IsIn scope e → ExprInRange e → to + height e ≤ 24 → label + trap_count e ≤ blocks → AreFitting (body_of scope label e to)
-  body_fits scope (Int n place) label to offsets few is within registers known = both _ _ (both _ _ (low to (omega arith)) (number_fits n within)) refl
-  body_fits scope (Var x) label to offsets few is within registers known = both _ _ (both _ _ (both _ _ (low to (omega arith)) refl) (le-leb _ 511 (offset_low scope.cells.items x.text.items offsets))) refl
-  body_fits scope (Cell' t p a q b) label to offsets few is within registers known =
+  pub body_fits : (scope : Scope) (e : Expr) (label to : ℕ) → AreOffsets scope.cells.items
+      → AreRegisters scope.regs.items → length scope.tables.items ≤ tables → IsIn scope e
+      → ExprInRange e → to + height e ≤ 24 → label + trap_count e ≤ blocks
+      → AreFitting (body_of scope label e to)
+  body_fits scope (Int n place) label to offsets registered few is within registers known =
+      both _ _ (both _ _ (low to (omega arith)) (number_fits n within)) refl
+  body_fits scope (Var x) label to offsets registered few is within registers known =
+      read_fits (register_in scope.regs.items x.text.items) (cell_in scope.cells.items x.text.items)
+      to (omega arith) (register_low scope.regs.items x.text.items registered)
+      (offset_low scope.cells.items x.text.items offsets)
+  body_fits scope (Cell' t p a q b) label to offsets registered few is within registers known =
       let has : Fits to a b = fits to a b registers in
       let named : number_in scope.tables.items t.text.items < tables = omega (arith, number_low scope.tables.items t.text.items is.0) in
       cell_fits (number_in scope.tables.items t.text.items) to (label + trap_count a + trap_count b) (body_of scope label a to) (body_of scope (label + trap_count a) b (to + 1)) named has.node (omega arith)
-      (body_fits scope a label to offsets few is.1 within.0 has.first (omega arith)) (body_fits scope b (label + trap_count a) (to + 1) offsets few is.2 within.1 has.second (omega arith)) (nat_lt to 22)
-  body_fits scope (Rows t) label to offsets few is within registers known = both _ _ (size_fits to _ (omega arith) (omega (arith, number_low scope.tables.items t.text.items is))) refl
-  body_fits scope (Cols t) label to offsets few is within registers known = both _ _ (size_fits to _ (omega arith) (omega (arith, number_low scope.tables.items t.text.items is))) refl
-  body_fits scope (Neg' p a place) label to offsets few is within registers known =
-      joined (body_of scope label a to) _ (body_fits scope a label to offsets few is within (omega arith) known) (both _ _ (calc_fits to to alu.Mul (value.Int (negsuc 0)) (omega arith) (omega arith) refl) refl)
-  body_fits scope (Bin' o place p a q b) label to offsets few is within registers known =
+      (body_fits scope a label to offsets registered few is.1 within.0 has.first (omega arith))
+      (body_fits scope b (label + trap_count a) (to + 1) offsets registered few is.2 within.1
+      has.second (omega arith)) (nat_lt to 22)
+  body_fits scope (Rows t) label to offsets registered few is within registers known =
+      both _ _ (size_fits to _ (omega arith)
+      (omega (arith, number_low scope.tables.items t.text.items is))) refl
+  body_fits scope (Cols t) label to offsets registered few is within registers known =
+      both _ _ (size_fits to _ (omega arith)
+      (omega (arith, number_low scope.tables.items t.text.items is))) refl
+  body_fits scope (Neg' p a place) label to offsets registered few is within registers known =
+      joined (body_of scope label a to) _
+      (body_fits scope a label to offsets registered few is within (omega arith) known)
+      (both _ _ (calc_fits to to alu.Mul (value.Int (negsuc 0)) (omega arith) (omega arith)
+      refl) refl)
+  body_fits scope (Bin' o place p a q b) label to offsets registered few is within registers known =
       let has : Fits to a b = fits to a b registers in
-      joined (body_of scope label a to) _ (body_fits scope a label to offsets few is.0 within.0 has.first (omega arith))
-      (operation_fits o to (label + trap_count a + trap_count b) (body_of scope (label + trap_count a) b (to + 1)) (literal b) has.node (omega arith) (literal_fits b within.1) (body_fits scope b (label + trap_count a) (to + 1) offsets few is.1 within.1 has.second (omega arith)))
+      joined (body_of scope label a to) _
+      (body_fits scope a label to offsets registered few is.0 within.0 has.first (omega arith))
+      (operation_fits o to (label + trap_count a + trap_count b)
+      (body_of scope (label + trap_count a) b (to + 1)) (literal b) has.node (omega arith)
+      (literal_fits b within.1) (body_fits scope b (label + trap_count a) (to + 1) offsets
+      registered few is.1 within.1 has.second (omega arith)))

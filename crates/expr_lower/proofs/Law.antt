@@ -1,6 +1,6 @@
 -- The instructions of an expression evaluate it.
-use Rattle.std.proofs.Common.{◌≡◌, ℕ, suc, ◌+◌, ◌≤◌, Bool, true, false, cond, Ok, List, [], ◌∷◌}
-use Rattle.std.proofs.Common.{◌++◌, max, refl, ap, subst, ◌∙◌, arith, lit≤}
+use Rattle.std.proofs.Common.{◌≡◌, ℕ, suc, ◌+◌, ◌<◌, ◌≤◌, Bool, true, false, cond, Ok, List, []}
+use Rattle.std.proofs.Common.{◌∷◌, ◌++◌, Option, Some, None, max, refl, ap, subst, ◌∙◌, arith, lit≤}
 use Rattle.std.specs.Prelude.{ℤ, pos, negsuc, ◌-ℤ◌, ◌*ℤ◌, slice_set, length}
 use Rattle.std.proofs.lemmas.List.{length-append}
 use Rattle.std.proofs.Math.Nat.{le-max_left, le-max_right}
@@ -12,26 +12,31 @@ use Rattle.tp_value.specs.declared.TrapKind.TheVariants.{Divide, Index}
 use Rattle.loop_syntax.specs.declared.Expr.{Expr}
 use Rattle.loop_syntax.specs.declared.Expr.TheVariants.{Int, Var, Cell', Rows, Cols, Neg', Bin'}
 use Rattle.loop_rules.specs.Limits.{height}
+use Rattle.loop_meaning.specs.declared.value.Answer.TheVariants.{Number}
 use Rattle.loop_meaning.specs.declared.value.Variable.{Variable}
 use Rattle.loop_meaning.specs.Expressions.{eval, number, bind}
 use Rattle.loop_meaning.specs.Expressions as meaning
 use Rattle.loop_meaning.specs.State.{lookup}
 use Rattle.tpal_syntax.specs.declared.blocks.Block.{Block}
 use Rattle.tpal_syntax.specs.declared.instructions.Alu.TheVariants as alu
+use Rattle.tpal_syntax.specs.declared.instructions.Instr.{Instr}
 use Rattle.tpal_syntax.specs.declared.instructions.Instr.TheVariants as instr
+use Rattle.tpal_syntax.specs.declared.instructions.Term.{Term}
 use Rattle.tpal_syntax.specs.declared.instructions.Value.TheVariants as value
 use Rattle.tpal_syntax.specs.declared.words.Word.{Word}
 use Rattle.tpal_syntax.specs.declared.words.Word.TheVariants as word
 use Rattle.tpal_syntax.specs.Listing.{Listing}
-use Rattle.tpal_machine.specs.Reading.{table_at}
+use Rattle.tpal_machine.specs.Reading.{register, table_at}
+use Rattle.tpal_machine.specs.State.{State}
 use Rattle.tpal_machine.proofs.Kit.{Back, on_move, on_load}
 use Rattle.expr_lower.specs.declared.scope.Scope.{Scope}
 use Rattle.expr_lower.specs.Bodies.{trap_block, literal, can_trap, trap_count, traps_of, operation}
-use Rattle.expr_lower.specs.Bodies.{body_of}
-use Rattle.expr_lower.specs.Scopes.{IsIn, offset_of, table_number}
-use Rattle.expr_lower.specs.Standing.{AreAt}
+use Rattle.expr_lower.specs.Bodies.{variable_read, body_of}
+use Rattle.expr_lower.specs.Holding.{HasNumber}
+use Rattle.expr_lower.specs.Scopes.{IsIn, offset_of, register_of, table_number}
+use Rattle.expr_lower.specs.Standing.{Remains, AreAt}
 use Rattle.expr_lower.proofs.CellReads.{on_rows, on_cols, cell_law}
-use Rattle.expr_lower.proofs.Evaluating.{Evaluates, with_operand}
+use Rattle.expr_lower.proofs.Evaluating.{After, Evaluates, with_operand}
 use Rattle.expr_lower.proofs.Operations.{IsNumber, ends_with, on_literal, operation_law}
 use Rattle.expr_lower.proofs.Keeping.{register_set, kept_set}
 use Rattle.expr_lower.proofs.Standing.{next, behind, front, back}
@@ -110,6 +115,28 @@ literal_is vars tables (Neg' p a place) = tt
 literal_is vars tables (Bin' o place p a q b) = tt
 
 module _ (code : Listing) (heartbeat : ℕ) (K : Back code heartbeat) (scope : Scope) (vars : List Variable) (tables : List Table) where
+  -- a variable's number comes from its register, or from its cell
+  variable_law : (home : Option ℕ) (off to : ℕ) (n : ℤ) → to < 24
+      → (state : State) (more : List Instr) (end : Term) (base : ℤ)
+      → Remains code state.block state.at (variable_read home off to ++ more) end
+      → length state.registers ≡ 32 → register state.registers 31 ≡ word.Int base
+      → HasNumber state base home off n
+      → After code heartbeat K to state more end (Number n) → K.Holds state
+  variable_law (Some r) off to n below state more end base stands many is_base has after =
+      let w : Word = register state.registers r in
+      on_move code heartbeat K state to (value.Reg r) (next code state _ more end stands)
+      (after (slice_set state.registers to w) (counted state.beat) (state.at + 1)
+      (kept_set to to state w (omega arith) below)
+      (register_set state.registers to w (omega (arith, many)) ∙ has.2)
+      (behind code state.block state.at _ more end stands))
+  variable_law None off to n below state more end base stands many is_base has after =
+      on_load code heartbeat K state to 31 off base (word.Int n) (next code state _ more end stands)
+      is_base has
+      (after (slice_set state.registers to (word.Int n)) (counted state.beat) (state.at + 1)
+      (kept_set to to state (word.Int n) (omega arith) below)
+      (register_set state.registers to (word.Int n) (omega (arith, many)))
+      (behind code state.block state.at _ more end stands))
+
   -- In a code that has an expression's trap blocks, its instructions come to its answer, over any predicate
   -- that goes backwards.
   pub expr_law : (e : Expr) (label to : ℕ) → IsIn scope e → to + height e ≤ 24 → AreAt code label (traps_of label e) → Evaluates code heartbeat K scope vars tables (body_of scope label e to) to (eval vars tables e).answer (eval vars tables e).notes
@@ -117,9 +144,9 @@ module _ (code : Listing) (heartbeat : ℕ) (K : Back code heartbeat) (scope : S
       on_move code heartbeat K state to (value.Int n) (next code state _ more end stands)
       (after (slice_set state.registers to (word.Int n)) (counted state.beat) (state.at + 1) (kept_set to to state (word.Int n) (omega arith) (omega arith)) (register_set state.registers to (word.Int n) (omega (arith, holds.registers))) (behind code state.block state.at _ more end stands))
   expr_law (Var x) label to is within are state more end stands holds after =
-      let number_of : Word = word.Int (lookup vars x.text.items) in
-      on_load code heartbeat K state to 31 (offset_of scope x.text.items) holds.base number_of (next code state _ more end stands) holds.is_base (holds.variables x.text.items is)
-      (after (slice_set state.registers to number_of) (counted state.beat) (state.at + 1) (kept_set to to state number_of (omega arith) (omega arith)) (register_set state.registers to number_of (omega (arith, holds.registers))) (behind code state.block state.at _ more end stands))
+      variable_law (register_of scope x.text.items) (offset_of scope x.text.items) to
+      (lookup vars x.text.items) (omega arith) state more end holds.base stands holds.registers
+      holds.is_base (holds.variables x.text.items is) after
   expr_law (Cell' t p a q b) label to is within are state more end stands holds after =
       let registers : Fits to a b = fits to a b within in
       let blocks : Three code label (trap_count a) (trap_count b) (traps_of label a) (traps_of (label + trap_count a) b) (trap_block (label + trap_count a + trap_count b) Index t.place ∷ []) = three code label (trap_count a) (trap_count b) _ _ _ (length_traps a label) (length_traps b (label + trap_count a)) are in

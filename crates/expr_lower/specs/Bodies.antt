@@ -20,7 +20,7 @@ use Rattle.tpal_syntax.specs.declared.instructions.Term.TheVariants as term
 use Rattle.tpal_syntax.specs.declared.instructions.Value.TheVariants as value
 use Rattle.tpal_syntax.specs.declared.notes.Note.TheVariants as note
 use Rattle.expr_lower.specs.declared.scope.Scope.{Scope}
-use Rattle.expr_lower.specs.Scopes.{offset_of, table_number}
+use Rattle.expr_lower.specs.Scopes.{offset_of, register_of, table_number}
 
 -- ---- trap blocks
 
@@ -187,11 +187,17 @@ cell_read table to row col trap =
 
 -- ---- expressions
 
+-- a variable's number comes into `to`: from its register where it stands in one, else from its cell
+abbrev pub variable_read : Option ℕ → ℕ → ℕ → List Instr
+variable_read (Some r) off to = instr.Move to (value.Reg r) ∷ []
+variable_read None off to = instr.Load to base_register off ∷ []
+
 -- the instructions that leave an expression's value in register `to`, where its trap blocks stand
 -- from a label on
 abbrev pub body_of : Scope → ℕ → Expr → ℕ → List Instr
 body_of scope label (Int n place) to = instr.Move to (value.Int n) ∷ []
-body_of scope label (Var x) to = instr.Load to base_register (offset_of scope x.text.items) ∷ []
+body_of scope label (Var x) to =
+    variable_read (register_of scope x.text.items) (offset_of scope x.text.items) to
 body_of scope label (Cell' t p a q b) to =
     cell_read (table_number scope t.text.items) to (body_of scope label a to)
     (body_of scope (label + trap_count a) b (to + 1)) (label + trap_count a + trap_count b)

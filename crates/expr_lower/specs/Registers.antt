@@ -10,6 +10,10 @@ value_registers = 24
 abbrev pub last_left : ℕ
 last_left = 22
 
+-- the last register in which a variable may stand: those of values stand before the first one
+abbrev pub last_variable : ℕ
+last_variable = 29
+
 -- the position of the activation that runs
 abbrev pub base_register : ℕ
 base_register = 31

@@ -1,6 +1,6 @@
 -- Where the variables and tables of an expression stand.
 use Rattle.std.specs.Prelude.{ℕ, suc, Bool, false, cond, ◌||◌, IsTrue, ⊤, List, [], ◌∷◌, Vec}
-use Rattle.std.specs.Prelude.{bytes_eq}
+use Rattle.std.specs.Prelude.{bytes_eq, Option, None, Some}
 use Rattle.std.specs.declared.alloc.Global.{Global}
 use Rattle.loop_syntax.specs.declared.Expr.{Expr}
 use Rattle.loop_syntax.specs.declared.Expr.TheVariants.{Int, Var, Cell', Rows, Cols, Neg', Bin'}
@@ -14,6 +14,11 @@ cell_in (c ∷ cs) x = cond (bytes_eq c.0.items x) c.1 (cell_in cs x)
 abbrev pub has_cell_in : List (Vec ℕ Global × ℕ) → List ℕ → Bool
 has_cell_in [] x = false
 has_cell_in (c ∷ cs) x = bytes_eq c.0.items x || has_cell_in cs x
+
+-- the register of the variable of that name, where it stands in one
+abbrev pub register_in : List (Vec ℕ Global × ℕ) → List ℕ → Option ℕ
+register_in [] x = None
+register_in (r ∷ rs) x = cond (bytes_eq r.0.items x) (Some r.1) (register_in rs x)
 
 -- the number of the table of that name: how many stand before it
 abbrev pub number_in : List (Vec ℕ Global) → List ℕ → ℕ
@@ -32,9 +37,16 @@ offset_of scope x = cell_in scope.cells.items x
 abbrev pub table_number : Scope → List ℕ → ℕ
 table_number scope t = number_in scope.tables.items t
 
+abbrev pub register_of : Scope → List ℕ → Option ℕ
+register_of scope x = register_in scope.regs.items x
+
+-- a variable of that name has a cell
+abbrev pub HasCell : Scope → List ℕ → Type 0
+HasCell scope x = IsTrue (has_cell_in scope.cells.items x)
+
 -- a variable, or a table, of that name stands in the scope
 abbrev pub HasVariable : Scope → List ℕ → Type 0
-HasVariable scope x = IsTrue (has_cell_in scope.cells.items x)
+HasVariable scope x = IsTrue (has_cell_in scope.regs.items x || has_cell_in scope.cells.items x)
 
 abbrev pub HasTable : Scope → List ℕ → Type 0
 HasTable scope t = IsTrue (has_table_in scope.tables.items t)

@@ -13,17 +13,18 @@ ghost use Rattle.loop_meaning.specs.InRange.{ExprInRange};
 ghost use Rattle.tpal_syntax.specs.Listing.{Listing};
 ghost use Rattle.tpal_machine.specs.State.{State};
 ghost use Rattle.expr_lower.specs.Bodies.{can_trap, trap_block, operation, cell_read, body_of};
+ghost use Rattle.expr_lower.specs.Bodies.{variable_read};
 ghost use Rattle.expr_lower.specs.Bodies.{traps_of, trap_count, blocks_of};
 ghost use Rattle.tp_value.specs.declared.TrapKind.TheVariants.{Divide, Index};
 ghost use Rattle.expr_lower.specs.Holding.{Holds};
 ghost use Rattle.expr_lower.specs.Leaving.{ComesTo};
-ghost use Rattle.expr_lower.specs.Scopes.{IsIn};
+ghost use Rattle.expr_lower.specs.Scopes.{IsIn, offset_of, register_of};
 ghost use Rattle.expr_lower.specs.Standing.{AreAt};
 
 use crate::cells::push_cell_read;
 use crate::operators::{can_trap, literal, push_operation};
 use crate::registers::BASE;
-use crate::scope::{Scope, offset_of, table_number};
+use crate::scope::{Scope, offset_of, register_of, table_number};
 use crate::traps::{name_of, push_trap};
 use loop_syntax::{BinOp, Expr, Name};
 use std::alloc::Global;
@@ -49,6 +50,30 @@ fn above(at: Site) -> Site
         to: at.to + 1,
         first: at.first,
     }
+}
+
+// Appends the instruction that reads a variable.
+fn push_variable(body: &mut Vec<Instr>, scope: &Scope, name: &[u8], to: u8) -> Result<(), NoMemory>
+    ensures { OnOk result
+        (body.new.items
+        ≡ body.old.items
+        ++ variable_read (register_of scope.now name.now) (offset_of scope.now name.now) to) }
+{
+    match register_of(scope, name) {
+        Some(register) => body.push(Instr::Move {
+            to,
+            value: Value::Reg(register),
+        })?,
+        None => {
+            let off = offset_of(scope, name);
+            body.push(Instr::Load {
+                to,
+                base: BASE,
+                off,
+            })?;
+        }
+    }
+    Ok(())
 }
 
 // Appends the instructions that read a cell, and its trap block. Those of its row and of its column
@@ -147,14 +172,7 @@ pub fn push_expr(
             to,
             value: Value::Int(*number),
         })?,
-        Expr::Var(name) => {
-            let off = offset_of(scope, name.text.as_slice());
-            body.push(Instr::Load {
-                to,
-                base: BASE,
-                off,
-            })?;
-        }
+        Expr::Var(name) => push_variable(body, scope, name.text.as_slice(), to)?,
         Expr::Cell(name, i, j) => {
             let mut row = Vec::new(alloc);
             push_expr(alloc, &mut row, traps, i, scope, at)?;

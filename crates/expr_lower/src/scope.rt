@@ -2,7 +2,7 @@
 
 ghost use Rattle.std.specs.Prelude.{◌≡◌, ◌≤◌, length};
 ghost use Rattle.tp_value.specs.declared.limits.TheConstants.{MAX_TABLES};
-ghost use Rattle.expr_lower.specs.Scopes.{cell_in, number_in, offset_of, table_number};
+ghost use Rattle.expr_lower.specs.Scopes.{cell_in, number_in, offset_of, register_of, table_number};
 
 /// What an expression may name, and the label of the first block that it may have.
 #[derive(Drop)]
@@ -10,6 +10,9 @@ pub struct Scope {
     /// The variables' names, each with its cell of the activation, below 512. Where a name stands
     /// twice, the first counts.
     pub cells: Vec<(Vec<u8>, u16)>,
+    /// The variables that stand in registers from r24 to r29, each with its register, whether they
+    /// have a cell or not. Where a name stands twice, the first counts.
+    pub regs: Vec<(Vec<u8>, u8)>,
     /// The tables' names, by their numbers. There are at most 16.
     pub tables: Vec<Vec<u8>>,
     /// The label of the next block, below 65,536.
@@ -26,6 +29,18 @@ pub fn offset_of(scope: &Scope, name: &[u8]) -> u16
         }
     }
     0
+}
+
+/// The register of a variable, where it stands in one.
+pub fn register_of(scope: &Scope, name: &[u8]) -> Option<u8>
+    ensures { result ≡ register_of scope.now name.now }
+{
+    for place in &scope.regs {
+        if place.0.as_slice() == name {
+            return Some(place.1);
+        }
+    }
+    None
 }
 
 /// The number of a table, or how many there are where the scope doesn't have it.

@@ -1,5 +1,6 @@
 // Expressions that are lowered and run, with values and traps worked out by hand. The variables are
-// x = 7, y = -5 and z = 0; table a is 1 2 3 over 4 5 6, and b is 10 20.
+// x = 7, y = -5 and z = 0 in cells, and w = 40 in a register; table a is 1 2 3 over 4 5 6, and b is
+// 10 20.
 
 ghost use Rattle.std.specs.Prelude.{◌≡◌, ◌≤◌, ◌+◌, length, IfOk, IfSome};
 ghost use Rattle.loop_rules.specs.Limits.{height};
@@ -99,11 +100,14 @@ fn scope(g: Global) -> Made<Scope>
     cells.push((b"x".to_vec(g)?, 2))?;
     cells.push((b"y".to_vec(g)?, 3))?;
     cells.push((b"z".to_vec(g)?, 5))?;
+    let mut regs = Vec::new(g);
+    regs.push((b"w".to_vec(g)?, 24))?;
     let mut tables = Vec::new(g);
     tables.push(b"a".to_vec(g)?)?;
     tables.push(b"b".to_vec(g)?)?;
     Ok(Scope {
         cells,
+        regs,
         tables,
         next_label: 1,
     })
@@ -118,8 +122,12 @@ fn block(g: Global, name: &[u8], body: &[Instr], term: Term) -> Made<Block> {
     })
 }
 
-// 111 in register 0, and the variables in their cells
-const BEGIN: [Instr; 5] = [
+// 111 in register 0, the variables in their cells, and w in its register
+const BEGIN: [Instr; 6] = [
+    Instr::Move {
+        to: 24,
+        value: Value::Int(40),
+    },
     Instr::Move {
         to: 0,
         value: Value::Int(111),
@@ -239,6 +247,23 @@ fn sums_and_products(rt: HostRuntime) -> Result<(), Fail> {
     assert!(rt; leaves(g, difference, b"111\n-6\n7\n")?);
     let most = bin(g, BinOp::Add, int(9223372036854775807), int(1))?;
     assert!(rt; leaves(g, most, b"111\n-9223372036854775808\n7\n")?);
+    Ok(())
+}
+
+#[test]
+fn a_variable_in_a_register(rt: HostRuntime) -> Result<(), Fail> {
+    let g = rt.alloc();
+    assert!(rt; leaves(g, var(g, b"w")?, b"111\n40\n7\n")?);
+    let sum = bin(g, BinOp::Add, var(g, b"w")?, var(g, b"x")?)?;
+    assert!(rt; leaves(g, sum, b"111\n47\n7\n")?);
+    let rest = bin(g, BinOp::Rem, var(g, b"y")?, var(g, b"w")?)?;
+    assert!(rt;
+        leaves(
+            g,
+            bin(g, BinOp::Mul, rest, var(g, b"w")?)?,
+            b"111\n-200\n7\n"
+        )?
+    );
     Ok(())
 }
 
