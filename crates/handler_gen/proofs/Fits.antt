@@ -1,12 +1,12 @@
 -- The blocks of handlers meet the conditions on blocks of a code.
-use Rattle.std.proofs.Common.{◌≡◌, ℕ, ◌+◌, ◌%◌, ◌<◌, ◌≤◌, ◌^◌, Bool, true, All, List, [], ◌∷◌, ◌++◌}
-use Rattle.std.proofs.Common.{length, refl, ◌∙◌, arith}
+use Rattle.std.proofs.Common.{◌≡◌, ℕ, suc, ◌+◌, ◌%◌, ◌<◌, ◌≤◌, ◌^◌, Bool, true, All, List, [], ◌∷◌}
+use Rattle.std.proofs.Common.{◌++◌, length, refl, ◌∙◌, arith}
 use Rattle.std.proofs.lemmas.Bool.Decides.{nat_tests}
 use Rattle.std.proofs.lemmas.Fmt.{decimal_by_steps}
 use Rattle.std.proofs.lemmas.List.Elements.{All-head, All-tail}
 use Rattle.std.proofs.lemmas.List.Folds.{list_all-append}
 use Rattle.std.specs.Fmt.{decimal}
-use Rattle.std.specs.List.{list_all}
+use Rattle.std.specs.List.{AllByRecursion, list_all}
 use Rattle.std.specs.Prelude.{pos, ◌&&◌, nat_lt, nat_le}
 use Rattle.reduce_ops.specs.Reduction.{unit}
 use Rattle.tp_value.specs.declared.Op.{Op}
@@ -16,6 +16,7 @@ use Rattle.tpal_syntax.specs.declared.blocks.Block.{Block}
 use Rattle.tpal_syntax.specs.declared.blocks.CodeTable.{CodeTable}
 use Rattle.tpal_syntax.specs.declared.instructions.Instr.{Instr}
 use Rattle.tpal_syntax.specs.declared.instructions.Instr.TheVariants as instr
+use Rattle.tpal_syntax.specs.declared.instructions.Value.TheVariants as value
 use Rattle.tpal_syntax.specs.declared.notes.CarryAt.{CarryAt}
 use Rattle.tpal_syntax.specs.declared.notes.CarryAt.TheVariants as carry
 use Rattle.tpal_syntax.specs.declared.sites.CallSite.{CallSite}
@@ -26,7 +27,11 @@ use Rattle.handler_gen.specs.Blocks.{ask, middle, cut_places, left_begins, units
 use Rattle.handler_gen.specs.Blocks.{dispatch_block, loop_cut_block, back_block, loop_child_block}
 use Rattle.handler_gen.specs.Blocks.{loop_handler_blocks, call_cut_block, call_child_block}
 use Rattle.handler_gen.specs.Blocks.{call_handler_blocks}
-use Rattle.handler_gen.specs.Fitting.{AreBlocksOf, HasLoopPlaces, HasCallPlaces}
+use Rattle.handler_gen.specs.declared.sites.LeafSite.{LeafSite}
+use Rattle.handler_gen.specs.Fitting.{AreBlocksOf, HasLoopPlaces, HasLeafPlaces, HasCallPlaces}
+use Rattle.handler_gen.specs.LeafBlocks.{leaf_handler_blocks, loads_of, stores_of}
+use Rattle.handler_gen.specs.LeafSites.{IsLeafSite, head_label, registers_from, registers_of}
+use Rattle.handler_gen.specs.LeafSites.{reload_label, stored_loop}
 use Rattle.handler_gen.specs.Sites.{at_of, IsLowCarry, IsLoopSite, IsCallSite, back_label}
 use Rattle.handler_gen.specs.Sites.{child_label, target_label, left_end_label, first_label}
 use Rattle.handler_gen.specs.Sites.{none_label, split_label}
@@ -144,6 +149,82 @@ module _ (tables : List CodeTable) (all : List Block) where
         (record { name = name_is (child_label site.label) (omega (arith, right.label)); note = tt; body = child_body_fits; term = lt_true (first_label site.label) blocks (omega (arith, places.none)) }, tt),
       ),
     )
+
+  -- registers that a code has, with cells of an activation
+  abbrev AreRight : ℕ → List (ℕ × ℕ) → Type 0
+  AreRight cells ps = AllByRecursion (λ (p : ℕ × ℕ). (p.0 < cells) × (p.1 < 32)) ps
+
+  accs_right : (accs : List (ℕ × Op)) (r cells : ℕ) → r + length accs ≤ 32
+      → All (λ off. off < cells) (cells_of accs) → AreRight cells (registers_from r accs)
+  accs_right [] r cells low inside = tt
+  accs_right (a ∷ accs) r cells low inside =
+      let many : r + suc (length accs) ≤ 32 = low in (
+        (All-head (λ (off : ℕ). off < cells) a.0 (cells_of accs) inside, omega (arith, many)),
+        accs_right accs (r + 1) cells (omega (arith, many))
+            (All-tail (λ (off : ℕ). off < cells) a.0 (cells_of accs) inside),
+      )
+
+  stores_fit : (ps : List (ℕ × ℕ)) (cells : ℕ) → cells ≤ 512 → AreRight cells ps
+      → list_all fits (stores_of ps) ≡ true
+  stores_fit [] cells few right = refl
+  stores_fit (p ∷ ps) cells few right =
+      both (nat_le p.0 511 && nat_lt p.1 32) (list_all fits (stores_of ps))
+      (both (nat_le p.0 511) (nat_lt p.1 32) (offset_is p.0 cells right.0.0 few)
+      (lt_true p.1 32 right.0.1)) (stores_fit ps cells few right.1)
+
+  loads_fit : (ps : List (ℕ × ℕ)) (cells : ℕ) → cells ≤ 512 → AreRight cells ps
+      → list_all fits (loads_of ps) ≡ true
+  loads_fit [] cells few right = refl
+  loads_fit (p ∷ ps) cells few right =
+      both (is_instr (length tables) (length all) (instr.Load p.1 31 p.0))
+      (list_all fits (loads_of ps)) (load_fits p.1 p.0 (lt_true p.1 32 right.0.1)
+      (offset_is p.0 cells right.0.0 few)) (loads_fit ps cells few right.1)
+    where
+      load_fits : (r off : ℕ) → nat_lt r 32 ≡ true → nat_le off 511 ≡ true
+          → fits (instr.Load r 31 off) ≡ true
+      load_fits r off first second = rw first second
+
+  module _ (site : LeafSite) (right : IsLeafSite site) (places : HasLeafPlaces site tables all)
+    where
+      abbrev stored : LoopSite
+      stored = stored_loop site
+
+      are_right : AreRight site.cells (registers_of site)
+      are_right = (
+        (cursor_in stored right.loop, omega arith),
+        (
+          (bound_in stored right.loop, omega arith),
+          accs_right site.accs 26 site.cells (omega (arith, right.few_accs))
+              (accs_in stored right.loop),
+        ),
+      )
+
+      leaving_fit : list_all fits (instr.Move 30 (value.Label (reload_label site.label))
+          ∷ instr.PrmSplit 28 29 ∷ []) ≡ true
+      leaving_fit =
+          both (nat_lt (reload_label site.label) blocks) true
+          (lt_true (reload_label site.label) blocks (omega (arith, places.loop.none))) refl
+
+      pub leaf_handler_fits : AreBlocksOf tables all (leaf_handler_blocks site)
+      leaf_handler_fits = (
+        record {
+          name = name_is site.label (omega (arith, right.loop.label));
+          note = tt;
+          body = joined_all fits (stores_of (registers_of site))
+              (instr.Move 30 (value.Label (reload_label site.label)) ∷ instr.PrmSplit 28 29 ∷ [])
+              (stores_fit (registers_of site) site.cells right.loop.cells are_right) leaving_fit;
+          term = refl;
+        },
+        (
+          record {
+            name = name_is (reload_label site.label) (omega (arith, right.loop.label));
+            note = tt;
+            body = loads_fit (registers_of site) site.cells right.loop.cells are_right;
+            term = lt_true (head_label site) blocks places.head;
+          },
+          loop_handler_fits stored right.loop places.loop,
+        ),
+      )
 
   module _ (site : CallSite) (right : IsCallSite site) (places : HasCallPlaces site all) where
     rec_512 : site.rec < site.cells

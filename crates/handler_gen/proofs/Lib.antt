@@ -32,6 +32,14 @@ pub mod Dispatched
 pub mod CutCells
 -- a loop is cut as its frame is
 pub mod FramesCut
+-- the registers of a leaf loop, into their cells
+pub mod LeafStores
+-- and back
+pub mod LeafLoads
+-- frames in the registers of a leaf loop
+mod LeafFrames
+-- the handler of a leaf loop
+pub mod LeafCutting
 -- the blocks meet the conditions of a code
 pub mod Fits
 -- entering a promotion-ready block

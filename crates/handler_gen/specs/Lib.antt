@@ -18,5 +18,11 @@ pub mod LoopCuts
 pub mod CallCuts
 -- the frame that an activation shows, and how it is cut
 pub mod Frames
+-- the sites of leaf loops, and the labels of their blocks
+pub mod LeafSites
+-- the blocks that store the registers of a leaf loop and load them again
+pub mod LeafBlocks
+-- what a leaf loop's handler does with its registers
+pub mod LeafCuts
 -- the conditions of a code on the blocks of a site
 pub mod Fitting

@@ -17,6 +17,21 @@ other_record = 25
 abbrev pub next_register : ℕ
 next_register = 26
 
+-- the next iteration of a leaf loop: while one runs, its number
+abbrev pub leaf_cursor : ℕ
+leaf_cursor = 24
+
+-- the end of a leaf loop
+abbrev pub leaf_bound : ℕ
+leaf_bound = 25
+
+-- the first accumulator of a leaf loop, and how many it may have
+abbrev pub leaf_first_acc : ℕ
+leaf_first_acc = 26
+
+abbrev pub leaf_accs : ℕ
+leaf_accs = 4
+
 -- a test
 abbrev pub test_register : ℕ
 test_register = 27

@@ -125,8 +125,8 @@ fn is_of_cells(carry: CarryAt) -> bool
     }
 }
 
-// Whether one of these carries is of the cells of one row.
-fn has_cells(carries: &[CarryAt]) -> bool
+/// Whether one of these carries is of the cells of one row.
+pub fn has_cells(carries: &[CarryAt]) -> bool
     ensures { result ≡ list_any is_of_cells carries.now }
 {
     for carry in carries {

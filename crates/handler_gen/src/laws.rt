@@ -2,8 +2,10 @@
 // laws.
 
 ghost use Rattle.handler_gen.specs.Frames.{CutsFrame, CutsPair};
+ghost use Rattle.handler_gen.specs.LeafCuts.{ShowsAlike};
 ghost use Rattle.handler_gen.specs.Sites.{IsCallSite, IsLoopSite};
 
+use crate::sites::LeafSite;
 use tpal_syntax::{CallSite, LoopSite};
 
 /// A loop is cut as `split_frame` cuts its frame: where its activation shows a range, that of the
@@ -18,4 +20,10 @@ pub fn cuts_frame(site: &LoopSite)
 pub fn cuts_pair(site: &CallSite)
     requires site { IsCallSite site.now }
     ensures { CutsPair site.now }
+{}
+
+/// Where the cells of a leaf loop have the words of its registers, the loop that it is then shows
+/// the frames that the registers show. So it is cut as `cuts_frame` says of that loop.
+pub fn shows_alike(site: &LeafSite)
+    ensures { ShowsAlike site.now }
 {}

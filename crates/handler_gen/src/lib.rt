@@ -9,8 +9,10 @@ mod blocks;
 mod calls;
 mod labels;
 mod laws;
+mod leaves;
 mod loops;
 mod registers;
+mod sites;
 
 pub use blocks::{block_of, dispatch};
 pub use calls::call_handler;
@@ -18,9 +20,16 @@ pub use labels::{
     back_label, child_end_label, child_label, comb_label, first_label, joined_label,
     left_end_label, none_label, over_label, prep_label, side_label, split_label, target_label,
 };
-pub use laws::{cuts_frame, cuts_pair};
+pub use laws::{cuts_frame, cuts_pair, shows_alike};
+pub use leaves::{
+    head_label, leaf_handler, leaf_start, push_leaf_stores, start_label, stored_loop,
+};
 pub use loops::loop_handler;
-pub use registers::{BACK, CUT, MIDDLE, NEXT, OTHER_RECORD, RECORD, SPLIT, TEST};
+pub use registers::{
+    BACK, CUT, LEAF_BOUND, LEAF_CURSOR, LEAF_FIRST_ACC, MIDDLE, NEXT, OTHER_RECORD, RECORD, SPLIT,
+    TEST,
+};
+pub use sites::LeafSite;
 
 #[cfg(test)]
 mod tests;

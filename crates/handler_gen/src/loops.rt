@@ -170,8 +170,8 @@ fn child_block(alloc: Global, site: &LoopSite) -> Result<Block, NoMemory>
     block_of(alloc, child_label(site.label), Note::Plain, body, first)
 }
 
-// The blocks of a loop's handler.
-fn handler_blocks(alloc: Global, site: &LoopSite) -> Result<Vec<Block>, NoMemory>
+/// The blocks of a loop's handler.
+pub fn handler_blocks(alloc: Global, site: &LoopSite) -> Result<Vec<Block>, NoMemory>
     requires label { site.now.label < MAX_BLOCKS }
     ensures { IfOk result (λ v. v.items ≡ blocks.loop_handler_blocks site.now) }
 {

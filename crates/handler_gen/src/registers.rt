@@ -12,6 +12,15 @@ pub const OTHER_RECORD: u8 = 25;
 /// The register of the next iteration that isn't begun.
 pub const NEXT: u8 = 26;
 
+/// The register with the next iteration of a leaf loop: while one runs, its number.
+pub const LEAF_CURSOR: u8 = 24;
+
+/// The register with the end of a leaf loop.
+pub const LEAF_BOUND: u8 = 25;
+
+/// The register with the first accumulator of a leaf loop.
+pub const LEAF_FIRST_ACC: u8 = 26;
+
 /// The register of a test.
 pub const TEST: u8 = 27;
 

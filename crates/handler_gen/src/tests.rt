@@ -3,6 +3,7 @@
 // and that of a pair of calls.
 
 ghost use Rattle.std.specs.Prelude.{◌≡◌, IfOk, length};
+ghost use Rattle.handler_gen.specs.LeafSites.{IsLeafSite};
 ghost use Rattle.handler_gen.specs.Sites.{IsLoopSite, IsCallSite};
 
 use super::*;
@@ -10,7 +11,7 @@ use std::alloc::Global;
 use std::test::Fail;
 use tp_value::{Items, NoMemory, Op};
 use tpal_print::print_code;
-use tpal_syntax::{Block, CallSite, CarryAt, Code, CodeTable, LoopSite, Note, Term};
+use tpal_syntax::{Block, CallSite, CarryAt, Code, CodeTable, Instr, LoopSite, Note, Term, Value};
 
 type Made<T> = Result<T, NoMemory>;
 
@@ -46,6 +47,21 @@ fn inner(g: Global) -> Made<LoopSite>
         mark: 24,
         accs: Items::new(vec![in g; (19, Op::Min)]?),
         carries: Items::new(vec![in g; carry]?),
+    })
+}
+
+fn leaf(g: Global) -> Made<LeafSite>
+    ensures right { IfOk result (λ site. IsLeafSite site) }
+{
+    Ok(LeafSite {
+        label: 1,
+        cells: 36,
+        cursor: 23,
+        bound: 24,
+        rec: 4,
+        mark: 24,
+        accs: Items::new(vec![in g; (19, Op::Add), (21, Op::Max)]?),
+        carries: Items::new(vec![in g; CarryAt::Rows { table: 1, at: 0 }]?),
     })
 }
 
@@ -171,6 +187,103 @@ fn handlers_of_nested_loops(rt: HostRuntime) -> Result<(), Fail> {
     fill(g, &mut blocks, 13, 20)?;
     let text = text_of(g, blocks)?.ok_or("a code")?;
     assert_eq!(rt; text.as_slice(), LOOPS);
+    Ok(())
+}
+
+const LEAF: &[u8] = b"table t0 made
+table t1 made
+b0: plain
+  prmsplit r28, r29
+  jump r29
+b1: plain
+  mem[r31+23] := r24
+  mem[r31+24] := r25
+  mem[r31+19] := r26
+  mem[r31+21] := r27
+  r30 := @b2
+  prmsplit r28, r29
+  jump r29
+b2: plain
+  r24 := mem[r31+23]
+  r25 := mem[r31+24]
+  r26 := mem[r31+19]
+  r27 := mem[r31+21]
+  jump @b12
+b3: plain
+  r24 := jralloc @b6
+  r27 := r24 eq nil
+  if-jump r27, @b4
+  r26 := mem[r28+23]
+  r25 := mem[r28+24]
+  r25 := r25 sub r26
+  r25 := r25 div 2
+  r25 := r25 add r26
+  r0 := r25
+  fork r24, @b5
+  mem[r28+4] := r24
+  mem[r28+24] := r25
+  r27 := r26 lt r25
+  if-jump r27, @b4
+  prmdrop
+  jump @b11
+b4: plain
+  jump r30
+b5: plain
+  mem[r31+4] := r24
+  mem[r31+23] := r25
+  mem[r31+19] := 0
+  mem[r31+21] := -9223372036854775808
+  prmpush mem[r31+24], 36, @b3
+  jump @b9
+b6: plain
+  halt
+b7: plain
+  halt
+b8: plain
+  halt
+b9: plain
+  r24 := mem[r31+23]
+  r25 := mem[r31+24]
+  r26 := mem[r31+19]
+  r27 := mem[r31+21]
+  jump @b13
+b10: plain
+  halt
+b11: plain
+  halt
+b12: plain
+  halt
+b13: plain
+  halt
+";
+
+#[test]
+fn the_handler_of_a_leaf_loop(rt: HostRuntime) -> Result<(), Fail> {
+    let g = rt.alloc();
+    let site = leaf(g)?;
+    let mut blocks = vec![in g; dispatch(g, 0)?]?;
+    blocks.append(&mut leaf_handler(g, &site)?)?;
+    fill(g, &mut blocks, 6, start_label(&site))?;
+    blocks.push(leaf_start(g, &site, 13)?)?;
+    fill(g, &mut blocks, 10, 14)?;
+    let text = text_of(g, blocks)?.ok_or("a code")?;
+    assert_eq!(rt; text.as_slice(), LEAF);
+    assert_eq!(rt; head_label(&site), 12);
+    Ok(())
+}
+
+#[test]
+fn the_stores_at_the_end_of_a_leaf_loop(rt: HostRuntime) -> Result<(), Fail> {
+    let g = rt.alloc();
+    let mut body = vec![in g; Instr::Tick]?;
+    push_leaf_stores(g, &mut body, &leaf(g)?)?;
+    let last = Instr::Store {
+        base: 31,
+        off: 21,
+        value: Value::Reg(27),
+    };
+    assert_eq!(rt; body.len(), 5);
+    assert_eq!(rt; body[4], last);
     Ok(())
 }
 

@@ -1,0 +1,19 @@
+use Rattle.std.proofs.Common.{List, sym, subst}
+use Rattle.tpal_syntax.specs.declared.blocks.Block.{Block}
+use Rattle.expr_lower.specs.Standing.{AreAt}
+use Rattle.handler_gen.specs.Fitting.{AreBlocksOf}
+use Rattle.handler_gen.proofs.Fits.{leaf_handler_fits}
+use Rattle.handler_gen.proofs.LeafCutting.{cuts_leaf}
+use Rattle.handler_gen.proofs.leaves.leaf_handler.Goals as goal
+
+pub returns-clause-cuts : goal.returns-clause-cuts
+returns-clause-cuts c = λ code heartbeat stands round.
+    cuts_leaf code heartbeat c.args.site.now c.requires.site
+    (subst (λ (v : List Block). AreAt code c.args.site.now.label v) c.in_ok-blocks.ensures
+    stands) round
+
+pub returns-clause-fit : goal.returns-clause-fit
+returns-clause-fit c =
+    λ tables all places. subst (λ (v : List Block). AreBlocksOf tables all v)
+    (sym c.in_ok-blocks.ensures) (leaf_handler_fits tables all c.args.site.now c.requires.site
+    places)

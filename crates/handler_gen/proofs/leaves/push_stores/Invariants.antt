@@ -1,0 +1,7 @@
+use Rattle.std.proofs.Common.{◌≡◌, ◌++◌, take}
+use Rattle.handler_gen.specs.LeafBlocks.{stores_of}
+use Rattle.handler_gen.proofs.leaves.push_stores.Given as goal
+
+abbrev pub invariant-loop-register : goal.invariant-loop-register
+invariant-loop-register l =
+    l.body.items ≡ l.fn.body.items ++ stores_of (take l.register-index l.registers)
