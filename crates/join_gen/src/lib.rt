@@ -5,9 +5,11 @@
 #![tactic(auto)]
 
 mod calls;
+mod leaves;
 mod loops;
 
 pub use calls::call_join;
+pub use leaves::leaf_join;
 pub use loops::{alu_of, loop_join};
 
 #[cfg(test)]

@@ -2,10 +2,11 @@
 // loop with each operator and both kinds of carry, and that of a pair of calls.
 
 ghost use Rattle.std.specs.Prelude.{◌≡◌, IfOk};
+ghost use Rattle.handler_gen.specs.LeafSites.{IsLeafSite};
 ghost use Rattle.handler_gen.specs.Sites.{IsLoopSite, IsCallSite};
 
 use super::*;
-use handler_gen::block_of;
+use handler_gen::{LeafSite, block_of};
 use std::alloc::Global;
 use std::test::Fail;
 use tp_value::{Items, NoMemory, Op};
@@ -44,6 +45,21 @@ fn full(g: Global) -> Made<LoopSite>
     })
 }
 
+fn leaf(g: Global) -> Made<LeafSite>
+    ensures right { IfOk result (λ site. IsLeafSite site) }
+{
+    Ok(LeafSite {
+        label: 0,
+        cells: 25,
+        cursor: 21,
+        bound: 22,
+        rec: 4,
+        mark: 22,
+        accs: Items::new(vec![in g; (19, Op::Add)]?),
+        carries: Items::new(Vec::new(g)),
+    })
+}
+
 fn pair(g: Global) -> Made<CallSite>
     ensures right { IfOk result (λ site. IsCallSite site) }
 {
@@ -71,6 +87,45 @@ fn text_of(g: Global, blocks: Vec<Block>) -> Made<Option<Vec<u8>>> {
         Some(code) => Ok(Some(print_code(g, &code)?)),
         None => Ok(None),
     }
+}
+
+const LEAF: &[u8] = b"table t0 made
+table t1 made
+b0: plain
+  halt
+b1: plain
+  halt
+b2: plain
+  halt
+b3: plain
+  halt
+b4: plain
+  halt
+b5: jtppt assoc; {r0 -> r8, r24 -> r25}; @b6; loop; carry none
+  jump @b9
+b6: plain
+  r0 := r0 add r8
+  mem[r31+19] := r0
+  join r24
+b7: plain
+  r0 := mem[r31+19]
+  join r24
+b8: plain
+  halt
+b9: plain
+  halt
+";
+
+#[test]
+fn the_join_of_a_leaf_loop(rt: HostRuntime) -> Result<(), Fail> {
+    let g = rt.alloc();
+    let mut blocks = Vec::new(g);
+    fill(g, &mut blocks, 0, 5)?;
+    blocks.append(&mut leaf_join(g, &leaf(g)?)?)?;
+    fill(g, &mut blocks, 8, 10)?;
+    let text = text_of(g, blocks)?.ok_or("a code")?;
+    assert_eq!(rt; text.as_slice(), LEAF);
+    Ok(())
 }
 
 const LOOP: &[u8] = b"table t0 made
