@@ -33,7 +33,7 @@ use Rattle.tpal_syntax.specs.declared.notes.Note.TheVariants as note
 use Rattle.tpal_syntax.specs.Listing.{Listing}
 use Rattle.expr_lower.specs.declared.scope.Scope.{Scope}
 use Rattle.expr_lower.specs.Bodies.{body_of, traps_of, trap_block, literal, range_tests}
-use Rattle.expr_lower.specs.Scopes.{IsIn, HasVariable, HasTable, offset_of, table_number}
+use Rattle.expr_lower.specs.Scopes.{IsIn, HasCell, HasTable, offset_of, table_number}
 use Rattle.expr_lower.specs.Standing.{AreAt}
 use Rattle.block_lower.specs.DeepMarked.{IsDeepSite}
 use Rattle.block_lower.specs.Layout.{value_cell, bound_cell, kept_cell, kept_value}
@@ -100,7 +100,7 @@ module _ (code : Listing) (act : Activation) where
   pub record IsCell (names : List (List ℕ)) (fixed : List ℕ) (x : List ℕ) (cell : ℕ) : Type 0 where
     pub scope : Scope
     pub sees : Sees scope names act.tables
-    pub inside : HasVariable scope x
+    pub inside : HasCell scope x
     pub is : cell ≡ offset_of scope x
     pub level : ℕ
     pub at_level : cell ≡ value_cell level

@@ -16,7 +16,7 @@ use Rattle.tpal_syntax.specs.declared.sites.LoopSite.{LoopSite}
 use Rattle.tpal_syntax.specs.Listing.{Listing}
 use Rattle.expr_lower.specs.declared.scope.Scope.{Scope}
 use Rattle.expr_lower.specs.Bodies.{trap_block}
-use Rattle.expr_lower.specs.Scopes.{HasTable, HasVariable}
+use Rattle.expr_lower.specs.Scopes.{HasTable, HasCell}
 use Rattle.expr_lower.specs.Standing.{AreAt}
 use Rattle.expr_lower.specs.Registers.{base_register}
 use Rattle.block_lower.specs.Layout.{Activation, value_cell}
@@ -61,7 +61,7 @@ module _ (code : Listing) (act : Activation) where
       : Type 0 where
     pub scope : Scope
     pub sees : Sees scope names act.tables
-    pub reduced : AllByRecursion (λ (r : Reduce). HasVariable scope r.target.text.items)
+    pub reduced : AllByRecursion (λ (r : Reduce). HasCell scope r.target.text.items)
         l.reduces.items
     pub carried : AllByRecursion (λ (c : Carry). HasTable scope (carried_table c)) l.carries.items
     pub is : site ≡ loop_site scope l act.size depth (length names) cursor site.label

@@ -16,8 +16,9 @@ AreLaid level (c ∷ cs) = (c.1 ≡ value_cell level) × AreLaid (suc level) cs
 abbrev pub names_of : Scope → List (List ℕ)
 names_of scope = map (λ (c : Vec ℕ Global × ℕ). c.0.items) scope.cells.items
 
--- a scope has just these variables and tables, in this order
+-- a scope has just these variables and tables, in this order, and each variable stands in its cell
 pub record Sees (scope : Scope) (names tables : List (List ℕ)) : Type 0 where
+  pub bare : scope.regs.items ≡ []
   pub named : names_of scope ≡ names
   pub laid : AreLaid 0 scope.cells.items
   pub listed : map (λ (t : Vec ℕ Global). t.items) scope.tables.items ≡ tables

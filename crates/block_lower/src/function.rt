@@ -83,6 +83,7 @@ impl Lowering {
             (length self.new.scope.cells.items
             ≡ length self.old.scope.cells.items + length params.now) }
         ensures tables { OnOk result (self.new.scope.tables ≡ self.old.scope.tables) }
+        ensures regs { OnOk result (self.new.scope.regs ≡ self.old.scope.regs) }
         ensures on { OnOk result (self.new.on ≡ self.old.on) }
         ensures out { OnOk result (self.new.out ≡ self.old.out) }
     {
@@ -130,6 +131,7 @@ impl Lowering {
             ≡ writing.next_label self.old.out + sizes.added_by_func self.old.on.quiet_calls f.now) }
         ensures cells { OnOk result (self.new.scope.cells.items ≡ []) }
         ensures tables { OnOk result (self.new.scope.tables ≡ self.old.scope.tables) }
+        ensures regs { OnOk result (self.new.scope.regs ≡ self.old.scope.regs) }
         ensures fresh { OnOk result (IsFresh self.new.out) }
         ensures code { OnOk result
             (LowersFunc self.old.on self.old.scope f.now self.old.out self.new.out) }

@@ -260,6 +260,7 @@ impl Lowering {
         ensures cells { OnOk result
             (length self.new.scope.cells.items ≡ length self.old.scope.cells.items + 1) }
         ensures tables { OnOk result (self.new.scope.tables ≡ self.old.scope.tables) }
+        ensures regs { OnOk result (self.new.scope.regs ≡ self.old.scope.regs) }
         ensures on { OnOk result (self.new.on ≡ self.old.on) }
         ensures out { OnOk result (self.new.out ≡ self.old.out) }
     {
@@ -271,6 +272,7 @@ impl Lowering {
         ensures sees { SeesAfter (take level) self.old.scope self.new.scope }
         ensures cells { length self.new.scope.cells.items ≤ level }
         ensures tables { self.new.scope.tables ≡ self.old.scope.tables }
+        ensures regs { self.new.scope.regs ≡ self.old.scope.regs }
         ensures on { self.new.on ≡ self.old.on }
         ensures out { self.new.out ≡ self.old.out }
     {

@@ -358,6 +358,7 @@ impl Lowering {
         ensures cells { OnOk result
             (length self.new.scope.cells.items ≤ length self.old.scope.cells.items) }
         ensures tables { OnOk result (self.new.scope.tables ≡ self.old.scope.tables) }
+        ensures regs { OnOk result (self.new.scope.regs ≡ self.old.scope.regs) }
         ensures sees { OnOk result (SeesAfter (λ names. names) self.old.scope self.new.scope) }
         ensures code { OnOk result
             (Lowers self.old.on round.entry self.old.scope (Stmt.Par l.now) self.old.out
@@ -394,6 +395,7 @@ impl Lowering {
         ensures cells { OnOk result
             (length self.new.scope.cells.items ≤ length self.old.scope.cells.items) }
         ensures tables { OnOk result (self.new.scope.tables ≡ self.old.scope.tables) }
+        ensures regs { OnOk result (self.new.scope.regs ≡ self.old.scope.regs) }
         ensures sees { OnOk result (SeesAfter (λ names. names) self.old.scope self.new.scope) }
         ensures code { OnOk result
             (Lowers self.old.on round.entry self.old.scope (Stmt.Par l.now) self.old.out

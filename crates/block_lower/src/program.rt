@@ -141,7 +141,8 @@ impl Lowering {
         requires room { HasRoomFor self.old.on
             (max (sizes.kept_by_list program.now.main.items)
             (sizes.kept_by_decls program.now.tables.items)) }
-        requires nothing { (self.old.scope.cells.items ≡ []) × (self.old.scope.tables.items ≡ []) }
+        requires nothing { (self.old.scope.cells.items ≡ []) × (self.old.scope.regs.items ≡ [])
+            × (self.old.scope.tables.items ≡ []) }
         requires fresh { IsFresh self.old.out }
         requires calls { self.old.on.quiet_calls ≡ programs.quiet_calls program.now }
         requires callees { entries self.old.on.callees.items
@@ -171,7 +172,8 @@ impl Lowering {
 fn no_code(alloc: Global, on: Body) -> Lowering
     ensures blocks { result.out.blocks.items ≡ [] }
     ensures fresh { IsFresh result.out }
-    ensures nothing { (result.scope.cells.items ≡ []) × (result.scope.tables.items ≡ []) }
+    ensures nothing { (result.scope.cells.items ≡ []) × (result.scope.regs.items ≡ [])
+        × (result.scope.tables.items ≡ []) }
     ensures on { result.on ≡ on }
 {
     Lowering {
@@ -179,6 +181,7 @@ fn no_code(alloc: Global, on: Body) -> Lowering
         out: no_output(alloc),
         scope: Scope {
             cells: Vec::new(alloc),
+            regs: Vec::new(alloc),
             tables: Vec::new(alloc),
             next_label: 0,
         },

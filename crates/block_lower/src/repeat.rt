@@ -70,6 +70,7 @@ impl Lowering {
         ensures cells { OnOk result
             (length self.new.scope.cells.items ≤ length self.old.scope.cells.items) }
         ensures tables { OnOk result (self.new.scope.tables ≡ self.old.scope.tables) }
+        ensures regs { OnOk result (self.new.scope.regs ≡ self.old.scope.regs) }
         ensures sees { OnOk result (SeesAfter (λ names. names) self.old.scope self.new.scope) }
         ensures fresh { OnOk result (IsFresh self.new.out) }
         ensures code { OnOk result
@@ -108,6 +109,7 @@ impl Lowering {
         ensures cells { OnOk result
             (length self.new.scope.cells.items ≤ length self.old.scope.cells.items) }
         ensures tables { OnOk result (self.new.scope.tables ≡ self.old.scope.tables) }
+        ensures regs { OnOk result (self.new.scope.regs ≡ self.old.scope.regs) }
         ensures sees { OnOk result (SeesAfter (λ names. names) self.old.scope self.new.scope) }
         ensures code { OnOk result
             (LowersBody self.old.on round.entry self.old.scope x.now.text.items

@@ -15,6 +15,7 @@ pub fn declare(alloc: Global, scope: &mut Scope, name: &[u8]) -> Result<(), NoMe
     ensures sees { OnOk result (SeesAfter (λ names. names ++ name.now ∷ []) scope.old scope.new) }
     ensures cells { OnOk result (length scope.new.cells.items ≡ length scope.old.cells.items + 1) }
     ensures tables { OnOk result (scope.new.tables ≡ scope.old.tables) }
+    ensures regs { OnOk result (scope.new.regs ≡ scope.old.regs) }
 {
     let cell = value_cell(scope.cells.len());
     let copy = Vec::from_slice(alloc, name)?;
@@ -27,6 +28,7 @@ pub fn leave(scope: &mut Scope, n: usize)
     ensures sees { SeesAfter (take n) scope.old scope.new }
     ensures cells { length scope.new.cells.items ≤ n }
     ensures tables { scope.new.tables ≡ scope.old.tables }
+    ensures regs { scope.new.regs ≡ scope.old.regs }
 {
     scope.cells.truncate(n);
 }

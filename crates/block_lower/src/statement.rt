@@ -51,6 +51,7 @@ impl Lowering {
         ensures cells { OnOk result
             (length self.new.scope.cells.items ≡ length self.old.scope.cells.items + 1) }
         ensures tables { OnOk result (self.new.scope.tables ≡ self.old.scope.tables) }
+        ensures regs { OnOk result (self.new.scope.regs ≡ self.old.scope.regs) }
         ensures sees { OnOk result
             (SeesAfter (λ names. names ++ x.now.text.items ∷ []) self.old.scope self.new.scope) }
         ensures code { OnOk result
@@ -186,6 +187,7 @@ impl Lowering {
         ensures cells { OnOk result
             (length self.new.scope.cells.items ≤ length self.old.scope.cells.items) }
         ensures tables { OnOk result (self.new.scope.tables ≡ self.old.scope.tables) }
+        ensures regs { OnOk result (self.new.scope.regs ≡ self.old.scope.regs) }
         ensures sees { OnOk result (SeesAfter (λ names. names) self.old.scope self.new.scope) }
         ensures fresh { OnOk result (IsFresh self.new.out) }
         ensures code { OnOk result
@@ -220,6 +222,7 @@ impl Lowering {
         ensures cells { OnOk result
             (length self.new.scope.cells.items ≤ length self.old.scope.cells.items) }
         ensures tables { OnOk result (self.new.scope.tables ≡ self.old.scope.tables) }
+        ensures regs { OnOk result (self.new.scope.regs ≡ self.old.scope.regs) }
         ensures sees { OnOk result (SeesAfter (λ names. names) self.old.scope self.new.scope) }
         ensures fresh { OnOk result (IsFresh self.new.out) }
         ensures code { OnOk result
@@ -265,6 +268,7 @@ impl Lowering {
         ensures cells { OnOk result
             (length self.new.scope.cells.items ≤ length self.old.scope.cells.items) }
         ensures tables { OnOk result (self.new.scope.tables ≡ self.old.scope.tables) }
+        ensures regs { OnOk result (self.new.scope.regs ≡ self.old.scope.regs) }
         ensures sees { OnOk result (SeesAfter (λ names. names) self.old.scope self.new.scope) }
         ensures code { OnOk result
             (WithBody body.now
@@ -301,6 +305,7 @@ impl Lowering {
             (length self.new.scope.cells.items ≤ length self.old.scope.cells.items +
             sizes.declared s.now) }
         ensures tables { OnOk result (self.new.scope.tables ≡ self.old.scope.tables) }
+        ensures regs { OnOk result (self.new.scope.regs ≡ self.old.scope.regs) }
         ensures sees { OnOk result
             (SeesAfter (λ names. names_after names s.now) self.old.scope self.new.scope) }
         ensures code { OnOk result
@@ -348,6 +353,7 @@ impl Lowering {
             (length self.new.scope.cells.items
             ≤ length self.old.scope.cells.items + sizes.declared_by_list body.now) }
         ensures tables { OnOk result (self.new.scope.tables ≡ self.old.scope.tables) }
+        ensures regs { OnOk result (self.new.scope.regs ≡ self.old.scope.regs) }
         ensures sees { OnOk result
             (SeesAfter (λ names. names_after_list names body.now) self.old.scope self.new.scope) }
         ensures code { OnOk result

@@ -22,7 +22,7 @@ use Rattle.stack_marks.specs.Stacks.{StackValue, word_at, with_word}
 use Rattle.tpal_syntax.specs.declared.words.Word.{Word}
 use Rattle.tpal_syntax.specs.declared.words.Word.TheVariants.{Int}
 use Rattle.expr_lower.specs.declared.scope.Scope.{Scope}
-use Rattle.expr_lower.specs.Scopes.{HasVariable, cell_in, has_cell_in, offset_of}
+use Rattle.expr_lower.specs.Scopes.{HasCell, cell_in, has_cell_in, offset_of}
 use Rattle.handler_gen.specs.LoopCuts.{with_units}
 use Rattle.handler_gen.proofs.Cells.{Has, has_set}
 use Rattle.handler_gen.proofs.Offsets.{cells_of}
@@ -116,7 +116,7 @@ module _ (scope : Scope) (names tables : List (List ℕ)) (sees : Sees scope nam
     -- behind the units of those that are reduced all have
     units_known : (rs : List Reduce) (vs : List Variable) (s : StackValue)
         → var_names vs ≡ names
-        → AllByRecursion (λ (r : Reduce). HasVariable scope r.target.text.items) rs → Has s z n
+        → AllByRecursion (λ (r : Reduce). HasCell scope r.target.text.items) rs → Has s z n
         → All (λ x. x < n) (cells_of (accs_of scope rs)) → Known rs vs s
         → Known [] (with_accs rs (units_for rs) vs) (with_units (accs_of scope rs) z s)
     units_known [] vs s named seen has inside known = known
@@ -167,7 +167,7 @@ module _ (scope : Scope) (names tables : List (List ℕ)) (sees : Sees scope nam
     -- variables are held where those that are reduced are set to their units
     pub units_set : (rs : List Reduce) (vs : List Variable) (s : StackValue)
         → var_names vs ≡ names
-        → AllByRecursion (λ (r : Reduce). HasVariable scope r.target.text.items) rs → Has s z n
+        → AllByRecursion (λ (r : Reduce). HasCell scope r.target.text.items) rs → Has s z n
         → All (λ x. x < n) (cells_of (accs_of scope rs)) → Distinct names → All VariableInRange vs
         → Known rs vs s
         → AreHeld (with_units (accs_of scope rs) z s) z 0 (with_accs rs (units_for rs) vs)

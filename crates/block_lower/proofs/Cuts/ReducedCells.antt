@@ -18,7 +18,7 @@ use Rattle.tp_value.specs.declared.Op.{Op}
 use Rattle.tpal_syntax.specs.declared.words.Word.{Word}
 use Rattle.tpal_syntax.specs.declared.words.Word.TheVariants.{Int}
 use Rattle.expr_lower.specs.declared.scope.Scope.{Scope}
-use Rattle.expr_lower.specs.Scopes.{HasVariable, cell_in, has_cell_in, offset_of}
+use Rattle.expr_lower.specs.Scopes.{HasCell, cell_in, has_cell_in, offset_of}
 use Rattle.handler_gen.proofs.Cells.{Has, has_set}
 use Rattle.handler_gen.proofs.Offsets.{cells_of}
 use Rattle.handler_gen.proofs.Words.{word_same, word_other, words_as_many}
@@ -136,7 +136,7 @@ module _ (scope : Scope) (names tables : List (List ℕ)) (sees : Sees scope nam
       ∙ (ap (λ (n : ℕ). slice_index_or names n []) level ∙ (at_level names y in_y).1)
 
   -- a variable of the scope is among the names
-  pub is_named : (x : List ℕ) → HasVariable scope x → is_in names x ≡ true
+  pub is_named : (x : List ℕ) → HasCell scope x → is_in names x ≡ true
   is_named x has =
       ap (λ (ns : List (List ℕ)). is_in ns x) (sym sees.named)
       ∙ (sym (has_cell scope.cells.items x) ∙ has)
@@ -149,7 +149,7 @@ module _ (scope : Scope) (names tables : List (List ℕ)) (sees : Sees scope nam
 
     -- the reduced ones are set to their values
     numbers_set : (rs : List Reduce) (s : StackValue)
-        → AllByRecursion (λ (r : Reduce). HasVariable scope r.target.text.items) rs → Has s z n
+        → AllByRecursion (λ (r : Reduce). HasCell scope r.target.text.items) rs → Has s z n
         → All (λ x. x < n) (cells_of (accs_of scope rs)) → Unset rs s
         → Unset [] (with_numbers (accs_of scope rs) z (numbers_in rs us) s)
     numbers_set [] s seen has inside unset = unset
@@ -192,7 +192,7 @@ module _ (scope : Scope) (names tables : List (List ℕ)) (sees : Sees scope nam
 
     -- variables are held where those that are reduced are set to their values
     pub numbers_held : (rs : List Reduce) (s : StackValue)
-        → AllByRecursion (λ (r : Reduce). HasVariable scope r.target.text.items) rs → Has s z n
+        → AllByRecursion (λ (r : Reduce). HasCell scope r.target.text.items) rs → Has s z n
         → All (λ x. x < n) (cells_of (accs_of scope rs)) → var_names us ≡ names
         → Distinct names → All VariableInRange us → Unset rs s
         → AreHeld (with_numbers (accs_of scope rs) z (numbers_in rs us) s) z 0 us

@@ -9,7 +9,7 @@ use Rattle.loop_meaning.specs.declared.value.Variable.{Variable}
 use Rattle.tp_value.specs.declared.Op.{Op}
 use Rattle.tpal_syntax.specs.Listing.{Listing}
 use Rattle.tpal_syntax.specs.declared.sites.LoopSite.{LoopSite}
-use Rattle.expr_lower.specs.Scopes.{HasVariable, offset_of}
+use Rattle.expr_lower.specs.Scopes.{HasCell, offset_of}
 use Rattle.expr_lower.specs.declared.scope.Scope.{Scope}
 use Rattle.handler_gen.specs.Sites.{IsLoopSite}
 use Rattle.handler_gen.proofs.FramesCut.{Differ, first_apart, rest_differ}
@@ -100,10 +100,10 @@ module _ {code : Listing} {act : Activation} {names : List (List ℕ)} {depth cu
       ap (λ site. site.accs) place.is_site.is
       ∙ ap (λ (scope : Scope). accs_of scope c.loop.reduces.items) (sym place.scoped)
 
-  pub reduced : AllByRecursion (λ (r : Reduce). HasVariable c.scope r.target.text.items)
+  pub reduced : AllByRecursion (λ (r : Reduce). HasCell c.scope r.target.text.items)
       c.loop.reduces.items
   reduced = subst (λ (scope : Scope). AllByRecursion
-      (λ (r : Reduce). HasVariable scope r.target.text.items) c.loop.reduces.items)
+      (λ (r : Reduce). HasCell scope r.target.text.items) c.loop.reduces.items)
       (sym place.scoped) place.is_site.reduced
 
   pub reduced_in : All (λ x. x < c.site.cells) (cells_of (accs_of c.scope c.loop.reduces.items))
@@ -131,7 +131,7 @@ module _ {code : Listing} {act : Activation} {names : List (List ℕ)} {depth cu
   below_accs off below = accs_all (λ x. off ≢ x) (each c.loop.reduces.items reduced)
     where
       each : (rs : List Reduce)
-          → AllByRecursion (λ (r : Reduce). HasVariable c.scope r.target.text.items) rs
+          → AllByRecursion (λ (r : Reduce). HasCell c.scope r.target.text.items) rs
           → AllByRecursion (λ (r : Reduce). off ≢ offset_of c.scope r.target.text.items) rs
       each [] seen = tt
       each (r ∷ rs) seen =

@@ -42,7 +42,7 @@ use Rattle.tpal_machine.specs.Reading.{register, table_at, with_register}
 use Rattle.tpal_machine.specs.State as machine
 use Rattle.tpal_machine.specs.Step.{advanced}
 use Rattle.tpal_machine.proofs.Kit.{Back, on_load, owing}
-use Rattle.expr_lower.specs.Scopes.{HasTable, HasVariable, table_number}
+use Rattle.expr_lower.specs.Scopes.{HasTable, HasCell, table_number}
 use Rattle.expr_lower.specs.Standing.{Remains}
 use Rattle.expr_lower.proofs.Keeping.{register_other, register_set}
 use Rattle.expr_lower.proofs.Standing.{behind, next}
@@ -181,7 +181,7 @@ module _ (code : Listing) (heartbeat z : ℕ) (act : Activation) (q : ParAt code
     -- ---- a side
 
     hold_words : (reduces : List Reduce)
-        → AllByRecursion (λ (r : Reduce). HasVariable q.is_site.scope r.target.text.items) reduces
+        → AllByRecursion (λ (r : Reduce). HasCell q.is_site.scope r.target.text.items) reduces
         → var_names st.vars ≡ q.names → AreHeld state.stack z 0 st.vars
         → HoldWords popped z (accs_of q.is_site.scope reduces)
         (map (λ (n : ℤ). word.Int n) (numbers_in reduces st.vars))

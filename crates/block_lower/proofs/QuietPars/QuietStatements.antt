@@ -26,7 +26,7 @@ use Rattle.tpal_syntax.specs.declared.notes.Note.TheVariants as note
 use Rattle.tpal_syntax.specs.declared.sites.LoopSite.{LoopSite}
 use Rattle.tpal_syntax.specs.Listing.{Listing}
 use Rattle.expr_lower.specs.declared.scope.Scope.{Scope}
-use Rattle.expr_lower.specs.Scopes.{HasVariable, offset_of}
+use Rattle.expr_lower.specs.Scopes.{HasCell, offset_of}
 use Rattle.expr_lower.specs.Standing.{AreAt}
 use Rattle.frame_machine.specs.Iterating.{body_setting}
 use Rattle.handler_gen.specs.Blocks.{dispatch_block}
@@ -131,7 +131,7 @@ module _ (code : Listing) (heartbeat z room : ℕ) (act : Activation) (q : ParAt
 module _ (code : Listing) (act : Activation) (scope : Scope) (names : List (List ℕ))
     (sees : Sees scope names act.tables) (may : ℕ → Type 0) (fixed : List ℕ)
     (changes : (x : List ℕ) (cell : ℕ) → IsCell code act names fixed x cell → may cell) where
-  cell_may : (x : List ℕ) → HasVariable scope x → IsFreeCell code act names fixed x
+  cell_may : (x : List ℕ) → HasCell scope x → IsFreeCell code act names fixed x
       → may (offset_of scope x)
   cell_may x has free =
       let is : IsCell code act names fixed x free.cell = free.is in
@@ -142,7 +142,7 @@ module _ (code : Listing) (act : Activation) (scope : Scope) (names : List (List
       subst may same (changes x free.cell is)
 
   pub accs_may : (rs : List Reduce)
-      → AllByRecursion (λ (r : Reduce). HasVariable scope r.target.text.items) rs
+      → AllByRecursion (λ (r : Reduce). HasCell scope r.target.text.items) rs
       → AllByRecursion (λ (r : Reduce). IsFreeCell code act names fixed r.target.text.items) rs
       → All may (cells_of (accs_of scope rs))
   accs_may [] seen free = All-nil may

@@ -77,7 +77,9 @@ module _ (code : Listing) (heartbeat z : ℕ) (act : Activation) (fuel : ℕ) (S
     registers = shows.size;
     base = pos z;
     is_base = shows.base;
-    variables = λ x has. held_lookup state.stack z scope.cells.items 0 st.vars x sees.laid (sees.named ∙ sym shows.named) has shows.vars;
+    variables =
+        λ x has. rw sees.bare (held_lookup state.stack z scope.cells.items 0 st.vars x sees.laid
+        (sees.named ∙ sym shows.named) (rw sees.bare at has) shows.vars);
     rows = λ t has. (sized scope sees t has).rows;
     cols = λ t has. (sized scope sees t has).cols;
     cells = cells;

@@ -184,11 +184,12 @@ module _ (on : Body) (scope : Scope) (as_told : told.Round) where
 -- the function at a place fits, where the body stands on the same functions
 pub func_fits_now : (base on : Body) (first scope : Scope) (fs : List Func) (i : ℕ) (f : Func)
     → i < length fs → f ≡ get_or fs i f → on.callees ≡ base.callees → first.cells.items ≡ []
-    → scope.cells.items ≡ [] → scope.tables ≡ first.tables → FuncsFitNow base first fs
+    → scope.cells.items ≡ [] → scope.regs ≡ first.regs → scope.tables ≡ first.tables
+    → FuncsFitNow base first fs
     → FuncsFitNow on scope (f ∷ [])
-func_fits_now base on first scope fs i f below is callees empty none same fits = record {
+func_fits_now base on first scope fs i f below is callees empty none same_regs same fits = record {
   tables = fits.tables;
-  sees = sees_tables first scope empty none same fits.tables fits.sees;
+  sees = sees_tables first scope empty none same_regs same fits.tables fits.sees;
   fits = (
     subst (λ v. FuncFitsIn fits.tables (entries v.items) f) (sym callees)
         (holds_at (FuncFitsIn fits.tables (entries base.callees.items)) fs i f below is fits.fits),

@@ -23,7 +23,7 @@ use Rattle.tpal_syntax.specs.declared.sites.LoopSite.{LoopSite}
 use Rattle.tpal_syntax.specs.Listing.{Listing}
 use Rattle.expr_lower.specs.declared.scope.Scope.{Scope}
 use Rattle.expr_lower.specs.Bodies.{trap_block}
-use Rattle.expr_lower.specs.Scopes.{HasTable, HasVariable, offset_of}
+use Rattle.expr_lower.specs.Scopes.{HasTable, HasCell, offset_of}
 use Rattle.expr_lower.specs.Standing.{AreAt}
 use Rattle.expr_lower.proofs.Standing.{front, back}
 use Rattle.handler_gen.specs.Blocks.{loop_handler_blocks}
@@ -219,7 +219,7 @@ targets_seen tables functions most names fixed (r ∷ rs) free =
 module _ (on : Body) (as_told : told.Round) (scope : Scope) (tables names : List (List ℕ))
     (sees : Sees scope names tables) where
   reduced_there : (rs : List Reduce) → TargetsIn names rs
-      → AllByRecursion (λ (r : Reduce). HasVariable scope r.target.text.items) rs
+      → AllByRecursion (λ (r : Reduce). HasCell scope r.target.text.items) rs
   reduced_there [] seen = tt
   reduced_there (r ∷ rs) seen = (
     seen_variable scope names tables sees r.target.text.items seen.0,

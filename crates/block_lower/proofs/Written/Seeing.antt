@@ -8,7 +8,7 @@ use Rattle.loop_syntax.specs.declared.Expr.{Expr}
 use Rattle.loop_syntax.specs.declared.Expr.TheVariants.{Int, Var, Cell', Rows, Cols, Neg', Bin'}
 use Rattle.loop_rules.specs.Names.{is_in}
 use Rattle.expr_lower.specs.declared.scope.Scope.{Scope}
-use Rattle.expr_lower.specs.Scopes.{IsIn, HasVariable, HasTable, has_cell_in, has_table_in, cell_in}
+use Rattle.expr_lower.specs.Scopes.{IsIn, HasCell, HasTable, has_cell_in, has_table_in, cell_in}
 use Rattle.block_lower.specs.Fitting.{IsVisible, level_of}
 use Rattle.block_lower.specs.Layout.{value_cell}
 use Rattle.block_lower.specs.Names.{Sees, AreLaid}
@@ -17,12 +17,16 @@ pub has_cell : (cs : List (Vec ℕ Global × ℕ)) (x : List ℕ) → has_cell_i
 has_cell [] x = refl
 has_cell (c ∷ cs) x = ap (λ b. bytes_eq c.0.items x || b) (has_cell cs x)
 
+or_later : (a b : Bool) → b ≡ true → (a || b) ≡ true
+or_later true b is = refl
+or_later false b is = is
+
 has_table : (ts : List (Vec ℕ Global)) (t : List ℕ) → has_table_in ts t ≡ is_in (map (λ (u : Vec ℕ Global). u.items) ts) t
 has_table [] t = refl
 has_table (u ∷ us) t = ap (λ b. bytes_eq u.items t || b) (has_table us t)
 
 module _ (scope : Scope) (names tables : List (List ℕ)) (sees : Sees scope names tables) where
-  pub seen_variable : (x : List ℕ) → IsTrue (is_in names x) → HasVariable scope x
+  pub seen_variable : (x : List ℕ) → IsTrue (is_in names x) → HasCell scope x
   seen_variable x seen = has_cell scope.cells.items x ∙ ap (λ (ns : List (List ℕ)). is_in ns x) sees.named ∙ seen
 
   pub seen_table : (t : List ℕ) → IsTrue (is_in tables t) → HasTable scope t
@@ -30,7 +34,9 @@ module _ (scope : Scope) (names tables : List (List ℕ)) (sees : Sees scope nam
 
   pub visible_inside : (e : Expr) → IsVisible tables names e → IsIn scope e
   visible_inside (Int n place) v = tt
-  visible_inside (Var x) v = seen_variable x.text.items v
+  visible_inside (Var x) v =
+      or_later (has_cell_in scope.regs.items x.text.items)
+      (has_cell_in scope.cells.items x.text.items) (seen_variable x.text.items v)
   visible_inside (Cell' t p a q b) v = (seen_table t.text.items v.0, visible_inside a v.1, visible_inside b v.2)
   visible_inside (Rows t) v = seen_table t.text.items v
   visible_inside (Cols t) v = seen_table t.text.items v

@@ -84,8 +84,11 @@ pub sees_no_parameter : (scope : Scope) → SeesAfter (λ names. names ++ texts 
 sees_no_parameter scope names tables sees = subst (λ (ns : List (List ℕ)). Sees scope ns tables) (sym (append-nil names)) sees
 
 -- a scope with no variable sees what another one with the same tables does
-pub sees_tables : (first scope : Scope) → first.cells.items ≡ [] → scope.cells.items ≡ [] → scope.tables ≡ first.tables → (tables : List (List ℕ)) → Sees first [] tables → Sees scope [] tables
-sees_tables first scope empty none same tables sees = record {
+pub sees_tables : (first scope : Scope) → first.cells.items ≡ [] → scope.cells.items ≡ []
+    → scope.regs ≡ first.regs → scope.tables ≡ first.tables → (tables : List (List ℕ))
+    → Sees first [] tables → Sees scope [] tables
+sees_tables first scope empty none same_regs same tables sees = record {
+  bare = ap (λ (rs : Vec (Vec ℕ Global × ℕ) Global). rs.items) same_regs ∙ sees.bare;
   named = ap (λ (cs : List (Vec ℕ Global × ℕ)). map (λ (c : Vec ℕ Global × ℕ). c.0.items) cs) none;
   laid = rw none tt;
   listed = ap (λ (ts : Vec (Vec ℕ Global) Global). map (λ (t : Vec ℕ Global). t.items) ts.items) same ∙ sees.listed;
@@ -164,14 +167,20 @@ pub record StandAlike (on also : Body) : Type 0 where
   pub calls : on.quiet_calls ≡ also.quiet_calls
   pub dispatch : on.dispatch ≡ also.dispatch
 
-pub funcs_written : (base on : Body) (first scope : Scope) (fs : List Func) (f : Func) (old middle new : Output) → StandAlike on base → on.most ≡ most_of f → on.size ≡ size_of f → first.cells.items ≡ [] → scope.cells.items ≡ [] → scope.tables ≡ first.tables
+pub funcs_written : (base on : Body) (first scope : Scope) (fs : List Func) (f : Func)
+    (old middle new : Output) → StandAlike on base → on.most ≡ most_of f → on.size ≡ size_of f
+    → first.cells.items ≡ [] → scope.cells.items ≡ [] → scope.regs ≡ first.regs
+    → scope.tables ≡ first.tables
     → IsFresh old → IsFresh middle → next_label middle ≡ next_label old + added_by_funcs base.quiet_calls fs
     → LowersFuncs base first fs old middle → LowersFunc on scope f middle new → LowersFuncs base first (fs ++ f ∷ []) old new
-funcs_written base on first scope fs f old middle new alike most size empty none same fresh fresh_middle labels all one code tables sees fits stands =
+funcs_written base on first scope fs f old middle new alike most size empty none same_regs same
+    fresh fresh_middle labels all one code tables sees fits stands =
     let own : FuncFitsIn tables (entries base.callees.items) f = (fits_behind tables (entries base.callees.items) fs (f ∷ []) fits).0 in
     let fit_named : AllFit tables (entries on.callees.items) on.most outermost (texts f.params.items) f.body.items =
     rw (alike.callees, most) own.fits in
-    let w : Stands code middle × IsFunction code (activation on tables) f (label middle) = one code tables (sees_tables first scope empty none same tables sees) fit_named own.seen stands in
+    let w : Stands code middle × IsFunction code (activation on tables) f (label middle) =
+    one code tables (sees_tables first scope empty none same_regs same tables sees) fit_named
+    own.seen stands in
     let v : Stands code old × AreWritten code (activation base tables) (label old) fs = all code tables sees (fits_before tables (entries base.callees.items) fs (f ∷ []) fits) w.0 in
     let there : label middle ≡ label old + added_by_funcs base.quiet_calls fs = omega (arith, labels, fresh_label old fresh, fresh_label middle fresh_middle) in
     let is : activation on tables ≡ activation_of (activation base tables) f = rw (alike.callees, alike.calls, alike.dispatch, most, size) refl in

@@ -67,8 +67,10 @@ declared_more (e ∷ es) (u ∷ us) d t all one = (all.0, declared_more es us d 
 
 -- ---- main
 
-sees_nothing : (scope : Scope) → scope.cells.items ≡ [] → scope.tables.items ≡ [] → Sees scope [] []
-sees_nothing scope cells tables = record {
+sees_nothing : (scope : Scope) → scope.cells.items ≡ [] → scope.regs.items ≡ []
+    → scope.tables.items ≡ [] → Sees scope [] []
+sees_nothing scope cells regs tables = record {
+  bare = regs;
   named = ap (λ (cs : List (Vec ℕ Global × ℕ)). map (λ (c : Vec ℕ Global × ℕ). c.0.items) cs) cells;
   laid = rw cells tt;
   listed = ap (λ (ts : List (Vec ℕ Global)). map (λ (t : Vec ℕ Global). t.items) ts) tables;
@@ -77,12 +79,16 @@ sees_nothing scope cells tables = record {
 abbrev head : ℕ → List Instr
 head size = instr.Salloc size ∷ store levels_cell (value.Int (pos MAX_CALL_DEPTH)) ∷ []
 
-pub main_written : (on : Body) (as_told : told.Round) (p : Program) (scope seen : Scope) (old begins made inner new : Output) → IsRound outermost as_told → DeclsFit [] p.tables.items → scope.cells.items ≡ [] → scope.tables.items ≡ [] → Pushes (head on.size) old begins
+pub main_written : (on : Body) (as_told : told.Round) (p : Program) (scope seen : Scope)
+    (old begins made inner new : Output) → IsRound outermost as_told → DeclsFit [] p.tables.items
+    → scope.cells.items ≡ [] → scope.regs.items ≡ [] → scope.tables.items ≡ []
+    → Pushes (head on.size) old begins
     → WritesMakes on scope p.tables.items begins made → SeesTables (λ tables. tables ++ map table_name p.tables.items) scope seen → LowersAll on as_told seen p.main.items made inner → Closes term.Halt inner new → LowersMain on p old new
-main_written on as_told p scope seen old begins made inner new is_round fit cells none push makes keeps all close code fits stands =
+main_written on as_told p scope seen old begins made inner new is_round fit cells bare none push
+    makes keeps all close code fits stands =
     let tables : List (List ℕ) = map table_name p.tables.items in
     let act : Activation = activation on tables in
-    let nothing : Sees scope [] [] = sees_nothing scope cells none in
+    let nothing : Sees scope [] [] = sees_nothing scope cells bare none in
     let w : Leads code made (λ instrs end. Codes code act outermost [] p.main.items instrs end [] term.Halt) = all code tables [] outermost [] term.Halt is_round (keeps [] [] nothing) fits (closed_block code inner new term.Halt close stands) in
     let v : Leads code begins (λ instrs end. (end ≡ w.end) × Makes code act [] p.tables.items instrs w.instrs) = makes code tables [] w.instrs w.end nothing fit w.continues in
     record {
@@ -99,12 +105,15 @@ take_none [] = refl
 take_none (x ∷ xs) = refl
 
 -- behind main only the tables are visible
-pub sees_after_main : (p : Program) (scope seen after new : Scope) → scope.cells.items ≡ [] → scope.tables.items ≡ [] → SeesTables (λ tables. tables ++ map table_name p.tables.items) scope seen
+pub sees_after_main : (p : Program) (scope seen after new : Scope) → scope.cells.items ≡ []
+    → scope.regs.items ≡ [] → scope.tables.items ≡ []
+    → SeesTables (λ tables. tables ++ map table_name p.tables.items) scope seen
     → SeesAfter (λ names. names_after_list names p.main.items) seen after → SeesAfter (take 0) after new → Sees new [] (map table_name p.tables.items)
-sees_after_main p scope seen after new cells none keeps runs leaves =
+sees_after_main p scope seen after new cells bare none keeps runs leaves =
     let tables : List (List ℕ) = map table_name p.tables.items in
     subst (λ (ns : List (List ℕ)). Sees new ns tables) (take_none (names_after_list [] p.main.items))
-    (leaves (names_after_list [] p.main.items) tables (runs [] tables (keeps [] [] (sees_nothing scope cells none))))
+    (leaves (names_after_list [] p.main.items) tables
+    (runs [] tables (keeps [] [] (sees_nothing scope cells bare none))))
 
 -- ---- functions
 
@@ -168,13 +177,15 @@ main_room p on fits most size =
 
 -- main fits in its body
 pub main_fits_now : (p : Program) (on : Body) (as_told : told.Round) (scope seen : Scope) → ProgramFits p → entries on.callees.items ≡ entries_from (quiet_calls p) (added_by_main p) p.funcs.items → on.most ≡ declared_by_list p.main.items
-    → IsRound outermost as_told → scope.cells.items ≡ [] → scope.tables.items ≡ [] → SeesTables (λ tables. tables ++ map table_name p.tables.items) scope seen → FitsIn on seen as_told p.main.items
-main_fits_now p on as_told scope seen fits same most is_round cells none keeps = record {
+    → IsRound outermost as_told → scope.cells.items ≡ [] → scope.regs.items ≡ []
+    → scope.tables.items ≡ [] → SeesTables (λ tables. tables ++ map table_name p.tables.items) scope
+    seen → FitsIn on seen as_told p.main.items
+main_fits_now p on as_told scope seen fits same most is_round cells bare none keeps = record {
   tables = map table_name p.tables.items;
   names = [];
   round = outermost;
   is_round = is_round;
-  sees = keeps [] [] (sees_nothing scope cells none);
+  sees = keeps [] [] (sees_nothing scope cells bare none);
   fits = rw (same, most) (main_fits_in p fits);
 }
 

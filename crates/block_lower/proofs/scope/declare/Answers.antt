@@ -6,5 +6,13 @@ use Rattle.block_lower.proofs.scope.declare.Goals as goal
 pub returns-clause-sees : goal.returns-clause-sees
 returns-clause-sees c =
     let long : c.len.result ≡ length c.args.scope.now.cells.items = omega (arith, c.len.ensures, c.args.scope.now.cells.ok) in
-    sees_declared c.args.scope.now (record { cells = c.push.new.self; tables = c.args.scope.now.tables; next_label = c.args.scope.now.next_label }) (c.in_ok-copy.copy, c.value_cell-cell.result) c.args.name.now
-    c.in_ok-push.ensures.items c.in_ok-copy.ensures.items (c.value_cell-cell.ensures ∙ ap value_cell long) refl
+    sees_declared c.args.scope.now
+    (record {
+      cells = c.push.new.self;
+      regs = c.args.scope.now.regs;
+      tables = c.args.scope.now.tables;
+      next_label = c.args.scope.now.next_label;
+    })
+    (c.in_ok-copy.copy, c.value_cell-cell.result) c.args.name.now
+    c.in_ok-push.ensures.items c.in_ok-copy.ensures.items
+    (c.value_cell-cell.ensures ∙ ap value_cell long) refl refl

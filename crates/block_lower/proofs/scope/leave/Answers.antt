@@ -4,5 +4,10 @@ use Rattle.block_lower.proofs.scope.leave.Goals as goal
 
 pub returns-clause-sees : goal.returns-clause-sees
 returns-clause-sees c =
-    sees_left c.args.scope.now (record { cells = c.truncate.new.self; tables = c.args.scope.now.tables; next_label = c.args.scope.now.next_label }) c.args.n
-    c.truncate.ensures.items refl
+    sees_left c.args.scope.now (record {
+      cells = c.truncate.new.self;
+      regs = c.args.scope.now.regs;
+      tables = c.args.scope.now.tables;
+      next_label = c.args.scope.now.next_label;
+    }) c.args.n
+    c.truncate.ensures.items refl refl

@@ -256,6 +256,7 @@ lower_list-loop-s-init t c = record {
   labels = omega arith;
   cells = omega arith;
   tables = refl;
+  regs = refl;
   sees = λ names tables sees. sees;
   code = none_written c.args.self.now.on c.args.round c.args.self.now.scope c.args.self.now.out;
   on = refl;
@@ -308,6 +309,7 @@ lower_list-loop-s-preserved t c =
       labels = omega (arith, more_blocks, labels, was.labels);
       cells = omega (arith, more_cells, new.cells, was.cells);
       tables = new.tables ∙ was.tables;
+      regs = new.regs ∙ was.regs;
       sees = subst (λ (ss : List Stmt). SeesAfter (λ names. names_after_list names ss) self.scope c.lower_stmt.new.self.scope) (sym step)
           (sees_more self.scope c.loop-s.self.scope c.lower_stmt.new.self.scope (take i body) s was.sees new.sees);
       code = subst (λ (ss : List Stmt). LowersAll self.on c.args.round self.scope ss self.out c.lower_stmt.new.self.out) (sym step)

@@ -14,6 +14,7 @@ invariant-lower_list-loop-s l = record {
   cells : length l.self.scope.cells.items
       ≤ length l.initial.self.scope.cells.items + sum_by declared (take l.s-index l.body);
   tables : l.self.scope.tables ≡ l.initial.self.scope.tables;
+  regs : l.self.scope.regs ≡ l.initial.self.scope.regs;
   sees : SeesAfter (λ names. names_after_list names (take l.s-index l.body))
       l.initial.self.scope l.self.scope;
   code : LowersAll l.initial.self.on l.round l.initial.self.scope

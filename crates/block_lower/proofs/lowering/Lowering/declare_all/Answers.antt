@@ -11,6 +11,7 @@ loop-x-init c = record {
   sees = sees_no_parameter c.args.self.now.scope;
   cells = omega arith;
   tables = refl;
+  regs = refl;
   on = refl;
   out = refl;
 }
@@ -32,6 +33,7 @@ loop-x-preserved c =
           c.declare.new.self.scope was.sees declared.sees);
       cells = omega (arith, declared.cells, was.cells);
       tables = declared.tables ∙ was.tables;
+      regs = declared.regs ∙ was.regs;
       on = declared.on ∙ was.on;
       out = declared.out ∙ was.out;
     }

@@ -10,6 +10,7 @@ invariant-loop-x l = record {
   cells : length l.self.scope.cells.items
       ≡ length l.initial.self.scope.cells.items + l.x-index;
   tables : l.self.scope.tables ≡ l.initial.self.scope.tables;
+  regs : l.self.scope.regs ≡ l.initial.self.scope.regs;
   on : l.self.on ≡ l.initial.self.on;
   out : l.self.out ≡ l.initial.self.out;
 }

@@ -14,6 +14,7 @@ pub loop-f-init : goal.loop-f-init
 loop-f-init c = record {
   labels = omega arith;
   cells = c.requires.cells;
+  regs = refl;
   tables = refl;
   alike = record { callees = refl; calls = refl; dispatch = refl };
   fresh = c.requires.fresh;
@@ -31,7 +32,7 @@ lower_func-requires-clause-fits c =
     func_fits_now c.args.self.now.on
     (record c.loop-f.self.on { most = c.most_of-self.result; size = c.size_of-self.result })
     c.args.self.now.scope c.loop-f.self.scope c.args.fs.now c.loop-f.f-index c.f-item.result
-    c.loop-f-test.true c.f-item.is was.alike.callees c.requires.cells was.cells was.tables
+    c.loop-f-test.true c.f-item.is was.alike.callees c.requires.cells was.cells was.regs was.tables
     c.requires.fits
 
 pub loop-f-preserved : goal.loop-f-preserved
@@ -50,6 +51,7 @@ loop-f-preserved c =
     record {
       labels = omega (arith, blocks, labels, was.labels);
       cells = new.cells;
+      regs = new.regs ∙ was.regs;
       tables = new.tables ∙ was.tables;
       alike = record {
         callees = ap (λ o. o.callees) new.on ∙ alike.callees;
@@ -58,7 +60,9 @@ loop-f-preserved c =
       };
       fresh = new.fresh;
       code = subst (λ (gs : List Func). LowersFuncs self.on self.scope gs self.out c.lower_func.new.self.out) (sym step)
-          (funcs_written self.on on self.scope c.loop-f.self.scope (take i fs) f self.out c.loop-f.self.out c.lower_func.new.self.out alike c.most_of-self.ensures c.size_of-self.ensures c.requires.cells was.cells was.tables
+          (funcs_written self.on on self.scope c.loop-f.self.scope (take i fs) f self.out
+          c.loop-f.self.out c.lower_func.new.self.out alike c.most_of-self.ensures
+          c.size_of-self.ensures c.requires.cells was.cells was.regs was.tables
           c.requires.fresh was.fresh was.labels was.code new.code);
     }
 

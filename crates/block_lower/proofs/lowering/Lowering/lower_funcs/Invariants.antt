@@ -10,6 +10,7 @@ invariant-loop-f l = record {
       ≡ next_label l.initial.self.out
       + added_by_funcs l.initial.self.on.quiet_calls (take l.f-index l.fs);
   cells : l.self.scope.cells.items ≡ [];
+  regs : l.self.scope.regs ≡ l.initial.self.scope.regs;
   tables : l.self.scope.tables ≡ l.initial.self.scope.tables;
   alike : StandAlike l.self.on l.initial.self.on;
   fresh : IsFresh l.self.out;

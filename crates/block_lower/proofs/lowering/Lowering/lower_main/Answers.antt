@@ -17,7 +17,7 @@ lower_list-requires-clause-fits c =
     (main_fits_now c.args.program.now self.on c.outermost.result self.scope
     c.push_makes.new.self.scope c.requires.fits c.requires.callees c.requires.most
     (is_outermost c.outermost.result c.outermost.ensures.reduces c.outermost.ensures.depth)
-    c.requires.nothing.0 c.requires.nothing.1
+    c.requires.nothing.0 c.requires.nothing.1 c.requires.nothing.2
     (rw (c.deref.ensures.value, first.scope) at makes.sees))
 
 pub returns-clause-labels : goal.returns-clause-labels
@@ -35,7 +35,8 @@ returns-clause-sees c =
     let makes = c.in_ok-push_makes.ensures in
     sees_after_main c.args.program.now c.args.self.now.scope c.push_makes.new.self.scope
     c.lower_list.new.self.scope c.leave.new.self.scope c.requires.nothing.0
-    c.requires.nothing.1 (rw (c.deref.ensures.value, first.scope) at makes.sees)
+    c.requires.nothing.1 c.requires.nothing.2
+    (rw (c.deref.ensures.value, first.scope) at makes.sees)
     (rw c.deref-2.ensures.value at c.in_ok-lower_list.ensures.sees)
     (rw c.in_ok-close.ensures.scope at c.leave.ensures.sees)
 
@@ -49,7 +50,8 @@ returns-clause-code c =
     c.push_makes.new.self.scope c.args.self.now.out c.push_first_activation.new.self.out
     c.push_makes.new.self.out c.lower_list.new.self.out c.close.new.self.out
     (is_outermost c.outermost.result c.outermost.ensures.reduces c.outermost.ensures.depth)
-    c.requires.fits.declarations c.requires.nothing.0 c.requires.nothing.1 first.pushed
+    c.requires.fits.declarations c.requires.nothing.0 c.requires.nothing.1 c.requires.nothing.2
+    first.pushed
     (rw (c.deref.ensures.value, first.on, first.scope) at makes.code)
     (rw (c.deref.ensures.value, first.scope) at makes.sees)
     (rw (c.deref-2.ensures.value, on) at c.in_ok-lower_list.ensures.code)
