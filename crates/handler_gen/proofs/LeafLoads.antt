@@ -131,8 +131,7 @@ module _ (code : Listing) (heartbeat : ℕ) (K : Back code heartbeat) (end : Ter
         m.below 25 (omega arith) ∙ register_set words_1 25 last (omega (arith, size_1)) in
         go others later there (m.size ∙ size_2) (
           next_there ∙ ap (λ (u : Word). Some u) (sym kept_24),
-          last_there ∙ ap (λ (u : Word). Some u) (sym kept_25),
-          m.have,
+          (last_there ∙ ap (λ (u : Word). Some u) (sym kept_25), m.have),
         )
         (λ q h. m.below q (omega (arith, h))
         ∙ (register_other words_1 25 q last (λ e. absurd (omega (arith, e, h)))
