@@ -1,5 +1,5 @@
 -- The registers of a leaf loop and their cells show the same frames.
-use Rattle.std.proofs.Common.{◌≡◌, ℕ, ◌+◌, List, [], ◌∷◌, Some, refl, ap, sym, ◌∙◌}
+use Rattle.std.proofs.Common.{◌≡◌, ℕ, ◌+◌, List, [], ◌∷◌, Some, ap, sym, ◌∙◌}
 use Rattle.std.specs.Prelude.{ℤ, pos}
 use Rattle.loop_meaning.specs.declared.frame.Frame.{Frame}
 use Rattle.loop_meaning.specs.declared.frame.Frame.TheVariants.{Range, Pair}

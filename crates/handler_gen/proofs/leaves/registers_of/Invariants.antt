@@ -1,4 +1,4 @@
-use Rattle.std.proofs.Common.{◌≡◌, ◌+◌, ◌∷◌, ◌++◌, drop}
+use Rattle.std.proofs.Common.{◌≡◌, ◌+◌, ◌++◌, drop}
 use Rattle.handler_gen.specs.LeafSites.{registers_from, registers_of}
 use Rattle.handler_gen.proofs.leaves.registers_of.Given as goal
 
