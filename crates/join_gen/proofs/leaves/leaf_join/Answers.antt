@@ -6,9 +6,10 @@ use Rattle.handler_gen.specs.Sites.{IsLoopSite, target_label}
 use Rattle.join_gen.specs.LoopJoins.{IsRoundJoin, JoinsLoop}
 use Rattle.join_gen.proofs.leaves.leaf_join.Goals as goal
 
-pub loop_join-requires-clause-site : goal.loop_join-requires-clause-site
-loop_join-requires-clause-site c =
-    subst IsLoopSite (sym c.in_ok-stored.ensures) c.requires.site.loop
+pub loop_join-requires : goal.loop_join-requires
+loop_join-requires c = record {
+  site = subst IsLoopSite (sym c.in_ok-stored.ensures) c.requires.site.loop;
+}
 
 pub returns-clause-joins : goal.returns-clause-joins
 returns-clause-joins c = λ code heartbeat stands round.
