@@ -27,7 +27,7 @@ use Rattle.handler_gen.specs.Blocks.{ask, middle, cut_places, left_begins, units
 use Rattle.handler_gen.specs.Blocks.{dispatch_block, loop_cut_block, back_block, loop_child_block}
 use Rattle.handler_gen.specs.Blocks.{loop_handler_blocks, call_cut_block, call_child_block}
 use Rattle.handler_gen.specs.Blocks.{call_handler_blocks}
-use Rattle.handler_gen.specs.declared.sites.LeafSite.{LeafSite}
+use Rattle.tpal_syntax.specs.declared.sites.LeafSite.{LeafSite}
 use Rattle.handler_gen.specs.Fitting.{AreBlocksOf, HasLoopPlaces, HasLeafPlaces, HasCallPlaces}
 use Rattle.handler_gen.specs.LeafBlocks.{leaf_handler_blocks, loads_of, stores_of}
 use Rattle.handler_gen.specs.LeafSites.{IsLeafSite, head_label, registers_from, registers_of}

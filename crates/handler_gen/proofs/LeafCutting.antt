@@ -23,7 +23,7 @@ use Rattle.expr_lower.specs.Leaving.{moved}
 use Rattle.expr_lower.specs.Standing.{Remains, AreAt}
 use Rattle.expr_lower.proofs.Keeping.{register_set}
 use Rattle.expr_lower.proofs.Standing.{next, behind}
-use Rattle.handler_gen.specs.declared.sites.LeafSite.{LeafSite}
+use Rattle.tpal_syntax.specs.declared.sites.LeafSite.{LeafSite}
 use Rattle.handler_gen.specs.Blocks.{to, loop_handler_blocks}
 use Rattle.handler_gen.specs.Dispatching.{dispatched}
 use Rattle.handler_gen.specs.LeafBlocks.{leaf_handler_blocks, loads_block, loads_of, save_block}

@@ -8,7 +8,7 @@ use Rattle.tp_value.specs.declared.Op.{Op}
 use Rattle.tpal_syntax.specs.declared.words.Word.{Word}
 use Rattle.tpal_syntax.specs.declared.words.Word.TheVariants.{Int}
 use Rattle.tpal_machine.specs.Reading.{register}
-use Rattle.handler_gen.specs.declared.sites.LeafSite.{LeafSite}
+use Rattle.tpal_syntax.specs.declared.sites.LeafSite.{LeafSite}
 use Rattle.handler_gen.specs.Frames.{HoldAccs, Shows}
 use Rattle.handler_gen.specs.LeafCuts.{HaveAccs, HaveRegisters, ShowsAlike, ShowsLeaf}
 use Rattle.handler_gen.specs.LeafSites.{registers_from, registers_of, stored_loop}

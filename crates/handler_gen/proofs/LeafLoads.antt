@@ -19,7 +19,7 @@ use Rattle.tpal_machine.proofs.Kit.{Back}
 use Rattle.expr_lower.specs.Leaving.{moved}
 use Rattle.expr_lower.specs.Standing.{Remains}
 use Rattle.expr_lower.proofs.Keeping.{register_set, register_other}
-use Rattle.handler_gen.specs.declared.sites.LeafSite.{LeafSite}
+use Rattle.tpal_syntax.specs.declared.sites.LeafSite.{LeafSite}
 use Rattle.handler_gen.specs.LeafBlocks.{loads_of}
 use Rattle.handler_gen.specs.LeafCuts.{HaveRegisters}
 use Rattle.handler_gen.specs.LeafSites.{IsLeafSite, registers_from, registers_of, stored_loop}

@@ -20,7 +20,7 @@ use Rattle.tpal_machine.specs.State.{State}
 use Rattle.tpal_machine.proofs.Kit.{Back}
 use Rattle.expr_lower.specs.Leaving.{moved}
 use Rattle.expr_lower.specs.Standing.{Remains}
-use Rattle.handler_gen.specs.declared.sites.LeafSite.{LeafSite}
+use Rattle.tpal_syntax.specs.declared.sites.LeafSite.{LeafSite}
 use Rattle.handler_gen.specs.LeafBlocks.{stores_of}
 use Rattle.handler_gen.specs.LeafCuts.{HaveRegisters, with_registers}
 use Rattle.handler_gen.specs.LeafSites.{IsLeafSite, registers_from, registers_of, stored_loop}

@@ -7,7 +7,7 @@ use Rattle.tpal_syntax.specs.declared.instructions.Term.TheVariants as term
 use Rattle.tpal_syntax.specs.declared.instructions.Value.TheVariants as value
 use Rattle.tpal_syntax.specs.declared.notes.Note.TheVariants as note
 use Rattle.expr_lower.specs.Registers.{base_register}
-use Rattle.handler_gen.specs.declared.sites.LeafSite.{LeafSite}
+use Rattle.tpal_syntax.specs.declared.sites.LeafSite.{LeafSite}
 use Rattle.handler_gen.specs.Blocks.{block_of, to, loop_handler_blocks}
 use Rattle.handler_gen.specs.LeafSites.{stored_loop, registers_of}
 use Rattle.handler_gen.specs.LeafSites.{reload_label, start_label, head_label}

@@ -24,7 +24,7 @@ use Rattle.tpal_machine.specs.State.{State}
 use Rattle.expr_lower.specs.Leaving.{moved}
 use Rattle.expr_lower.specs.Registers.{base_register, value_registers}
 use Rattle.expr_lower.specs.Standing.{Remains}
-use Rattle.handler_gen.specs.declared.sites.LeafSite.{LeafSite}
+use Rattle.tpal_syntax.specs.declared.sites.LeafSite.{LeafSite}
 use Rattle.handler_gen.specs.Blocks.{to}
 use Rattle.handler_gen.specs.Dispatching.{dispatched}
 use Rattle.handler_gen.specs.Frames.{Shows}

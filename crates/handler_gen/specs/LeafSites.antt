@@ -3,7 +3,7 @@ use Rattle.std.specs.Prelude.{ℕ, ◌+◌, ◌≤◌, if◌then◌else◌, List
 use Rattle.std.specs.List.{list_any}
 use Rattle.tp_value.specs.declared.Op.{Op}
 use Rattle.tpal_syntax.specs.declared.sites.LoopSite.{LoopSite}
-use Rattle.handler_gen.specs.declared.sites.LeafSite.{LeafSite}
+use Rattle.tpal_syntax.specs.declared.sites.LeafSite.{LeafSite}
 use Rattle.handler_gen.specs.Registers.{leaf_accs, leaf_bound, leaf_cursor, leaf_first_acc}
 use Rattle.handler_gen.specs.Sites.{IsLoopSite, is_of_cells, first_label}
 

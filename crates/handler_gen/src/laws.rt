@@ -5,8 +5,7 @@ ghost use Rattle.handler_gen.specs.Frames.{CutsFrame, CutsPair};
 ghost use Rattle.handler_gen.specs.LeafCuts.{ShowsAlike};
 ghost use Rattle.handler_gen.specs.Sites.{IsCallSite, IsLoopSite};
 
-use crate::sites::LeafSite;
-use tpal_syntax::{CallSite, LoopSite};
+use tpal_syntax::{CallSite, LeafSite, LoopSite};
 
 /// A loop is cut as `split_frame` cuts its frame: where its activation shows a range, that of the
 /// left shows the lower part, and that of the child the upper one, which begins with units.

@@ -19,11 +19,10 @@ use crate::blocks::block_of;
 use crate::labels::has_cells;
 use crate::loops::handler_blocks;
 use crate::registers::{BACK, CUT, LEAF_BOUND, LEAF_CURSOR, LEAF_FIRST_ACC, SPLIT};
-use crate::sites::LeafSite;
 use expr_lower::BASE;
 use std::alloc::Global;
 use tp_value::{Items, NoMemory, Op};
-use tpal_syntax::{Block, Instr, LoopSite, Note, Term, Value};
+use tpal_syntax::{Block, Instr, LeafSite, LoopSite, Note, Term, Value};
 
 /// The label at which a leaf loop begins, and its child: its registers are loaded there.
 pub fn start_label(site: &LeafSite) -> u32

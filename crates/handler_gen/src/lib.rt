@@ -12,7 +12,6 @@ mod laws;
 mod leaves;
 mod loops;
 mod registers;
-mod sites;
 
 pub use blocks::{block_of, dispatch};
 pub use calls::call_handler;
@@ -29,7 +28,6 @@ pub use registers::{
     BACK, CUT, LEAF_BOUND, LEAF_CURSOR, LEAF_FIRST_ACC, MIDDLE, NEXT, OTHER_RECORD, RECORD, SPLIT,
     TEST,
 };
-pub use sites::LeafSite;
 
 #[cfg(test)]
 mod tests;

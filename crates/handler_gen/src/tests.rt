@@ -11,7 +11,9 @@ use std::alloc::Global;
 use std::test::Fail;
 use tp_value::{Items, NoMemory, Op};
 use tpal_print::print_code;
-use tpal_syntax::{Block, CallSite, CarryAt, Code, CodeTable, Instr, LoopSite, Note, Term, Value};
+use tpal_syntax::{
+    Block, CallSite, CarryAt, Code, CodeTable, Instr, LeafSite, LoopSite, Note, Term, Value,
+};
 
 type Made<T> = Result<T, NoMemory>;
 

@@ -11,10 +11,10 @@ ghost use Rattle.join_gen.specs.Blocks.{loop_join_blocks};
 ghost use Rattle.join_gen.specs.LoopJoins.{IsRoundJoin, JoinsLoop};
 
 use crate::loops::loop_join;
-use handler_gen::{LeafSite, stored_loop};
+use handler_gen::stored_loop;
 use std::alloc::Global;
 use tp_value::NoMemory;
-use tpal_syntax::Block;
+use tpal_syntax::{Block, LeafSite};
 
 /// The blocks where the sides of a leaf loop meet, where they are combined, and where each of them
 /// ends. They stand behind those of the leaf loop's handler. Before a side ends its accumulators

@@ -6,12 +6,12 @@ ghost use Rattle.handler_gen.specs.LeafSites.{IsLeafSite};
 ghost use Rattle.handler_gen.specs.Sites.{IsLoopSite, IsCallSite};
 
 use super::*;
-use handler_gen::{LeafSite, block_of};
+use handler_gen::block_of;
 use std::alloc::Global;
 use std::test::Fail;
 use tp_value::{Items, NoMemory, Op};
 use tpal_print::print_code;
-use tpal_syntax::{Block, CallSite, CarryAt, Code, CodeTable, LoopSite, Note, Term};
+use tpal_syntax::{Block, CallSite, CarryAt, Code, CodeTable, LeafSite, LoopSite, Note, Term};
 
 type Made<T> = Result<T, NoMemory>;
 

@@ -24,7 +24,7 @@ pub use instructions::{Alu, Instr, Term, Value};
 pub use notes::{CarryAt, CutKind, Note, Target};
 pub use ops::{Flat, Op, Span};
 pub use parts::{is_instr, is_term};
-pub use sites::{CallSite, LoopSite};
+pub use sites::{CallSite, LeafSite, LoopSite};
 pub use words::Word;
 
 #[cfg(test)]
