@@ -4,6 +4,7 @@ ghost use Rattle.std.specs.Prelude.{◌≡◌, ◌≤◌, IfOk};
 ghost use Rattle.tpal_machine.specs.State.{first_state};
 
 use crate::ends::{Goal, Tie, Wait};
+use crate::turn::told;
 use beat_count::{Beat, Fuel};
 use slices::Held;
 use stack_marks::Stack;
@@ -54,7 +55,7 @@ impl Model for Task {
 }
 
 impl Task {
-    ghost use Rattle.std.specs.Prelude.{◌≡◌, ◌≤◌, IfOk, length};
+    ghost use Rattle.std.specs.Prelude.{◌≡◌, ◌≤◌, ◌-◌, ◌^◌, IfOk, length, min};
     ghost use Rattle.tpal_machine.specs.Belonging.{RunsOn};
     ghost use Rattle.tpal_machine.specs.State.{first_state};
 
@@ -69,6 +70,16 @@ impl Task {
     {
         let _blocks = code.blocks();
         first_task(alloc, tables, fuel)
+    }
+
+    /// The block of the next instruction, and how many instructions of that block stand before it;
+    /// a position beyond 2^32 - 1, to which no run comes, is told as that number. It takes no
+    /// memory.
+    pub fn at(&self) -> (u32, u32)
+        ensures block { result.0 ≡ self.now.block }
+        ensures position { result.1 ≡ min self.now.at (2 ^ 32 - 1) }
+    {
+        (self.frame.block, told(self.frame.at))
     }
 }
 

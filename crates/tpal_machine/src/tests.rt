@@ -428,6 +428,36 @@ fn counts_of(alloc: Global, budget: u32) -> Result<Option<(u64, u64)>, NoMemory>
     }
 }
 
+// Where a task stands after a turn of so many instructions, if it goes on.
+fn stands_after(alloc: Global, budget: u32) -> Result<Option<(u32, u32)>, NoMemory>
+    requires { 1 ≤ budget }
+{
+    match code_of(alloc, ROWS, &PROMOTED, TO_HEAD, &[], Term::Halt)? {
+        None => Ok(None),
+        Some(code) => {
+            let task = Task::first(alloc, &code, tables_of(alloc)?, 100)?;
+            match run_task(task, &code, PACE, budget).turn {
+                Turn::Pause(task) => Ok(Some(task.at())),
+                Turn::Halted(_)
+                | Turn::NeedRecord(_)
+                | Turn::Forked { .. }
+                | Turn::Arrived { .. }
+                | Turn::Stuck { .. }
+                | Turn::NoMemory => Ok(None),
+            }
+        }
+    }
+}
+
+#[test]
+fn a_task_tells_where_it_stands(rt: HostRuntime) -> Result<(), Fail> {
+    let alloc = rt.alloc();
+    assert_eq!(rt; stands_after(alloc, 1)?, Some((0, 1)));
+    assert_eq!(rt; stands_after(alloc, 3)?, Some((0, 3)));
+    assert_eq!(rt; stands_after(alloc, 4)?, Some((2, 0)));
+    Ok(())
+}
+
 #[test]
 fn a_turn_counts_its_beats(rt: HostRuntime) -> Result<(), Fail> {
     let alloc = rt.alloc();
