@@ -42,12 +42,13 @@ use Rattle.expr_lower.specs.Leaving.{Keeps, moved, moved_to}
 use Rattle.expr_lower.specs.Scopes.{HasTable, table_number}
 use Rattle.expr_lower.specs.Standing.{Remains}
 use Rattle.expr_lower.proofs.Evaluating.{After, after_moved, calculates, tests, Evaluates}
-use Rattle.expr_lower.proofs.Evaluating.{EvaluatesOnBoth, with_operand, with_second, holds_moved}
-use Rattle.expr_lower.proofs.Evaluating.{holds_front, holds_back}
+use Rattle.expr_lower.proofs.Evaluating.{EvaluatesAt, EvaluatesOnBoth, with_operand, with_second}
+use Rattle.expr_lower.proofs.Evaluating.{holds_moved, holds_front, holds_back}
 use Rattle.expr_lower.proofs.Indexes.{and_false, lesser_below, both_positions, IsPosition}
 use Rattle.expr_lower.proofs.Indexes.{not_below_size, below_size}
 use Rattle.expr_lower.proofs.Keeping.{register_set, register_other, kept_set, kept_counted}
-use Rattle.expr_lower.proofs.Keeping.{kept_twice, kept_wider}
+use Rattle.expr_lower.proofs.Keeping.{kept_twice, kept_wider, kept_apart, Apart, apart_other}
+use Rattle.expr_lower.proofs.Keeping.{stands_apart, stands_other}
 use Rattle.expr_lower.proofs.Standing.{next, behind, split}
 
 module _ (code : Listing) (heartbeat : ℕ) (K : Back code heartbeat) where
@@ -151,25 +152,25 @@ module _ (code : Listing) (heartbeat : ℕ) (K : Back code heartbeat) where
     both_in i j row col = ap (λ b. b && is_below j meant.cols) row ∙ col
 
     -- The tests lead to the trap where the table has no cell at that row and column, and on in the block
-    -- where it has one.
-    pub range_law : (state : State) (more : List Instr) (end : Term) (row col test : ℕ) (i j : ℤ) (notes : List Note) → row < test → col < test → test < 24 → register state.registers row ≡ word.Int i → register state.registers col ≡ word.Int j → Holds scope vars tables notes state → Remains code state.block state.at (range_tests table row col test trap ++ more) end
+    -- where it has one. They leave the registers of the row and the column alone.
+    pub range_law : (state : State) (more : List Instr) (end : Term) (row col test : ℕ) (i j : ℤ) (notes : List Note) → Apart test row → Apart test col → test < 24 → register state.registers row ≡ word.Int i → register state.registers col ≡ word.Int j → Holds scope vars tables notes state → Remains code state.block state.at (range_tests table row col test trap ++ more) end
         → (has_cell meant i j ≡ false → Trapped test state trap t.place) → (has_cell meant i j ≡ true → Passed test state more end) → K.Holds state
-    range_law state more end row col test i j notes row_low col_low low row_in col_in holds stands trapped passed =
+    range_law state more end row col test i j notes row_apart col_apart low row_in col_in holds stands trapped passed =
         below_law state (row_test table row test trap ++ (col_test table col test trap ++ more)) end row col test trap t.place i j low holds.registers row_in col_in stands found
         (λ is_so. trapped (lesser_below i j meant.rows meant.cols is_so))
         (λ is_not words beat at keeps left.
         let positions : IsPosition i × IsPosition j = both_positions i j is_not in
-        row_law (moved state words beat at) (col_test table col test trap ++ more) end table row test trap t.place i (λ e. absurd (omega (arith, e))) low (keeps.size ∙ holds.registers) (keeps.below row row_low ∙ row_in) left found
+        row_law (moved state words beat at) (col_test table col test trap ++ more) end table row test trap t.place i (apart_other test row low row_apart) low (keeps.size ∙ holds.registers) (kept_apart test row state words beat row_apart keeps ∙ row_in) left found
         (λ is_so words2 beat2 keeps2 trap_next. trapped (row_out i j (not_below_size i meant.rows (ap (λ n. int_le (pos n) i) (sym (holds.rows t.text.items has)) ∙ is_so))) words2 beat2 (kept_twice test test state words words2 beat beat2 at (omega arith) keeps keeps2) trap_next)
         (λ row_no words2 beat2 at2 keeps2 left2.
         let both : Keeps test state words2 beat2 = kept_twice test test state words words2 beat beat2 at (omega arith) keeps keeps2 in
-        col_law (moved state words2 beat2 at2) more end table col test trap t.place j (λ e. absurd (omega (arith, e))) low (both.size ∙ holds.registers) (both.below col col_low ∙ col_in) left2 found
+        col_law (moved state words2 beat2 at2) more end table col test trap t.place j (apart_other test col low col_apart) low (both.size ∙ holds.registers) (kept_apart test col state words2 beat2 col_apart both ∙ col_in) left2 found
         (λ is_so words3 beat3 keeps3 trap_next. trapped (col_out i j (not_below_size j meant.cols (ap (λ n. int_le (pos n) j) (sym (holds.cols t.text.items has)) ∙ is_so))) words3 beat3 (kept_twice test test state words2 words3 beat2 beat3 at2 (omega arith) both keeps3) trap_next)
         (λ col_no words3 beat3 at3 keeps3 left3.
         passed (both_in i j (below_size i meant.rows positions.0 (ap (λ n. int_le (pos n) i) (sym (holds.rows t.text.items has)) ∙ row_no)) (below_size j meant.cols positions.1 (ap (λ n. int_le (pos n) j) (sym (holds.cols t.text.items has)) ∙ col_no)))
         words3 beat3 at3 (kept_twice test test state words2 words3 beat2 beat3 at2 (omega arith) both keeps3) left3)))
 
-    module _ (to : ℕ) (within : to ≤ 22) where
+    module _ (to row_at col_at : ℕ) (within : to ≤ 22) where
       -- a test that holds leads to the trap of the answer
       leads : (state : State) (more : List Instr) (end : Term) (test : ℕ) (i j : ℤ) → to ≤ test → has_cell meant i j ≡ false → After code heartbeat K to state more end (read_cell tables t i j).answer → Trapped test state trap t.place
       leads state more end test i j from is_not after words beat keeps at =
@@ -177,12 +178,12 @@ module _ (code : Listing) (heartbeat : ℕ) (K : Back code heartbeat) where
           trapped words beat trap (kept_wider to test state words beat from keeps) at
 
       -- the read of a cell in range, which is held
-      read : (state : State) (more : List Instr) (end : Term) (i j : ℤ) (before second : List Note) → has_cell meant i j ≡ true → register state.registers to ≡ word.Int i → register state.registers (to + 1) ≡ word.Int j → Holds scope vars tables (before ++ (second ++ (read_cell tables t i j).notes)) state → Remains code state.block state.at (instr.Fetch to table to (to + 1) ∷ more) end → After code heartbeat K to state more end (read_cell tables t i j).answer → K.Holds state
+      read : (state : State) (more : List Instr) (end : Term) (i j : ℤ) (before second : List Note) → has_cell meant i j ≡ true → register state.registers row_at ≡ word.Int i → register state.registers col_at ≡ word.Int j → Holds scope vars tables (before ++ (second ++ (read_cell tables t i j).notes)) state → Remains code state.block state.at (instr.Fetch to table row_at col_at ∷ more) end → After code heartbeat K to state more end (read_cell tables t i j).answer → K.Holds state
       read state more end i j before second is_so row col holds stands after =
           let noted : Holds scope vars tables (Reads t.text.items i j ∷ []) state = subst (λ (v : Value). Holds scope vars tables v.notes state) (in_range i j is_so) (holds_back scope vars tables state second (read_cell tables t i j).notes (holds_back scope vars tables state before (second ++ (read_cell tables t i j).notes) holds)) in
           let goes : After code heartbeat K to state more end (Number (cell_of meant i j)) = subst (λ (v : Value). After code heartbeat K to state more end v.answer) (in_range i j is_so) after in
           let cell : Word = word.Int (cell_of meant i j) in
-          on_fetch state to table to (to + 1) i j (cell_of meant i j) (next code state _ more end stands) row col noted.cells.0
+          on_fetch state to table row_at col_at i j (cell_of meant i j) (next code state _ more end stands) row col noted.cells.0
           (goes (slice_set state.registers to cell) (counted state.beat) (state.at + 1) (kept_set to to state cell (omega arith) (omega arith)) (register_set state.registers to cell (omega (arith, holds.registers))) (behind code state.block state.at _ more end stands))
 
       -- ---- the two forms
@@ -190,57 +191,60 @@ module _ (code : Listing) (heartbeat : ℕ) (K : Back code heartbeat) where
       module _ (row col : List Instr) (row_answer col_answer : Answer) (row_notes col_notes : List Note) where
         -- the tests in a register of their own, and the read
         abbrev apart : List Instr
-        apart = range_tests table to (to + 1) (to + 2) trap ++ instr.Fetch to table to (to + 1) ∷ []
+        apart = range_tests table row_at col_at (to + 2) trap ++ instr.Fetch to table row_at col_at ∷ []
 
         -- the row and the column once more, and the read
         abbrev anew : List Instr
-        anew = row ++ (col ++ instr.Fetch to table to (to + 1) ∷ [])
+        anew = row ++ (col ++ instr.Fetch to table row_at col_at ∷ [])
 
-        -- the tests in the registers of the row and the column, which are computed anew
+        -- the tests in the registers where the instructions of the row and the column leave them
         abbrev in_place : List Instr
-        in_place = below_test to (to + 1) (to + 1) trap ++ (row_test table to (to + 1) trap ++ (col ++ (col_test table (to + 1) to trap ++ anew)))
+        in_place = below_test row_at col_at (to + 1) trap ++ (row_test table row_at (to + 1) trap ++ (col ++ (col_test table col_at to trap ++ anew)))
 
         -- the answer of the read
         abbrev answered : Value
         answered = bind_answer row_answer row_notes (λ i. bind_answer col_answer col_notes (λ j. read_cell tables t i j))
 
         abbrev OnRow : Answer → Type 0
-        OnRow answer = Evaluates code heartbeat K scope vars tables row to answer row_notes
+        OnRow answer = EvaluatesAt code heartbeat K scope vars tables row_at row to answer row_notes
 
         abbrev OnCol : Answer → Type 0
-        OnCol answer = Evaluates code heartbeat K scope vars tables col (to + 1) answer col_notes
+        OnCol answer = EvaluatesAt code heartbeat K scope vars tables col_at col (to + 1) answer col_notes
 
-        tested_apart : (i j : ℤ) → to < 22 → EvaluatesOnBoth code heartbeat K scope vars tables i j apart to (read_cell tables t i j).answer (row_notes ++ (col_notes ++ (read_cell tables t i j).notes))
-        tested_apart i j low state more end row_in col_in stands holds after =
-            range_law state (instr.Fetch to table to (to + 1) ∷ more) end to (to + 1) (to + 2) i j _ (omega arith) (omega arith) (omega arith) row_in col_in holds stands
+        tested_apart : (i j : ℤ) → to < 22 → EvaluatesOnBoth code heartbeat K scope vars tables row_at col_at i j apart to (read_cell tables t i j).answer (row_notes ++ (col_notes ++ (read_cell tables t i j).notes))
+        tested_apart i j low state more end row_there col_there row_in col_in stands holds after =
+            let row_apart : Apart (to + 2) row_at = stands_apart to (to + 2) row_at (omega arith) row_there in
+            let col_apart : Apart (to + 2) col_at = stands_apart (to + 1) (to + 2) col_at (omega arith) col_there in
+            range_law state (instr.Fetch to table row_at col_at ∷ more) end row_at col_at (to + 2) i j _ row_apart col_apart (omega arith) row_in col_in holds stands
             (λ is_not. leads state more end (to + 2) i j (omega arith) is_not after)
             (λ is_so words beat at keeps left.
             let wider : Keeps to state words beat = kept_wider to (to + 2) state words beat (omega arith) keeps in
-            read (moved state words beat at) more end i j row_notes col_notes is_so (keeps.below to (omega arith) ∙ row_in) (keeps.below (to + 1) (omega arith) ∙ col_in) (holds_moved scope vars tables _ to state words beat at wider holds) left (after_moved code heartbeat K to state more end (read_cell tables t i j).answer words beat at wider after))
+            read (moved state words beat at) more end i j row_notes col_notes is_so (kept_apart (to + 2) row_at state words beat row_apart keeps ∙ row_in) (kept_apart (to + 2) col_at state words beat col_apart keeps ∙ col_in) (holds_moved scope vars tables _ to state words beat at wider holds) left (after_moved code heartbeat K to state more end (read_cell tables t i j).answer words beat at wider after))
 
         again : (i j : ℤ) → OnRow (Number i) → OnCol (Number j) → (state : State) (more : List Instr) (end : Term) → has_cell meant i j ≡ true → Holds scope vars tables (row_notes ++ (col_notes ++ (read_cell tables t i j).notes)) state → Remains code state.block state.at (anew ++ more) end → After code heartbeat K to state more end (read_cell tables t i j).answer → K.Holds state
         again i j on_i on_j state more end is_so holds stands after =
-            on_i state ((col ++ instr.Fetch to table to (to + 1) ∷ []) ++ more) end (split code state.block state.at row _ more end stands) (holds_front scope vars tables state row_notes _ holds) (λ words beat at keeps row_in left.
+            on_i state ((col ++ instr.Fetch to table row_at col_at ∷ []) ++ more) end (split code state.block state.at row _ more end stands) (holds_front scope vars tables state row_notes _ holds) (λ words beat at keeps row_there row_in left.
             let holds1 : Holds scope vars tables (row_notes ++ (col_notes ++ (read_cell tables t i j).notes)) (moved state words beat at) = holds_moved scope vars tables _ to state words beat at keeps holds in
-            on_j (moved state words beat at) (instr.Fetch to table to (to + 1) ∷ more) end (split code state.block at col _ more end left) (holds_front scope vars tables (moved state words beat at) col_notes _ (holds_back scope vars tables (moved state words beat at) row_notes _ holds1)) (λ words2 beat2 at2 keeps2 col_in left2.
+            on_j (moved state words beat at) (instr.Fetch to table row_at col_at ∷ more) end (split code state.block at col _ more end left) (holds_front scope vars tables (moved state words beat at) col_notes _ (holds_back scope vars tables (moved state words beat at) row_notes _ holds1)) (λ words2 beat2 at2 keeps2 col_there col_in left2.
             let both : Keeps to state words2 beat2 = kept_twice to (to + 1) state words words2 beat beat2 at (omega arith) keeps keeps2 in
-            read (moved state words2 beat2 at2) more end i j row_notes col_notes is_so (keeps2.below to (omega arith) ∙ row_in) col_in (holds_moved scope vars tables _ to state words2 beat2 at2 both holds) left2 (after_moved code heartbeat K to state more end (read_cell tables t i j).answer words2 beat2 at2 both after)))
+            read (moved state words2 beat2 at2) more end i j row_notes col_notes is_so (kept_apart (to + 1) row_at (moved state words beat at) words2 beat2 (stands_apart to (to + 1) row_at (omega arith) row_there) keeps2 ∙ row_in) col_in (holds_moved scope vars tables _ to state words2 beat2 at2 both holds) left2 (after_moved code heartbeat K to state more end (read_cell tables t i j).answer words2 beat2 at2 both after)))
 
-        tested_in_place : (i j : ℤ) → OnRow (Number i) → OnCol (Number j) → EvaluatesOnBoth code heartbeat K scope vars tables i j in_place to (read_cell tables t i j).answer (row_notes ++ (col_notes ++ (read_cell tables t i j).notes))
-        tested_in_place i j on_i on_j state more end row_in col_in stands holds after =
-            below_law state (row_test table to (to + 1) trap ++ ((col ++ (col_test table (to + 1) to trap ++ (row ++ (col ++ instr.Fetch to table to (to + 1) ∷ [])))) ++ more)) end to (to + 1) (to + 1) trap t.place i j (omega arith) holds.registers row_in col_in stands found
+        tested_in_place : (i j : ℤ) → OnRow (Number i) → OnCol (Number j) → EvaluatesOnBoth code heartbeat K scope vars tables row_at col_at i j in_place to (read_cell tables t i j).answer (row_notes ++ (col_notes ++ (read_cell tables t i j).notes))
+        tested_in_place i j on_i on_j state more end row_there col_there row_in col_in stands holds after =
+            let row_apart : Apart (to + 1) row_at = stands_apart to (to + 1) row_at (omega arith) row_there in
+            below_law state (row_test table row_at (to + 1) trap ++ ((col ++ (col_test table col_at to trap ++ (row ++ (col ++ instr.Fetch to table row_at col_at ∷ [])))) ++ more)) end row_at col_at (to + 1) trap t.place i j (omega arith) holds.registers row_in col_in stands found
             (λ is_so. leads state more end (to + 1) i j (omega arith) (lesser_below i j meant.rows meant.cols is_so) after)
             (λ is_not words beat at keeps left.
             let positions : IsPosition i × IsPosition j = both_positions i j is_not in
             let wider : Keeps to state words beat = kept_wider to (to + 1) state words beat (omega arith) keeps in
-            row_law (moved state words beat at) ((col ++ (col_test table (to + 1) to trap ++ (row ++ (col ++ instr.Fetch to table to (to + 1) ∷ [])))) ++ more) end table to (to + 1) trap t.place i (λ e. absurd (omega (arith, e))) (omega arith) (keeps.size ∙ holds.registers) (keeps.below to (omega arith) ∙ row_in) left found
+            row_law (moved state words beat at) ((col ++ (col_test table col_at to trap ++ (row ++ (col ++ instr.Fetch to table row_at col_at ∷ [])))) ++ more) end table row_at (to + 1) trap t.place i (apart_other (to + 1) row_at (omega arith) row_apart) (omega arith) (keeps.size ∙ holds.registers) (kept_apart (to + 1) row_at state words beat row_apart keeps ∙ row_in) left found
             (λ is_so. leads (moved state words beat at) more end (to + 1) i j (omega arith) (row_out i j (not_below_size i meant.rows (ap (λ n. int_le (pos n) i) (sym (holds.rows t.text.items has)) ∙ is_so))) (after_moved code heartbeat K to state more end (read_cell tables t i j).answer words beat at wider after))
             (λ row_no words2 beat2 at2 keeps2 left2.
             let both : Keeps to state words2 beat2 = kept_twice to (to + 1) state words words2 beat beat2 at (omega arith) wider keeps2 in
             let holds2 : Holds scope vars tables (row_notes ++ (col_notes ++ (read_cell tables t i j).notes)) (moved state words2 beat2 at2) = holds_moved scope vars tables _ to state words2 beat2 at2 both holds in
-            on_j (moved state words2 beat2 at2) ((col_test table (to + 1) to trap ++ (row ++ (col ++ instr.Fetch to table to (to + 1) ∷ []))) ++ more) end (split code state.block at2 col _ more end left2) (holds_front scope vars tables (moved state words2 beat2 at2) col_notes _ (holds_back scope vars tables (moved state words2 beat2 at2) row_notes _ holds2)) (λ words3 beat3 at3 keeps3 col_now left3.
+            on_j (moved state words2 beat2 at2) ((col_test table col_at to trap ++ (row ++ (col ++ instr.Fetch to table row_at col_at ∷ []))) ++ more) end (split code state.block at2 col _ more end left2) (holds_front scope vars tables (moved state words2 beat2 at2) col_notes _ (holds_back scope vars tables (moved state words2 beat2 at2) row_notes _ holds2)) (λ words3 beat3 at3 keeps3 col_still col_now left3.
             let three : Keeps to state words3 beat3 = kept_twice to (to + 1) state words2 words3 beat2 beat3 at2 (omega arith) both keeps3 in
-            col_law (moved state words3 beat3 at3) ((row ++ (col ++ instr.Fetch to table to (to + 1) ∷ [])) ++ more) end table (to + 1) to trap t.place j (λ e. absurd (omega (arith, e))) (omega arith) (three.size ∙ holds.registers) col_now left3 found
+            col_law (moved state words3 beat3 at3) ((row ++ (col ++ instr.Fetch to table row_at col_at ∷ [])) ++ more) end table col_at to trap t.place j (stands_other (to + 1) to col_at (λ e. absurd (omega (arith, e))) (omega arith) col_there) (omega arith) (three.size ∙ holds.registers) col_now left3 found
             (λ is_so. leads (moved state words3 beat3 at3) more end to i j (omega arith) (col_out i j (not_below_size j meant.cols (ap (λ n. int_le (pos n) j) (sym (holds.cols t.text.items has)) ∙ is_so))) (after_moved code heartbeat K to state more end (read_cell tables t i j).answer words3 beat3 at3 three after))
             (λ col_no words4 beat4 at4 keeps4 left4.
             let four : Keeps to state words4 beat4 = kept_twice to to state words3 words4 beat3 beat4 at3 (omega arith) three keeps4 in
@@ -250,13 +254,13 @@ module _ (code : Listing) (heartbeat : ℕ) (K : Back code heartbeat) where
         -- behind the row and the column either form reads the cell
         by_form : (form : Bool) → nat_lt to 22 ≡ form → OnRow row_answer → OnCol col_answer → Evaluates code heartbeat K scope vars tables (cond form (row ++ (col ++ apart)) (row ++ (col ++ in_place))) to answered.answer answered.notes
         by_form true low on_row on_col =
-            with_operand code heartbeat K scope vars tables row (col ++ apart) to row_answer row_notes (λ i. bind_answer col_answer col_notes (λ j. read_cell tables t i j)) on_row (λ i row_is.
-            with_second code heartbeat K scope vars tables col apart to i col_answer col_notes row_notes (λ j. read_cell tables t i j) on_col (λ j col_is. tested_apart i j (ltb-true to 22 low)))
+            with_operand code heartbeat K scope vars tables row (col ++ apart) row_at to row_answer row_notes (λ i. bind_answer col_answer col_notes (λ j. read_cell tables t i j)) on_row (λ i row_is.
+            with_second code heartbeat K scope vars tables col apart row_at col_at to i col_answer col_notes row_notes (λ j. read_cell tables t i j) on_col (λ j col_is. tested_apart i j (ltb-true to 22 low)))
         by_form false low on_row on_col =
-            with_operand code heartbeat K scope vars tables row (col ++ in_place) to row_answer row_notes (λ i. bind_answer col_answer col_notes (λ j. read_cell tables t i j)) on_row (λ i row_is.
-            with_second code heartbeat K scope vars tables col in_place to i col_answer col_notes row_notes (λ j. read_cell tables t i j) on_col (λ j col_is.
+            with_operand code heartbeat K scope vars tables row (col ++ in_place) row_at to row_answer row_notes (λ i. bind_answer col_answer col_notes (λ j. read_cell tables t i j)) on_row (λ i row_is.
+            with_second code heartbeat K scope vars tables col in_place row_at col_at to i col_answer col_notes row_notes (λ j. read_cell tables t i j) on_col (λ j col_is.
             tested_in_place i j (subst OnRow row_is on_row) (subst OnCol col_is on_col)))
 
         -- the read of a cell evaluates it
-        pub cell_law : OnRow row_answer → OnCol col_answer → Evaluates code heartbeat K scope vars tables (cell_read table to row col trap) to answered.answer answered.notes
+        pub cell_law : OnRow row_answer → OnCol col_answer → Evaluates code heartbeat K scope vars tables (cell_read table to row_at col_at row col trap) to answered.answer answered.notes
         cell_law on_row on_col = by_form (nat_lt to 22) refl on_row on_col

@@ -1,7 +1,7 @@
 -- Instructions that leave the number of an answer in a register, or trap where it is a trap: what they are
 -- over any predicate that goes backwards, and how those of two operands are put together.
 use Rattle.std.proofs.Common.{◌≡◌, ℕ, ◌+◌, Bool, true, false, List, [], ◌∷◌, ◌++◌, Option, Some}
-use Rattle.std.proofs.Common.{None, Ok, refl, ap, ◌∙◌, arith}
+use Rattle.std.proofs.Common.{None, Ok, inl, refl, ap, ◌∙◌, arith}
 use Rattle.std.specs.Prelude.{ℤ, pos, slice_set}
 use Rattle.std.specs.List.{AllByRecursion}
 use Rattle.beat_count.specs.BeatState.{BeatState}
@@ -34,7 +34,7 @@ use Rattle.expr_lower.specs.Holding.{Holds, HasNumber, IsHeld}
 use Rattle.expr_lower.specs.Leaving.{Keeps, moved, moved_to}
 use Rattle.expr_lower.specs.Scopes.{offset_of, register_of}
 use Rattle.expr_lower.specs.Standing.{Remains}
-use Rattle.expr_lower.proofs.Keeping.{kept_twice, kept_wider}
+use Rattle.expr_lower.proofs.Keeping.{kept_twice, kept_wider, kept_apart, Stands, stands_apart}
 use Rattle.expr_lower.proofs.Standing.{next, behind, split}
 
 -- ---- what a task holds
@@ -98,6 +98,26 @@ module _ (code : Listing) (heartbeat : ℕ) (K : Back code heartbeat) where
   After to state more end (Number n) = (words : List Word) (beat : BeatState) (at : ℕ) → Keeps to state words beat → register words to ≡ word.Int n → Remains code state.block at more end → K.Holds (moved state words beat at)
   After to state more end (Traps kind place) = (words : List Word) (beat : BeatState) (label : ℕ) → Keeps to state words beat → IsNext code (moved_to state words beat label 0) (instr.Trap kind place) → K.Holds (moved_to state words beat label 0)
 
+  -- the same of an operand, whose number stands in register `place`
+  abbrev pub AfterAt : ℕ → ℕ → State → List Instr → Term → Answer → Type 0
+  AfterAt place to state more end (Number n) =
+      (words : List Word) (beat : BeatState) (at : ℕ)
+      → Keeps to state words beat
+      → Stands to place
+      → register words place ≡ word.Int n
+      → Remains code state.block at more end
+      → K.Holds (moved state words beat at)
+  AfterAt place to state more end (Traps kind spot) =
+      After to state more end (Traps kind spot)
+
+  -- where the register is `to` itself
+  pub after_own : (to : ℕ) (state : State) (more : List Instr) (end : Term) (answer : Answer)
+      → AfterAt to to state more end answer
+      → After to state more end answer
+  after_own to state more end (Number n) after =
+      λ words beat at keeps value left. after words beat at keeps (inl refl) value left
+  after_own to state more end (Traps kind place) after = after
+
   -- what stands behind is the same after some instructions
   pub after_moved : (to : ℕ) (state : State) (more : List Instr) (end : Term) (answer : Answer) (words : List Word) (beat : BeatState) (at : ℕ) → Keeps to state words beat → After to state more end answer → After to (moved state words beat at) more end answer
   after_moved to state more end (Number n) words beat at keeps after =
@@ -129,30 +149,61 @@ module _ (code : Listing) (heartbeat : ℕ) (K : Back code heartbeat) where
     abbrev pub Evaluates : List Instr → ℕ → Answer → List Note → Type 0
     Evaluates body to answer notes = (state : State) (more : List Instr) (end : Term) → Remains code state.block state.at (body ++ more) end → Holds scope vars tables notes state → After to state more end answer → K.Holds state
 
-    -- so do these, where a number is in register `to`
-    abbrev pub EvaluatesOn : ℤ → List Instr → ℕ → Answer → List Note → Type 0
-    EvaluatesOn m body to answer notes = (state : State) (more : List Instr) (end : Term) → register state.registers to ≡ word.Int m → Remains code state.block state.at (body ++ more) end → Holds scope vars tables notes state → After to state more end answer → K.Holds state
+    -- these come to that of an operand, which then stands in register `place`
+    abbrev pub EvaluatesAt : ℕ → List Instr → ℕ → Answer → List Note → Type 0
+    EvaluatesAt place body to answer notes =
+        (state : State) (more : List Instr) (end : Term)
+        → Remains code state.block state.at (body ++ more) end
+        → Holds scope vars tables notes state
+        → AfterAt place to state more end answer
+        → K.Holds state
 
-    -- and these, where two numbers are in register `to` and the one above
-    abbrev pub EvaluatesOnBoth : ℤ → ℤ → List Instr → ℕ → Answer → List Note → Type 0
-    EvaluatesOnBoth m n body to answer notes =
-        (state : State) (more : List Instr) (end : Term) → register state.registers to ≡ word.Int m → register state.registers (to + 1) ≡ word.Int n → Remains code state.block state.at (body ++ more) end → Holds scope vars tables notes state → After to state more end answer → K.Holds state
+    -- so do these, where a number is in the register of an operand
+    abbrev pub EvaluatesOn : ℕ → ℤ → List Instr → ℕ → Answer → List Note → Type 0
+    EvaluatesOn place m body to answer notes =
+        (state : State) (more : List Instr) (end : Term)
+        → Stands to place
+        → register state.registers place ≡ word.Int m
+        → Remains code state.block state.at (body ++ more) end
+        → Holds scope vars tables notes state
+        → After to state more end answer
+        → K.Holds state
+
+    -- and these, where two numbers are in those of two operands
+    abbrev pub EvaluatesOnBoth : ℕ → ℕ → ℤ → ℤ → List Instr → ℕ → Answer → List Note → Type 0
+    EvaluatesOnBoth left right m n body to answer notes =
+        (state : State) (more : List Instr) (end : Term)
+        → Stands to left
+        → Stands (to + 1) right
+        → register state.registers left ≡ word.Int m
+        → register state.registers right ≡ word.Int n
+        → Remains code state.block state.at (body ++ more) end
+        → Holds scope vars tables notes state
+        → After to state more end answer
+        → K.Holds state
+
+    -- what leaves a number in `to` is an operand that stands there
+    pub evaluates_own : (body : List Instr) (to : ℕ) (answer : Answer) (notes : List Note)
+        → Evaluates body to answer notes → EvaluatesAt to body to answer notes
+    evaluates_own body to answer notes evaluates state more end stands holds after =
+        evaluates state more end stands holds (after_own to state more end answer after)
 
     -- an operand, and what is done with its number
-    pub with_operand : (first rest : List Instr) (to : ℕ) (answer : Answer) (notes : List Note) (f : ℤ → Value) → Evaluates first to answer notes → ((m : ℤ) → answer ≡ Number m → EvaluatesOn m rest to (f m).answer (notes ++ (f m).notes))
+    pub with_operand : (first rest : List Instr) (place to : ℕ) (answer : Answer) (notes : List Note) (f : ℤ → Value) → EvaluatesAt place first to answer notes → ((m : ℤ) → answer ≡ Number m → EvaluatesOn place m rest to (f m).answer (notes ++ (f m).notes))
         → Evaluates (first ++ rest) to (bind_answer answer notes f).answer (bind_answer answer notes f).notes
-    with_operand first rest to (Number m) notes f evaluates go state more end stands holds after =
-        evaluates state (rest ++ more) end (split code state.block state.at first rest more end stands) (holds_front scope vars tables state notes (f m).notes holds) (λ words beat at keeps value left.
-        go m refl (moved state words beat at) more end value left (holds_moved scope vars tables _ to state words beat at keeps holds) (after_moved to state more end (f m).answer words beat at keeps after))
-    with_operand first rest to (Traps kind place) notes f evaluates go state more end stands holds after =
+    with_operand first rest place to (Number m) notes f evaluates go state more end stands holds after =
+        evaluates state (rest ++ more) end (split code state.block state.at first rest more end stands) (holds_front scope vars tables state notes (f m).notes holds) (λ words beat at keeps there value left.
+        go m refl (moved state words beat at) more end there value left (holds_moved scope vars tables _ to state words beat at keeps holds) (after_moved to state more end (f m).answer words beat at keeps after))
+    with_operand first rest place to (Traps kind spot) notes f evaluates go state more end stands holds after =
         evaluates state (rest ++ more) end (split code state.block state.at first rest more end stands) holds after
 
-    -- the second operand in the register above, and what is done with both numbers
-    pub with_second : (first rest : List Instr) (to : ℕ) (m : ℤ) (answer : Answer) (notes before : List Note) (f : ℤ → Value) → Evaluates first (to + 1) answer notes → ((n : ℤ) → answer ≡ Number n → EvaluatesOnBoth m n rest to (f n).answer (before ++ (notes ++ (f n).notes)))
-        → EvaluatesOn m (first ++ rest) to (bind_answer answer notes f).answer (before ++ (bind_answer answer notes f).notes)
-    with_second first rest to m (Number n) notes before f evaluates go state more end left_is stands holds after =
-        evaluates state (rest ++ more) end (split code state.block state.at first rest more end stands) (holds_front scope vars tables state notes (f n).notes (holds_back scope vars tables state before (notes ++ (f n).notes) holds)) (λ words beat at keeps value left.
+    -- the second operand, wanted in the register above, and what is done with both numbers
+    pub with_second : (first rest : List Instr) (left right to : ℕ) (m : ℤ) (answer : Answer) (notes before : List Note) (f : ℤ → Value) → EvaluatesAt right first (to + 1) answer notes → ((n : ℤ) → answer ≡ Number n → EvaluatesOnBoth left right m n rest to (f n).answer (before ++ (notes ++ (f n).notes)))
+        → EvaluatesOn left m (first ++ rest) to (bind_answer answer notes f).answer (before ++ (bind_answer answer notes f).notes)
+    with_second first rest left right to m (Number n) notes before f evaluates go state more end left_there left_is stands holds after =
+        evaluates state (rest ++ more) end (split code state.block state.at first rest more end stands) (holds_front scope vars tables state notes (f n).notes (holds_back scope vars tables state before (notes ++ (f n).notes) holds)) (λ words beat at keeps right_there value remains.
         let wider : Keeps to state words beat = kept_wider to (to + 1) state words beat (omega arith) keeps in
-        go n refl (moved state words beat at) more end (keeps.below to (omega arith) ∙ left_is) value left (holds_moved scope vars tables _ to state words beat at wider holds) (after_moved to state more end (f n).answer words beat at wider after))
-    with_second first rest to m (Traps kind place) notes before f evaluates go state more end left_is stands holds after =
+        let kept : register words left ≡ register state.registers left = kept_apart (to + 1) left state words beat (stands_apart to (to + 1) left (omega arith) left_there) keeps in
+        go n refl (moved state words beat at) more end left_there right_there (kept ∙ left_is) value remains (holds_moved scope vars tables _ to state words beat at wider holds) (after_moved to state more end (f n).answer words beat at wider after))
+    with_second first rest left right to m (Traps kind spot) notes before f evaluates go state more end left_there left_is stands holds after =
         evaluates state (rest ++ more) end (split code state.block state.at first rest more end stands) (holds_back scope vars tables state before notes holds) (λ words beat label keeps trap. after words beat label (kept_wider to (to + 1) state words beat (omega arith) keeps) trap)

@@ -23,8 +23,8 @@ use Rattle.tpal_syntax.specs.declared.instructions.Value.TheVariants as value
 use Rattle.expr_lower.specs.declared.scope.Scope.{Scope}
 use Rattle.expr_lower.specs.Bodies.{literal, can_trap, may_be_zero, trap_count, calculation, turned}
 use Rattle.expr_lower.specs.Bodies.{division, operation, below_test, row_test, col_test}
-use Rattle.expr_lower.specs.Bodies.{variable_read, body_of}
-use Rattle.expr_lower.specs.Scopes.{IsIn, cell_in, register_in, number_in, has_table_in}
+use Rattle.expr_lower.specs.Bodies.{operand_at, operand_body, variable_read, body_of}
+use Rattle.expr_lower.specs.Scopes.{IsIn, home_of, cell_in, register_in, number_in, has_table_in}
 use Rattle.expr_lower.proofs.Law.{Fits, fits}
 
 -- ---- tests
@@ -61,6 +61,20 @@ register_low (r ∷ rs) x (is, are) = by_name (bytes_eq r.0.items x) (register_l
         → IsRegister (cond same (Some r.1) (register_in rs x))
     by_name true low = is
     by_name false low = low
+
+-- the register of an operand
+home_low : (scope : Scope) (e : Expr) → AreRegisters scope.regs.items → IsRegister (home_of scope e)
+home_low scope (Int n place) are = tt
+home_low scope (Var x) are = register_low scope.regs.items x.text.items are
+home_low scope (Cell' t p a q b) are = tt
+home_low scope (Rows t) are = tt
+home_low scope (Cols t) are = tt
+home_low scope (Neg' p a place) are = tt
+home_low scope (Bin' o place p a q b) are = tt
+
+operand_low : (home : Option ℕ) (to : ℕ) → to < 32 → IsRegister home → operand_at home to < 32
+operand_low None to low is = low
+operand_low (Some r) to low is = is
 
 number_low : (tables : List (Vec ℕ Global)) (t : List ℕ) → has_table_in tables t ≡ true → number_in tables t < length tables
 number_low [] t has = cc
@@ -112,49 +126,62 @@ module _ (tables blocks : ℕ) where
   fetch_fits : (to table row col : ℕ) → to < 32 → table < tables → row < 32 → col < 32 → is_instr tables blocks (instr.Fetch to table row col) ≡ true
   fetch_fits to table row col first second third fourth = both _ _ (both _ _ (size_fits to table first second) (low row third)) (low col fourth)
 
+  operand_fits : (home : Option ℕ) (body : List Instr) → AreFitting body
+      → AreFitting (operand_body home body)
+  operand_fits None body are = are
+  operand_fits (Some r) body are = refl
+
   -- ---- operators
 
-  calculation_fits : (o : Alu) (to : ℕ) (right : List Instr) (number : Option ℤ) → to ≤ 22 → IsFitting number → AreFitting right → AreFitting (calculation o to right number)
-  calculation_fits o to right None within fit are = joined right _ are (both _ _ (calc_fits to to o (value.Reg (to + 1)) (omega arith) (omega arith) (low (to + 1) (omega arith))) refl)
-  calculation_fits o to right (Some n) within fit are = both _ _ (calc_fits to to o (value.Int n) (omega arith) (omega arith) fit) refl
+  -- the registers of an operator, or of the read of a cell
+  record ArePlaces (to left right : ℕ) : Type 0 where
+    own : to ≤ 22
+    first : left < 32
+    second : right < 32
 
-  turned_fits : (o : Alu) (to : ℕ) (right : List Instr) → to ≤ 22 → AreFitting right → AreFitting (turned o to right)
-  turned_fits o to right within are = joined right _ are (both _ _ (calc_fits to (to + 1) o (value.Reg to) (omega arith) (omega arith) (low to (omega arith))) refl)
+  calculation_fits : (o : Alu) (to left right : ℕ) (body : List Instr) (number : Option ℤ) → ArePlaces to left right → IsFitting number → AreFitting body → AreFitting (calculation o to left right body number)
+  calculation_fits o to left right body None at fit are = joined body _ are (both _ _ (calc_fits to left o (value.Reg right) (omega (arith, at.own)) at.first (low right at.second)) refl)
+  calculation_fits o to left right body (Some n) at fit are = both _ _ (calc_fits to left o (value.Int n) (omega (arith, at.own)) at.first fit) refl
 
-  zero_test_fits : (test to trap : ℕ) (more : List Instr) → test < 32 → to ≤ 22 → trap < blocks → AreFitting more → AreFitting (instr.Calc test (to + 1) alu.Eq (value.Int (pos 0)) ∷ instr.IfJump test trap ∷ more)
-  zero_test_fits test to trap more first within second are =
-      both _ _ (calc_fits test (to + 1) alu.Eq (value.Int (pos 0)) first (omega arith) refl) (both _ _ (jump_fits test trap first second) are)
+  turned_fits : (o : Alu) (to left right : ℕ) (body : List Instr) → ArePlaces to left right → AreFitting body → AreFitting (turned o to left right body)
+  turned_fits o to left right body at are = joined body _ are (both _ _ (calc_fits to right o (value.Reg left) (omega (arith, at.own)) at.second (low left at.first)) refl)
 
-  tested_fits : (o : Alu) (to trap : ℕ) (right : List Instr) → to ≤ 22 → trap < blocks → AreFitting right → (form : Bool) → AreFitting (cond form
-      (right ++ instr.Calc (to + 2) (to + 1) alu.Eq (value.Int (pos 0)) ∷ instr.IfJump (to + 2) trap ∷ instr.Calc to to o (value.Reg (to + 1)) ∷ [])
-      (right ++ (instr.Calc (to + 1) (to + 1) alu.Eq (value.Int (pos 0)) ∷ instr.IfJump (to + 1) trap ∷ right ++ instr.Calc to to o (value.Reg (to + 1)) ∷ [])))
-  tested_fits o to trap right within known are true =
-      let last : List Instr = instr.Calc to to o (value.Reg (to + 1)) ∷ [] in
-      let last_fits : AreFitting last = both _ _ (calc_fits to to o (value.Reg (to + 1)) (omega arith) (omega arith) (low (to + 1) (omega arith))) refl in
-      joined right (instr.Calc (to + 2) (to + 1) alu.Eq (value.Int (pos 0)) ∷ instr.IfJump (to + 2) trap ∷ last) are (zero_test_fits (to + 2) to trap last (omega arith) within known last_fits)
-  tested_fits o to trap right within known are false =
-      let last : List Instr = instr.Calc to to o (value.Reg (to + 1)) ∷ [] in
-      let last_fits : AreFitting last = both _ _ (calc_fits to to o (value.Reg (to + 1)) (omega arith) (omega arith) (low (to + 1) (omega arith))) refl in
-      joined right (instr.Calc (to + 1) (to + 1) alu.Eq (value.Int (pos 0)) ∷ instr.IfJump (to + 1) trap ∷ right ++ last) are (zero_test_fits (to + 1) to trap (right ++ last) (omega arith) within known (joined right last are last_fits))
+  zero_test_fits : (test right trap : ℕ) (more : List Instr) → test < 32 → right < 32 → trap < blocks → AreFitting more → AreFitting (instr.Calc test right alu.Eq (value.Int (pos 0)) ∷ instr.IfJump test trap ∷ more)
+  zero_test_fits test right trap more first within second are =
+      both _ _ (calc_fits test right alu.Eq (value.Int (pos 0)) first within refl) (both _ _ (jump_fits test trap first second) are)
 
-  division_fits : (o : Alu) (to trap : ℕ) (right : List Instr) (number : Option ℤ) → to ≤ 22 → trap + cond (may_be_zero number) 1 0 ≤ blocks → IsFitting number → AreFitting right → AreFitting (division o to right number trap)
-  division_fits o to trap right None within known fit are = tested_fits o to trap right within (omega arith) are (nat_lt to 22)
-  division_fits o to trap right (Some (pos zero)) within known fit are = both _ _ (both _ _ (low to (omega arith)) refl) (both _ _ (jump_fits to trap (omega arith) (omega arith)) refl)
-  division_fits o to trap right (Some (pos (suc n))) within known fit are = both _ _ (calc_fits to to o (value.Int (pos (suc n))) (omega arith) (omega arith) fit) refl
-  division_fits o to trap right (Some (negsuc n)) within known fit are = both _ _ (calc_fits to to o (value.Int (negsuc n)) (omega arith) (omega arith) fit) refl
+  tested_fits : (o : Alu) (to left right trap : ℕ) (body : List Instr) → ArePlaces to left right → trap < blocks → AreFitting body → (form : Bool) → AreFitting (cond form
+      (body ++ instr.Calc (to + 2) right alu.Eq (value.Int (pos 0)) ∷ instr.IfJump (to + 2) trap ∷ instr.Calc to left o (value.Reg right) ∷ [])
+      (body ++ (instr.Calc (to + 1) right alu.Eq (value.Int (pos 0)) ∷ instr.IfJump (to + 1) trap ∷ body ++ instr.Calc to left o (value.Reg right) ∷ [])))
+  tested_fits o to left right trap body at known are form =
+      let last : List Instr = instr.Calc to left o (value.Reg right) ∷ [] in
+      let last_fits : AreFitting last = both _ _ (calc_fits to left o (value.Reg right) (omega (arith, at.own)) at.first (low right at.second)) refl in
+      by_form last last_fits form
+    where
+      by_form : (last : List Instr) → AreFitting last → (form : Bool) → AreFitting (cond form
+          (body ++ instr.Calc (to + 2) right alu.Eq (value.Int (pos 0)) ∷ instr.IfJump (to + 2) trap ∷ last)
+          (body ++ (instr.Calc (to + 1) right alu.Eq (value.Int (pos 0)) ∷ instr.IfJump (to + 1) trap ∷ body ++ last)))
+      by_form last last_fits true = joined body _ are (zero_test_fits (to + 2) right trap last (omega (arith, at.own)) at.second known last_fits)
+      by_form last last_fits false = joined body _ are (zero_test_fits (to + 1) right trap (body ++ last) (omega (arith, at.own)) at.second known (joined body last are last_fits))
 
-  operation_fits : (o : BinOp) (to trap : ℕ) (right : List Instr) (number : Option ℤ) → to ≤ 22 → trap + cond (can_trap o number) 1 0 ≤ blocks → IsFitting number → AreFitting right → AreFitting (operation o to right number trap)
-  operation_fits op.Add to trap right number within known fit are = calculation_fits alu.Add to right number within fit are
-  operation_fits op.Sub to trap right number within known fit are = calculation_fits alu.Sub to right number within fit are
-  operation_fits op.Mul to trap right number within known fit are = calculation_fits alu.Mul to right number within fit are
-  operation_fits op.Div to trap right number within known fit are = division_fits alu.Div to trap right number within known fit are
-  operation_fits op.Rem to trap right number within known fit are = division_fits alu.Rem to trap right number within known fit are
-  operation_fits op.Eq to trap right number within known fit are = calculation_fits alu.Eq to right number within fit are
-  operation_fits op.Ne to trap right number within known fit are = calculation_fits alu.Ne to right number within fit are
-  operation_fits op.Lt to trap right number within known fit are = calculation_fits alu.Lt to right number within fit are
-  operation_fits op.Le to trap right number within known fit are = calculation_fits alu.Le to right number within fit are
-  operation_fits op.Gt to trap right number within known fit are = turned_fits alu.Lt to right within are
-  operation_fits op.Ge to trap right number within known fit are = turned_fits alu.Le to right within are
+  division_fits : (o : Alu) (to left right trap : ℕ) (body : List Instr) (number : Option ℤ) → ArePlaces to left right → trap + cond (may_be_zero number) 1 0 ≤ blocks → IsFitting number → AreFitting body → AreFitting (division o to left right body number trap)
+  division_fits o to left right trap body None at known fit are = tested_fits o to left right trap body at (omega arith) are (nat_lt to 22)
+  division_fits o to left right trap body (Some (pos zero)) at known fit are = both _ _ (both _ _ (low to (omega (arith, at.own))) refl) (both _ _ (jump_fits to trap (omega (arith, at.own)) (omega arith)) refl)
+  division_fits o to left right trap body (Some (pos (suc n))) at known fit are = both _ _ (calc_fits to left o (value.Int (pos (suc n))) (omega (arith, at.own)) at.first fit) refl
+  division_fits o to left right trap body (Some (negsuc n)) at known fit are = both _ _ (calc_fits to left o (value.Int (negsuc n)) (omega (arith, at.own)) at.first fit) refl
+
+  operation_fits : (o : BinOp) (to left right trap : ℕ) (body : List Instr) (number : Option ℤ) → ArePlaces to left right → trap + cond (can_trap o number) 1 0 ≤ blocks → IsFitting number → AreFitting body → AreFitting (operation o to left right body number trap)
+  operation_fits op.Add to left right trap body number at known fit are = calculation_fits alu.Add to left right body number at fit are
+  operation_fits op.Sub to left right trap body number at known fit are = calculation_fits alu.Sub to left right body number at fit are
+  operation_fits op.Mul to left right trap body number at known fit are = calculation_fits alu.Mul to left right body number at fit are
+  operation_fits op.Div to left right trap body number at known fit are = division_fits alu.Div to left right trap body number at known fit are
+  operation_fits op.Rem to left right trap body number at known fit are = division_fits alu.Rem to left right trap body number at known fit are
+  operation_fits op.Eq to left right trap body number at known fit are = calculation_fits alu.Eq to left right body number at fit are
+  operation_fits op.Ne to left right trap body number at known fit are = calculation_fits alu.Ne to left right body number at fit are
+  operation_fits op.Lt to left right trap body number at known fit are = calculation_fits alu.Lt to left right body number at fit are
+  operation_fits op.Le to left right trap body number at known fit are = calculation_fits alu.Le to left right body number at fit are
+  operation_fits op.Gt to left right trap body number at known fit are = turned_fits alu.Lt to left right body at are
+  operation_fits op.Ge to left right trap body number at known fit are = turned_fits alu.Le to left right body at are
 
   -- ---- cells
 
@@ -170,28 +197,30 @@ module _ (tables blocks : ℕ) where
   col_fits table col test trap first second third known =
       both _ _ (size_fits test table third first) (both _ _ (calc_fits test test alu.Le (value.Reg col) third third (low col second)) (both _ _ (jump_fits test trap third known) refl))
 
-  cell_fits : (table to trap : ℕ) (row col : List Instr) → table < tables → to ≤ 22 → trap < blocks → AreFitting row → AreFitting col → (form : Bool) → AreFitting (cond form
-      (row ++ (col ++ (below_test to (to + 1) (to + 2) trap ++ (row_test table to (to + 2) trap ++ (col_test table (to + 1) (to + 2) trap ++ instr.Fetch to table to (to + 1) ∷ [])))))
-      (row ++ (col ++ (below_test to (to + 1) (to + 1) trap ++ (row_test table to (to + 1) trap ++ (col ++ (col_test table (to + 1) to trap ++ (row ++ (col ++ instr.Fetch to table to (to + 1) ∷ [])))))))))
-  cell_fits table to trap row col named within known on_row on_col true =
-      let fetch : List Instr = instr.Fetch to table to (to + 1) ∷ [] in
-      let fetched : AreFitting fetch = both _ _ (fetch_fits to table to (to + 1) (omega arith) named (omega arith) (omega arith)) refl in
-      let cols : List Instr = col_test table (to + 1) (to + 2) trap ++ fetch in
-      let rows : List Instr = row_test table to (to + 2) trap ++ cols in
-      let tests : List Instr = below_test to (to + 1) (to + 2) trap ++ rows in
-      joined row (col ++ tests) on_row (joined col tests on_col (joined (below_test to (to + 1) (to + 2) trap) rows (below_fits to (to + 1) (to + 2) trap (omega arith) (omega arith) (omega arith) known)
-      (joined (row_test table to (to + 2) trap) cols (row_fits table to (to + 2) trap named (omega arith) (omega arith) known)
-      (joined (col_test table (to + 1) (to + 2) trap) fetch (col_fits table (to + 1) (to + 2) trap named (omega arith) (omega arith) known) fetched))))
-  cell_fits table to trap row col named within known on_row on_col false =
-      let fetch : List Instr = instr.Fetch to table to (to + 1) ∷ [] in
-      let fetched : AreFitting fetch = both _ _ (fetch_fits to table to (to + 1) (omega arith) named (omega arith) (omega arith)) refl in
+  cell_fits : (table to row_at col_at trap : ℕ) (row col : List Instr) → table < tables → ArePlaces to row_at col_at → trap < blocks → AreFitting row → AreFitting col → (form : Bool) → AreFitting (cond form
+      (row ++ (col ++ (below_test row_at col_at (to + 2) trap ++ (row_test table row_at (to + 2) trap ++ (col_test table col_at (to + 2) trap ++ instr.Fetch to table row_at col_at ∷ [])))))
+      (row ++ (col ++ (below_test row_at col_at (to + 1) trap ++ (row_test table row_at (to + 1) trap ++ (col ++ (col_test table col_at to trap ++ (row ++ (col ++ instr.Fetch to table row_at col_at ∷ [])))))))))
+  cell_fits table to row_at col_at trap row col named at known on_row on_col true =
+      let fetch : List Instr = instr.Fetch to table row_at col_at ∷ [] in
+      let fetched : AreFitting fetch = both _ _ (fetch_fits to table row_at col_at (omega (arith, at.own)) named at.first at.second) refl in
+      let test : to + 2 < 32 = omega (arith, at.own) in
+      let cols : List Instr = col_test table col_at (to + 2) trap ++ fetch in
+      let rows : List Instr = row_test table row_at (to + 2) trap ++ cols in
+      let tests : List Instr = below_test row_at col_at (to + 2) trap ++ rows in
+      joined row (col ++ tests) on_row (joined col tests on_col (joined (below_test row_at col_at (to + 2) trap) rows (below_fits row_at col_at (to + 2) trap at.first at.second test known)
+      (joined (row_test table row_at (to + 2) trap) cols (row_fits table row_at (to + 2) trap named at.first test known)
+      (joined (col_test table col_at (to + 2) trap) fetch (col_fits table col_at (to + 2) trap named at.second test known) fetched))))
+  cell_fits table to row_at col_at trap row col named at known on_row on_col false =
+      let fetch : List Instr = instr.Fetch to table row_at col_at ∷ [] in
+      let fetched : AreFitting fetch = both _ _ (fetch_fits to table row_at col_at (omega (arith, at.own)) named at.first at.second) refl in
+      let test : to + 1 < 32 = omega (arith, at.own) in
       let anew : List Instr = row ++ (col ++ fetch) in
-      let cols : List Instr = col_test table (to + 1) to trap ++ anew in
-      let rows : List Instr = row_test table to (to + 1) trap ++ (col ++ cols) in
-      let tests : List Instr = below_test to (to + 1) (to + 1) trap ++ rows in
-      joined row (col ++ tests) on_row (joined col tests on_col (joined (below_test to (to + 1) (to + 1) trap) rows (below_fits to (to + 1) (to + 1) trap (omega arith) (omega arith) (omega arith) known)
-      (joined (row_test table to (to + 1) trap) (col ++ cols) (row_fits table to (to + 1) trap named (omega arith) (omega arith) known)
-      (joined col cols on_col (joined (col_test table (to + 1) to trap) anew (col_fits table (to + 1) to trap named (omega arith) (omega arith) known) (joined row (col ++ fetch) on_row (joined col fetch on_col fetched)))))))
+      let cols : List Instr = col_test table col_at to trap ++ anew in
+      let rows : List Instr = row_test table row_at (to + 1) trap ++ (col ++ cols) in
+      let tests : List Instr = below_test row_at col_at (to + 1) trap ++ rows in
+      joined row (col ++ tests) on_row (joined col tests on_col (joined (below_test row_at col_at (to + 1) trap) rows (below_fits row_at col_at (to + 1) trap at.first at.second test known)
+      (joined (row_test table row_at (to + 1) trap) (col ++ cols) (row_fits table row_at (to + 1) trap named at.first test known)
+      (joined col cols on_col (joined (col_test table col_at to trap) anew (col_fits table col_at to trap named at.second (omega (arith, at.own)) known) (joined row (col ++ fetch) on_row (joined col fetch on_col fetched)))))))
 
   -- ---- expressions
 
@@ -201,6 +230,15 @@ module _ (tables blocks : ℕ) where
       both _ _ (both _ _ (low to first) (low r second)) refl
   read_fits None off to first second third =
       both _ _ (both _ _ (both _ _ (low to first) refl) (le-leb off 511 third)) refl
+
+  -- the registers of a node and of its operands
+  places : (scope : Scope) (to : ℕ) (a b : Expr) → AreRegisters scope.regs.items → to ≤ 22
+      → ArePlaces to (operand_at (home_of scope a) to) (operand_at (home_of scope b) (to + 1))
+  places scope to a b registered within = record {
+    own = within;
+    first = operand_low (home_of scope a) to (omega arith) (home_low scope a registered);
+    second = operand_low (home_of scope b) (to + 1) (omega arith) (home_low scope b registered);
+  }
 
   -- the instructions of an expression, in a code with at least the scope's tables and with its trap blocks
   pub body_fits : (scope : Scope) (e : Expr) (label to : ℕ) → AreOffsets scope.cells.items
@@ -216,10 +254,14 @@ module _ (tables blocks : ℕ) where
   body_fits scope (Cell' t p a q b) label to offsets registered few is within registers known =
       let has : Fits to a b = fits to a b registers in
       let named : number_in scope.tables.items t.text.items < tables = omega (arith, number_low scope.tables.items t.text.items is.0) in
-      cell_fits (number_in scope.tables.items t.text.items) to (label + trap_count a + trap_count b) (body_of scope label a to) (body_of scope (label + trap_count a) b (to + 1)) named has.node (omega arith)
-      (body_fits scope a label to offsets registered few is.1 within.0 has.first (omega arith))
+      cell_fits (number_in scope.tables.items t.text.items) to (operand_at (home_of scope a) to)
+      (operand_at (home_of scope b) (to + 1)) (label + trap_count a + trap_count b) _ _ named
+      (places scope to a b registered has.node) (omega arith)
+      (operand_fits (home_of scope a) _
+      (body_fits scope a label to offsets registered few is.1 within.0 has.first (omega arith)))
+      (operand_fits (home_of scope b) _
       (body_fits scope b (label + trap_count a) (to + 1) offsets registered few is.2 within.1
-      has.second (omega arith)) (nat_lt to 22)
+      has.second (omega arith))) (nat_lt to 22)
   body_fits scope (Rows t) label to offsets registered few is within registers known =
       both _ _ (size_fits to _ (omega arith)
       (omega (arith, number_low scope.tables.items t.text.items is))) refl
@@ -227,15 +269,20 @@ module _ (tables blocks : ℕ) where
       both _ _ (size_fits to _ (omega arith)
       (omega (arith, number_low scope.tables.items t.text.items is))) refl
   body_fits scope (Neg' p a place) label to offsets registered few is within registers known =
-      joined (body_of scope label a to) _
-      (body_fits scope a label to offsets registered few is within (omega arith) known)
-      (both _ _ (calc_fits to to alu.Mul (value.Int (negsuc 0)) (omega arith) (omega arith)
-      refl) refl)
+      joined (operand_body (home_of scope a) (body_of scope label a to)) _
+      (operand_fits (home_of scope a) _
+      (body_fits scope a label to offsets registered few is within (omega arith) known))
+      (both _ _ (calc_fits to (operand_at (home_of scope a) to) alu.Mul (value.Int (negsuc 0))
+      (omega arith)
+      (operand_low (home_of scope a) to (omega arith) (home_low scope a registered)) refl) refl)
   body_fits scope (Bin' o place p a q b) label to offsets registered few is within registers known =
       let has : Fits to a b = fits to a b registers in
-      joined (body_of scope label a to) _
-      (body_fits scope a label to offsets registered few is.0 within.0 has.first (omega arith))
-      (operation_fits o to (label + trap_count a + trap_count b)
-      (body_of scope (label + trap_count a) b (to + 1)) (literal b) has.node (omega arith)
-      (literal_fits b within.1) (body_fits scope b (label + trap_count a) (to + 1) offsets
-      registered few is.1 within.1 has.second (omega arith)))
+      joined (operand_body (home_of scope a) (body_of scope label a to)) _
+      (operand_fits (home_of scope a) _
+      (body_fits scope a label to offsets registered few is.0 within.0 has.first (omega arith)))
+      (operation_fits o to (operand_at (home_of scope a) to) (operand_at (home_of scope b) (to + 1))
+      (label + trap_count a + trap_count b)
+      (operand_body (home_of scope b) (body_of scope (label + trap_count a) b (to + 1))) (literal b)
+      (places scope to a b registered has.node) (omega arith) (literal_fits b within.1)
+      (operand_fits (home_of scope b) _ (body_fits scope b (label + trap_count a) (to + 1) offsets
+      registered few is.1 within.1 has.second (omega arith))))

@@ -1,5 +1,6 @@
 -- Registers after an instruction, and what a task keeps over several.
-use Rattle.std.proofs.Common.{◌≡◌, ◌≢◌, ℕ, ◌<◌, ◌≤◌, List, length, refl, ◌∙◌, arith}
+use Rattle.std.proofs.Common.{◌≡◌, ◌≢◌, ◌⊎◌, inl, inr, ℕ, ◌<◌, ◌≤◌, List, length, refl}
+use Rattle.std.proofs.Common.{sym, ◌∙◌, arith}
 use Rattle.std.specs.Prelude.{slice_set}
 use Rattle.std.proofs.lemmas.List.{get_or-set_same, get_or-set_other, length-set}
 use Rattle.beat_count.specs.BeatState.{BeatState}
@@ -53,3 +54,30 @@ kept_wider to from state words beat within keeps = record {
   quiet = keeps.quiet;
   granted = keeps.granted;
 }
+
+-- ---- registers that are kept
+
+-- a register that what changes those of values from one on leaves alone
+abbrev pub Apart : ℕ → ℕ → Type 0
+Apart from r = (r < from) ⊎ (24 ≤ r)
+
+pub kept_apart : (from r : ℕ) (state : State) (words : List Word) (beat : BeatState) → Apart from r
+    → Keeps from state words beat → register words r ≡ register state.registers r
+kept_apart from r state words beat (inl low) keeps = keeps.below r low
+kept_apart from r state words beat (inr high) keeps = keeps.above r high
+
+pub apart_other : (from r : ℕ) → from < 24 → Apart from r → r ≢ from
+apart_other from r low (inl below) e = absurd (omega (arith, e))
+apart_other from r low (inr high) e = absurd (omega (arith, e))
+
+-- an operand that is wanted in a register stands in it, or in one behind those of values
+abbrev pub Stands : ℕ → ℕ → Type 0
+Stands to place = (place ≡ to) ⊎ (24 ≤ place)
+
+pub stands_apart : (to from place : ℕ) → to < from → Stands to place → Apart from place
+stands_apart to from place above (inl same) = inl (omega (arith, same))
+stands_apart to from place above (inr high) = inr high
+
+pub stands_other : (to r place : ℕ) → to ≢ r → r < 24 → Stands to place → place ≢ r
+stands_other to r place other low (inl same) e = absurd (other (sym same ∙ e))
+stands_other to r place other low (inr high) e = absurd (omega (arith, e))

@@ -8,3 +8,4 @@ pub mod Law
 pub mod Coming
 pub mod Counting
 pub mod Fitting
+pub mod Pushing

@@ -20,7 +20,7 @@ use Rattle.tpal_syntax.specs.declared.instructions.Term.TheVariants as term
 use Rattle.tpal_syntax.specs.declared.instructions.Value.TheVariants as value
 use Rattle.tpal_syntax.specs.declared.notes.Note.TheVariants as note
 use Rattle.expr_lower.specs.declared.scope.Scope.{Scope}
-use Rattle.expr_lower.specs.Scopes.{offset_of, register_of, table_number}
+use Rattle.expr_lower.specs.Scopes.{home_of, offset_of, register_of, table_number}
 
 -- ---- trap blocks
 
@@ -97,50 +97,70 @@ traps_of label (Bin' o place p a q b) =
     ++ (if can_trap o (literal b) then trap_block (label + trap_count a + trap_count b) Divide place
     ∷ [] else []))
 
+-- ---- operands
+
+-- the register where an operand stands: the one that it has before any instruction, else the one
+-- where its instructions leave it
+abbrev pub operand_at : Option ℕ → ℕ → ℕ
+operand_at None to = to
+operand_at (Some r) to = r
+
+-- an operand has its instructions, but none where it stands in a register before them
+abbrev pub operand_body : Option ℕ → List Instr → List Instr
+operand_body None body = body
+operand_body (Some r) body = []
+
 -- ---- operators
 
--- `to` gets the result of two operands, the left one in `to`. The right one is a number or is left
--- in the register above by its own instructions.
-abbrev pub calculation : Alu → ℕ → List Instr → Option ℤ → List Instr
-calculation o to right None = right ++ instr.Calc to to o (value.Reg (to + 1)) ∷ []
-calculation o to right (Some n) = instr.Calc to to o (value.Int n) ∷ []
+-- `to` gets the result of two operands, the left one in a register. The right one is a number or
+-- stands in a register behind its instructions.
+abbrev pub calculation : Alu → ℕ → ℕ → ℕ → List Instr → Option ℤ → List Instr
+calculation o to left right body None = body ++ instr.Calc to left o (value.Reg right) ∷ []
+calculation o to left right body (Some n) = instr.Calc to left o (value.Int n) ∷ []
 
 -- the same, with the operands in turn
-abbrev pub turned : Alu → ℕ → List Instr → List Instr
-turned o to right = right ++ instr.Calc to (to + 1) o (value.Reg to) ∷ []
+abbrev pub turned : Alu → ℕ → ℕ → ℕ → List Instr → List Instr
+turned o to left right body = body ++ instr.Calc to right o (value.Reg left) ∷ []
 
 -- A division, with a test of the divisor before it. The register behind `last_left` is the last one
--- that may change: where the test has no register of its own, it takes the divisor's, which is
--- computed anew.
-abbrev pub tested_division : Alu → ℕ → List Instr → ℕ → List Instr
-tested_division o to right trap =
+-- that may change: where the test has no register of its own, it takes the one in which the
+-- instructions of the divisor leave it, and these stand once more behind it.
+abbrev pub tested_division : Alu → ℕ → ℕ → ℕ → List Instr → ℕ → List Instr
+tested_division o to left right body trap =
     if nat_lt to last_left
-    then right ++ instr.Calc (to + 2) (to + 1) alu.Eq (value.Int (pos 0))
-    ∷ instr.IfJump (to + 2) trap ∷ instr.Calc to to o (value.Reg (to + 1)) ∷ []
-    else right
-    ++ (instr.Calc (to + 1) (to + 1) alu.Eq (value.Int (pos 0)) ∷ instr.IfJump (to + 1) trap ∷ right
-    ++ instr.Calc to to o (value.Reg (to + 1)) ∷ [])
+    then body ++ instr.Calc (to + 2) right alu.Eq (value.Int (pos 0)) ∷ instr.IfJump (to + 2) trap
+    ∷ instr.Calc to left o (value.Reg right) ∷ []
+    else body
+    ++ (instr.Calc (to + 1) right alu.Eq (value.Int (pos 0)) ∷ instr.IfJump (to + 1) trap ∷ body
+    ++ instr.Calc to left o (value.Reg right) ∷ [])
 
-abbrev pub division : Alu → ℕ → List Instr → Option ℤ → ℕ → List Instr
-division o to right None trap = tested_division o to right trap
-division o to right (Some (pos zero)) trap =
+abbrev pub division : Alu → ℕ → ℕ → ℕ → List Instr → Option ℤ → ℕ → List Instr
+division o to left right body None trap = tested_division o to left right body trap
+division o to left right body (Some (pos zero)) trap =
     instr.Move to (value.Int (pos 1)) ∷ instr.IfJump to trap ∷ []
-division o to right (Some (pos (suc n))) trap = instr.Calc to to o (value.Int (pos (suc n))) ∷ []
-division o to right (Some (negsuc n)) trap = instr.Calc to to o (value.Int (negsuc n)) ∷ []
+division o to left right body (Some (pos (suc n))) trap =
+    instr.Calc to left o (value.Int (pos (suc n))) ∷ []
+division o to left right body (Some (negsuc n)) trap =
+    instr.Calc to left o (value.Int (negsuc n)) ∷ []
 
--- the instructions of an operator behind those of its left operand
-abbrev pub operation : BinOp → ℕ → List Instr → Option ℤ → ℕ → List Instr
-operation op.Add to right number trap = calculation alu.Add to right number
-operation op.Sub to right number trap = calculation alu.Sub to right number
-operation op.Mul to right number trap = calculation alu.Mul to right number
-operation op.Div to right number trap = division alu.Div to right number trap
-operation op.Rem to right number trap = division alu.Rem to right number trap
-operation op.Eq to right number trap = calculation alu.Eq to right number
-operation op.Ne to right number trap = calculation alu.Ne to right number
-operation op.Lt to right number trap = calculation alu.Lt to right number
-operation op.Le to right number trap = calculation alu.Le to right number
-operation op.Gt to right number trap = turned alu.Lt to right
-operation op.Ge to right number trap = turned alu.Le to right
+-- the negation of the number in a register
+abbrev pub negation : ℕ → ℕ → List Instr
+negation to left = instr.Calc to left alu.Mul (value.Int (negsuc 0)) ∷ []
+
+-- The instructions of an operator behind those of its left operand. Its operands stand in two
+-- registers, the right one behind its instructions, or are a register and a number.
+abbrev pub operation : BinOp → ℕ → ℕ → ℕ → List Instr → Option ℤ → ℕ → List Instr
+operation op.Add to left right body number trap = calculation alu.Add to left right body number
+operation op.Sub to left right body number trap = calculation alu.Sub to left right body number
+operation op.Mul to left right body number trap = calculation alu.Mul to left right body number
+operation op.Div to left right body number trap = division alu.Div to left right body number trap
+operation op.Rem to left right body number trap = division alu.Rem to left right body number trap
+operation op.Eq to left right body number trap = calculation alu.Eq to left right body number
+operation op.Ne to left right body number trap = calculation alu.Ne to left right body number
+operation op.Lt to left right body number trap = calculation alu.Lt to left right body number
+operation op.Le to left right body number trap = calculation alu.Le to left right body number
+operation op.Gt to left right body number trap = turned alu.Lt to left right body
+operation op.Ge to left right body number trap = turned alu.Le to left right body
 
 -- ---- cells
 
@@ -168,22 +188,22 @@ abbrev pub range_tests : ℕ → ℕ → ℕ → ℕ → ℕ → List Instr
 range_tests table row col test trap =
     below_test row col test trap ++ (row_test table row test trap ++ col_test table col test trap)
 
--- A cell, behind the instructions that leave its row in `to` and its column above it. Where the
--- tests have no register of their own, they take those of the row and the column, which are
--- computed anew.
-abbrev pub cell_read : ℕ → ℕ → List Instr → List Instr → ℕ → List Instr
-cell_read table to row col trap =
+-- A cell, whose row and column stand in two registers behind their instructions. Where the tests
+-- have no register of their own, they take the one in which the instructions of the column leave
+-- it, and then that of the row, and these instructions stand once more behind them.
+abbrev pub cell_read : ℕ → ℕ → ℕ → ℕ → List Instr → List Instr → ℕ → List Instr
+cell_read table to row col row_body col_body trap =
     if nat_lt to last_left
-    then row
-    ++ (col
-    ++ (range_tests table to (to + 1) (to + 2) trap ++ instr.Fetch to table to (to + 1) ∷ []))
-    else row
-    ++ (col
-    ++ (below_test to (to + 1) (to + 1) trap
-    ++ (row_test table to (to + 1) trap
-    ++ (col
-    ++ (col_test table (to + 1) to trap
-    ++ (row ++ (col ++ instr.Fetch to table to (to + 1) ∷ [])))))))
+    then row_body
+    ++ (col_body
+    ++ (range_tests table row col (to + 2) trap ++ instr.Fetch to table row col ∷ []))
+    else row_body
+    ++ (col_body
+    ++ (below_test row col (to + 1) trap
+    ++ (row_test table row (to + 1) trap
+    ++ (col_body
+    ++ (col_test table col to trap
+    ++ (row_body ++ (col_body ++ instr.Fetch to table row col ∷ [])))))))
 
 -- ---- expressions
 
@@ -192,22 +212,27 @@ abbrev pub variable_read : Option ℕ → ℕ → ℕ → List Instr
 variable_read (Some r) off to = instr.Move to (value.Reg r) ∷ []
 variable_read None off to = instr.Load to base_register off ∷ []
 
--- the instructions that leave an expression's value in register `to`, where its trap blocks stand
--- from a label on
+-- The instructions that leave an expression's value in register `to`, where its trap blocks stand
+-- from a label on. An operand that stands in a register is used there.
 abbrev pub body_of : Scope → ℕ → Expr → ℕ → List Instr
 body_of scope label (Int n place) to = instr.Move to (value.Int n) ∷ []
 body_of scope label (Var x) to =
     variable_read (register_of scope x.text.items) (offset_of scope x.text.items) to
 body_of scope label (Cell' t p a q b) to =
-    cell_read (table_number scope t.text.items) to (body_of scope label a to)
-    (body_of scope (label + trap_count a) b (to + 1)) (label + trap_count a + trap_count b)
+    cell_read (table_number scope t.text.items) to (operand_at (home_of scope a) to)
+    (operand_at (home_of scope b) (to + 1))
+    (operand_body (home_of scope a) (body_of scope label a to))
+    (operand_body (home_of scope b) (body_of scope (label + trap_count a) b (to + 1)))
+    (label + trap_count a + trap_count b)
 body_of scope label (Rows t) to = instr.Rows to (table_number scope t.text.items) ∷ []
 body_of scope label (Cols t) to = instr.Cols to (table_number scope t.text.items) ∷ []
 body_of scope label (Neg' p a place) to =
-    body_of scope label a to ++ instr.Calc to to alu.Mul (value.Int (negsuc 0)) ∷ []
+    operand_body (home_of scope a) (body_of scope label a to)
+    ++ negation to (operand_at (home_of scope a) to)
 body_of scope label (Bin' o place p a q b) to =
-    body_of scope label a to
-    ++ operation o to (body_of scope (label + trap_count a) b (to + 1)) (literal b)
+    operand_body (home_of scope a) (body_of scope label a to)
+    ++ operation o to (operand_at (home_of scope a) to) (operand_at (home_of scope b) (to + 1))
+    (operand_body (home_of scope b) (body_of scope (label + trap_count a) b (to + 1))) (literal b)
     (label + trap_count a + trap_count b)
 
 -- the blocks of an expression from a label on: the one with its instructions, which goes on at the

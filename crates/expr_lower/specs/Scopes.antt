@@ -40,6 +40,16 @@ table_number scope t = number_in scope.tables.items t
 abbrev pub register_of : Scope → List ℕ → Option ℕ
 register_of scope x = register_in scope.regs.items x
 
+-- the register where an expression's value stands before any instruction: that of a variable
+abbrev pub home_of : Scope → Expr → Option ℕ
+home_of scope (Int n place) = None
+home_of scope (Var x) = register_of scope x.text.items
+home_of scope (Cell' t p a q b) = None
+home_of scope (Rows t) = None
+home_of scope (Cols t) = None
+home_of scope (Neg' p a place) = None
+home_of scope (Bin' o place p a q b) = None
+
 -- a variable of that name has a cell
 abbrev pub HasCell : Scope → List ℕ → Type 0
 HasCell scope x = IsTrue (has_cell_in scope.cells.items x)

@@ -4,7 +4,7 @@ ghost use Rattle.std.specs.Prelude.{◌≡◌, ◌≤◌, ◌+◌, ◌++◌, ◌
 ghost use Rattle.expr_lower.specs.Registers.{last_left};
 ghost use Rattle.expr_lower.specs.Bodies.{below_test, row_test, col_test, range_tests, cell_read};
 
-use crate::registers::LAST_LEFT;
+use crate::registers::{LAST_LEFT, Places};
 use tp_value::NoMemory;
 use tpal_syntax::{Alu, Instr, Value};
 
@@ -93,58 +93,60 @@ pub fn push_range_tests(
     push_col_test(body, table, col, test, trap)
 }
 
-// Appends the tests in the registers of the row and the column, which are computed anew.
+// Appends the tests in the registers where the instructions of the row and the column leave them,
+// and these instructions once more.
 fn push_tests_in_place(
     body: &mut Vec<Instr>,
     table: u8,
-    to: u8,
+    at: Places,
     row: &[Instr],
     col: &[Instr],
     trap: u32,
 ) -> Result<(), NoMemory>
-    requires { to ≤ last_left }
+    requires { at.to ≤ last_left }
     ensures { OnOk result
         (body.new.items
         ≡ body.old.items
-        ++ (below_test to (to + 1) (to + 1) trap
-        ++ (row_test table to (to + 1) trap
-        ++ (col.now ++ (col_test table (to + 1) to trap ++ (row.now ++ col.now)))))) }
+        ++ (below_test at.left at.right (at.to + 1) trap
+        ++ (row_test table at.left (at.to + 1) trap
+        ++ (col.now ++ (col_test table at.right at.to trap ++ (row.now ++ col.now)))))) }
 {
-    push_below_test(body, to, to + 1, to + 1, trap)?;
-    push_row_test(body, table, to, to + 1, trap)?;
+    push_below_test(body, at.left, at.right, at.to + 1, trap)?;
+    push_row_test(body, table, at.left, at.to + 1, trap)?;
     body.extend_from_slice(col)?;
-    push_col_test(body, table, to + 1, to, trap)?;
+    push_col_test(body, table, at.right, at.to, trap)?;
     body.extend_from_slice(row)?;
     body.extend_from_slice(col)?;
     Ok(())
 }
 
-/// Appends the instructions that read a cell. Those of its row, which leave it in `to`, and of its
-/// column, which leave it in the register above, are given.
+/// Appends the instructions that read a cell. Those of its row and its column, behind which these
+/// stand in their registers, are given.
 pub fn push_cell_read(
     body: &mut Vec<Instr>,
     table: u8,
-    to: u8,
+    at: Places,
     row: &[Instr],
     col: &[Instr],
     trap: u32,
 ) -> Result<(), NoMemory>
-    requires { to ≤ last_left }
+    requires { at.to ≤ last_left }
     ensures { OnOk result
-        (body.new.items ≡ body.old.items ++ cell_read table to row.now col.now trap) }
+        (body.new.items
+        ≡ body.old.items ++ cell_read table at.to at.left at.right row.now col.now trap) }
 {
     body.extend_from_slice(row)?;
     body.extend_from_slice(col)?;
-    if to < LAST_LEFT {
-        push_range_tests(body, table, to, to + 1, to + 2, trap)?;
+    if at.to < LAST_LEFT {
+        push_range_tests(body, table, at.left, at.right, at.to + 2, trap)?;
     } else {
-        push_tests_in_place(body, table, to, row, col, trap)?;
+        push_tests_in_place(body, table, at, row, col, trap)?;
     }
     body.push(Instr::Fetch {
-        to,
+        to: at.to,
         table,
-        row: to,
-        col: to + 1,
+        row: at.left,
+        col: at.right,
     })?;
     Ok(())
 }

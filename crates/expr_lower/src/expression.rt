@@ -13,23 +13,23 @@ ghost use Rattle.loop_meaning.specs.InRange.{ExprInRange};
 ghost use Rattle.tpal_syntax.specs.Listing.{Listing};
 ghost use Rattle.tpal_machine.specs.State.{State};
 ghost use Rattle.expr_lower.specs.Bodies.{can_trap, trap_block, operation, cell_read, body_of};
-ghost use Rattle.expr_lower.specs.Bodies.{variable_read};
+ghost use Rattle.expr_lower.specs.Bodies.{operand_at, operand_body, variable_read};
 ghost use Rattle.expr_lower.specs.Bodies.{traps_of, trap_count, blocks_of};
 ghost use Rattle.tp_value.specs.declared.TrapKind.TheVariants.{Divide, Index};
 ghost use Rattle.expr_lower.specs.Holding.{Holds};
 ghost use Rattle.expr_lower.specs.Leaving.{ComesTo};
-ghost use Rattle.expr_lower.specs.Scopes.{IsIn, offset_of, register_of};
+ghost use Rattle.expr_lower.specs.Scopes.{IsIn, home_of, offset_of, register_of};
 ghost use Rattle.expr_lower.specs.Standing.{AreAt};
 
 use crate::cells::push_cell_read;
-use crate::operators::{can_trap, literal, push_operation};
-use crate::registers::BASE;
-use crate::scope::{Scope, offset_of, register_of, table_number};
+use crate::operators::{can_trap, literal, push_negation, push_operation};
+use crate::registers::{BASE, Places};
+use crate::scope::{Scope, home_of, offset_of, register_of, table_number};
 use crate::traps::{name_of, push_trap};
 use loop_syntax::{BinOp, Expr, Name};
 use std::alloc::Global;
 use tp_value::{Items, NoMemory, Place, TrapKind};
-use tpal_syntax::{Alu, Block, Instr, Note, Term, Value};
+use tpal_syntax::{Block, Instr, Note, Term, Value};
 
 /// Where the code of an expression leaves its value, and where its trap blocks stand.
 #[derive(Clone, Copy)]
@@ -82,27 +82,29 @@ fn push_cell(
     alloc: Global,
     body: &mut Vec<Instr>,
     traps: &mut Vec<Block>,
-    at: Site,
+    first: u32,
+    at: Places,
     name: &Name,
     table: u8,
     row: &[Instr],
     col: &[Instr],
 ) -> Result<(), NoMemory>
     requires registers { at.to ≤ last_left }
-    requires labels { at.first + length traps.old.items < 2 ^ 32 }
+    requires labels { first + length traps.old.items < 2 ^ 32 }
     ensures body { OnOk result
         (body.new.items
         ≡ body.old.items
-        ++ cell_read table at.to row.now col.now (at.first + length traps.old.items)) }
+        ++ cell_read table at.to at.left at.right row.now col.now
+        (first + length traps.old.items)) }
     ensures traps { OnOk result
         (traps.new.items
-        ≡ traps.old.items ++ trap_block (at.first + length traps.old.items) Index name.now.place
+        ≡ traps.old.items ++ trap_block (first + length traps.old.items) Index name.now.place
         ∷ []) }
     ensures count { OnOk result (length traps.new.items ≡ length traps.old.items + 1) }
 {
-    let trap = at.first + traps.len() as u32;
+    let trap = first + traps.len() as u32;
     push_trap(alloc, traps, trap, TrapKind::Index, name.place)?;
-    push_cell_read(body, table, at.to, row, col, trap)
+    push_cell_read(body, table, at, row, col, trap)
 }
 
 // Appends the instructions of an operator behind those of its left operand, and its trap block if
@@ -112,38 +114,76 @@ fn push_operator(
     alloc: Global,
     body: &mut Vec<Instr>,
     traps: &mut Vec<Block>,
-    at: Site,
+    first: u32,
+    at: Places,
     op: BinOp,
     place: Place,
     right: &[Instr],
     number: Option<i64>,
 ) -> Result<(), NoMemory>
     requires registers { at.to ≤ last_left }
-    requires labels { at.first + length traps.old.items < 2 ^ 32 }
+    requires labels { first + length traps.old.items < 2 ^ 32 }
     ensures body { OnOk result
         (body.new.items
         ≡ body.old.items
-        ++ operation op at.to right.now number (at.first + length traps.old.items)) }
+        ++ operation op at.to at.left at.right right.now number
+        (first + length traps.old.items)) }
     ensures traps { OnOk result
         (traps.new.items
         ≡ traps.old.items
-        ++ (if can_trap op number then trap_block (at.first + length traps.old.items) Divide
-        place
+        ++ (if can_trap op number then trap_block (first + length traps.old.items) Divide place
         ∷ [] else [])) }
     ensures count { OnOk result
         (length traps.new.items ≡ length traps.old.items + (if can_trap op number then 1 else 0)) }
 {
-    let trap = at.first + traps.len() as u32;
-    push_operation(body, op, at.to, right, number, trap)?;
+    let trap = first + traps.len() as u32;
+    push_operation(body, op, at, right, number, trap)?;
     if can_trap(op, number) {
         push_trap(alloc, traps, trap, TrapKind::Divide, place)?;
     }
     Ok(())
 }
 
+// Appends the instructions of an operand, of which a variable in a register has none, and its trap
+// blocks. The answer is the register where it then stands.
+#[cycle(push)]
+fn push_operand(
+    alloc: Global,
+    body: &mut Vec<Instr>,
+    traps: &mut Vec<Block>,
+    expr: &Expr,
+    scope: &Scope,
+    at: Site,
+) -> Result<u8, NoMemory>
+    requires few_tables { length scope.now.tables.items ≤ MAX_TABLES }
+    requires registers { at.to + height expr.now ≤ MAX_EXPRESSION_HEIGHT }
+    requires labels { at.first + length traps.old.items + trap_count expr.now < 2 ^ 32 }
+    ensures place { IfOk result (λ place. place ≡ operand_at (home_of scope.now expr.now) at.to) }
+    ensures body { OnOk result
+        (body.new.items
+        ≡ body.old.items
+        ++ operand_body (home_of scope.now expr.now)
+        (body_of scope.now (at.first + length traps.old.items) expr.now at.to)) }
+    ensures traps { OnOk result
+        (traps.new.items
+        ≡ traps.old.items ++ traps_of (at.first + length traps.old.items) expr.now) }
+    ensures count { OnOk result (length traps.new.items
+        ≡ length traps.old.items + trap_count expr.now) }
+    ensures literals { OnOk result (ExprInRange expr.now) }
+{
+    match home_of(scope, expr) {
+        Some(register) => Ok(register),
+        None => {
+            push_expr(alloc, body, traps, expr, scope, at)?;
+            Ok(at.to)
+        }
+    }
+}
+
 /// Appends to a body the instructions that leave an expression's value in register `at.to`, and its
 /// trap blocks to those that are there. The first of all these trap blocks has the label
 /// `at.first`.
+#[cycle(push)]
 pub fn push_expr(
     alloc: Global,
     body: &mut Vec<Instr>,
@@ -166,7 +206,7 @@ pub fn push_expr(
         ≡ length traps.old.items + trap_count expr.now) }
     ensures literals { OnOk result (ExprInRange expr.now) }
 {
-    let to = at.to;
+    let Site { to, first } = at;
     match expr {
         Expr::Int(number, _) => body.push(Instr::Move {
             to,
@@ -175,11 +215,12 @@ pub fn push_expr(
         Expr::Var(name) => push_variable(body, scope, name.text.as_slice(), to)?,
         Expr::Cell(name, i, j) => {
             let mut row = Vec::new(alloc);
-            push_expr(alloc, &mut row, traps, i, scope, at)?;
+            let left = push_operand(alloc, &mut row, traps, i, scope, at)?;
             let mut col = Vec::new(alloc);
-            push_expr(alloc, &mut col, traps, j, scope, above(at))?;
+            let right = push_operand(alloc, &mut col, traps, j, scope, above(at))?;
+            let places = Places { to, left, right };
             let table = table_number(scope, name.text.as_slice());
-            push_cell(alloc, body, traps, at, name, table, &row, &col)?;
+            push_cell(alloc, body, traps, first, places, name, table, &row, &col)?;
         }
         Expr::Rows(name) => {
             let table = table_number(scope, name.text.as_slice());
@@ -190,19 +231,18 @@ pub fn push_expr(
             body.push(Instr::Cols { to, table })?;
         }
         Expr::Neg(a, _) => {
-            push_expr(alloc, body, traps, a, scope, at)?;
-            body.push(Instr::Calc {
-                to,
-                left: to,
-                alu: Alu::Mul,
-                right: Value::Int(-1),
-            })?;
+            let left = push_operand(alloc, body, traps, a, scope, at)?;
+            push_negation(body, to, left)?;
         }
         Expr::Bin(op, place, a, b) => {
-            push_expr(alloc, body, traps, a, scope, at)?;
-            let mut right = Vec::new(alloc);
-            push_expr(alloc, &mut right, traps, b, scope, above(at))?;
-            push_operator(alloc, body, traps, at, *op, *place, &right, literal(b))?;
+            let left = push_operand(alloc, body, traps, a, scope, at)?;
+            let mut code = Vec::new(alloc);
+            let right = push_operand(alloc, &mut code, traps, b, scope, above(at))?;
+            let places = Places { to, left, right };
+            let number = literal(b);
+            push_operator(
+                alloc, body, traps, first, places, *op, *place, &code, number,
+            )?;
         }
     }
     Ok(())

@@ -17,7 +17,7 @@ pub use cells::push_range_tests;
 pub use expression::{Site, lower_expr, push_expr};
 pub use operators::literal;
 pub use registers::{BASE, LAST_LEFT, VALUES};
-pub use scope::{Scope, offset_of, register_of, table_number};
+pub use scope::{Scope, home_of, offset_of, register_of, table_number};
 pub use sizes::trap_count;
 pub use traps::{name_of, push_trap};
 

@@ -4,9 +4,9 @@ ghost use Rattle.std.specs.Prelude.{◌≡◌, ◌≤◌, ◌+◌, ◌++◌, ◌
 ghost use Rattle.expr_lower.specs.Registers.{last_left};
 ghost use Rattle.loop_meaning.specs.InRange.{InRange};
 ghost use Rattle.expr_lower.specs.Bodies.{literal, may_be_zero, can_trap, calculation, turned};
-ghost use Rattle.expr_lower.specs.Bodies.{tested_division, division, operation};
+ghost use Rattle.expr_lower.specs.Bodies.{tested_division, division, negation, operation};
 
-use crate::registers::LAST_LEFT;
+use crate::registers::{LAST_LEFT, Places};
 use loop_syntax::{BinOp, Expr};
 use tp_value::NoMemory;
 use tpal_syntax::{Alu, Instr, Value};
@@ -54,31 +54,32 @@ pub fn can_trap(op: BinOp, right: Option<i64>) -> bool
     }
 }
 
-// Appends the calculation with a number, or with the register above behind its instructions.
+// Appends the calculation with a number, or with the right operand behind its instructions.
 fn push_calculation(
     body: &mut Vec<Instr>,
     alu: Alu,
-    to: u8,
+    at: Places,
     right: &[Instr],
     number: Option<i64>,
 ) -> Result<(), NoMemory>
-    requires { to ≤ last_left }
-    ensures { OnOk result (body.new.items ≡ body.old.items ++ calculation alu to right.now number) }
+    ensures { OnOk result
+        (body.new.items
+        ≡ body.old.items ++ calculation alu at.to at.left at.right right.now number) }
 {
     match number {
         Some(n) => body.push(Instr::Calc {
-            to,
-            left: to,
+            to: at.to,
+            left: at.left,
             alu,
             right: Value::Int(n),
         })?,
         None => {
             body.extend_from_slice(right)?;
             body.push(Instr::Calc {
-                to,
-                left: to,
+                to: at.to,
+                left: at.left,
                 alu,
-                right: Value::Reg(to + 1),
+                right: Value::Reg(at.right),
             })?;
         }
     }
@@ -86,16 +87,29 @@ fn push_calculation(
 }
 
 // Appends the calculation with the operands in turn.
-fn push_turned(body: &mut Vec<Instr>, alu: Alu, to: u8, right: &[Instr]) -> Result<(), NoMemory>
-    requires { to ≤ last_left }
-    ensures { OnOk result (body.new.items ≡ body.old.items ++ turned alu to right.now) }
+fn push_turned(body: &mut Vec<Instr>, alu: Alu, at: Places, right: &[Instr]) -> Result<(), NoMemory>
+    ensures { OnOk result
+        (body.new.items ≡ body.old.items ++ turned alu at.to at.left at.right right.now) }
 {
     body.extend_from_slice(right)?;
     body.push(Instr::Calc {
-        to,
-        left: to + 1,
+        to: at.to,
+        left: at.right,
         alu,
-        right: Value::Reg(to),
+        right: Value::Reg(at.left),
+    })?;
+    Ok(())
+}
+
+/// Appends the negation of the number in a register, its product with -1.
+pub fn push_negation(body: &mut Vec<Instr>, to: u8, left: u8) -> Result<(), NoMemory>
+    ensures { OnOk result (body.new.items ≡ body.old.items ++ negation to left) }
+{
+    body.push(Instr::Calc {
+        to,
+        left,
+        alu: Alu::Mul,
+        right: Value::Int(-1),
     })?;
     Ok(())
 }
@@ -104,31 +118,35 @@ fn push_turned(body: &mut Vec<Instr>, alu: Alu, to: u8, right: &[Instr]) -> Resu
 fn push_tested_division(
     body: &mut Vec<Instr>,
     alu: Alu,
-    to: u8,
+    at: Places,
     right: &[Instr],
     trap: u32,
 ) -> Result<(), NoMemory>
-    requires { to ≤ last_left }
+    requires { at.to ≤ last_left }
     ensures { OnOk result (body.new.items
-        ≡ body.old.items ++ tested_division alu to right.now trap) }
+        ≡ body.old.items ++ tested_division alu at.to at.left at.right right.now trap) }
 {
     body.extend_from_slice(right)?;
-    let test = if to < LAST_LEFT { to + 2 } else { to + 1 };
+    let test = if at.to < LAST_LEFT {
+        at.to + 2
+    } else {
+        at.to + 1
+    };
     body.push(Instr::Calc {
         to: test,
-        left: to + 1,
+        left: at.right,
         alu: Alu::Eq,
         right: Value::Int(0),
     })?;
     body.push(Instr::IfJump { test, label: trap })?;
-    if to >= LAST_LEFT {
+    if at.to >= LAST_LEFT {
         body.extend_from_slice(right)?;
     }
     body.push(Instr::Calc {
-        to,
-        left: to,
+        to: at.to,
+        left: at.left,
         alu,
-        right: Value::Reg(to + 1),
+        right: Value::Reg(at.right),
     })?;
     Ok(())
 }
@@ -136,65 +154,65 @@ fn push_tested_division(
 fn push_division(
     body: &mut Vec<Instr>,
     alu: Alu,
-    to: u8,
+    at: Places,
     right: &[Instr],
     number: Option<i64>,
     trap: u32,
 ) -> Result<(), NoMemory>
-    requires { to ≤ last_left }
+    requires { at.to ≤ last_left }
     ensures { OnOk result (body.new.items
-        ≡ body.old.items ++ division alu to right.now number trap) }
+        ≡ body.old.items ++ division alu at.to at.left at.right right.now number trap) }
 {
     match number {
         Some(0) => {
             body.push(Instr::Move {
-                to,
+                to: at.to,
                 value: Value::Int(1),
             })?;
             body.push(Instr::IfJump {
-                test: to,
+                test: at.to,
                 label: trap,
             })?;
             Ok(())
         }
         Some(n) => {
             body.push(Instr::Calc {
-                to,
-                left: to,
+                to: at.to,
+                left: at.left,
                 alu,
                 right: Value::Int(n),
             })?;
             Ok(())
         }
-        None => push_tested_division(body, alu, to, right, trap),
+        None => push_tested_division(body, alu, at, right, trap),
     }
 }
 
-/// Appends the instructions of an operator. Those of its right operand, which leave it in the
-/// register above, and its number where it is a literal, are given.
+/// Appends the instructions of an operator. Those of its right operand, behind which it stands in
+/// its register, and its number where it is a literal, are given.
 pub fn push_operation(
     body: &mut Vec<Instr>,
     op: BinOp,
-    to: u8,
+    at: Places,
     right: &[Instr],
     number: Option<i64>,
     trap: u32,
 ) -> Result<(), NoMemory>
-    requires { to ≤ last_left }
+    requires { at.to ≤ last_left }
     ensures { OnOk result (body.new.items
-        ≡ body.old.items ++ operation op to right.now number trap) }
+        ≡ body.old.items ++ operation op at.to at.left at.right right.now number trap) }
 {
     match op {
-        BinOp::Add => push_calculation(body, Alu::Add, to, right, number),
-        BinOp::Sub => push_calculation(body, Alu::Sub, to, right, number),
-        BinOp::Mul => push_calculation(body, Alu::Mul, to, right, number),
-        BinOp::Div => push_division(body, Alu::Div, to, right, number, trap),
-        BinOp::Rem => push_division(body, Alu::Rem, to, right, number, trap),
-        BinOp::Eq => push_calculation(body, Alu::Eq, to, right, number),
-        BinOp::Ne => push_calculation(body, Alu::Ne, to, right, number),
-        BinOp::Lt => push_calculation(body, Alu::Lt, to, right, number),
-        BinOp::Le => push_calculation(body, Alu::Le, to, right, number),
-        BinOp::Gt => push_turned(body, Alu::Lt, to, right),
-        BinOp::Ge => push_turned(body, Alu::Le, to, right),
+        BinOp::Add => push_calculation(body, Alu::Add, at, right, number),
+        BinOp::Sub => push_calculation(body, Alu::Sub, at, right, number),
+        BinOp::Mul => push_calculation(body, Alu::Mul, at, right, number),
+        BinOp::Div => push_division(body, Alu::Div, at, right, number, trap),
+        BinOp::Rem => push_division(body, Alu::Rem, at, right, number, trap),
+        BinOp::Eq => push_calculation(body, Alu::Eq, at, right, number),
+        BinOp::Ne => push_calculation(body, Alu::Ne, at, right, number),
+        BinOp::Lt => push_calculation(body, Alu::Lt, at, right, number),
+        BinOp::Le => push_calculation(body, Alu::Le, at, right, number),
+        BinOp::Gt => push_turned(body, Alu::Lt, at, right),
+        BinOp::Ge => push_turned(body, Alu::Le, at, right),
     }
 }

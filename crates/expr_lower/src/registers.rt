@@ -10,5 +10,14 @@ pub const VALUES: u8 = MAX_EXPRESSION_HEIGHT as u8;
 /// those of values.
 pub const LAST_LEFT: u8 = VALUES - 2;
 
+/// The registers of an operator or of the read of a cell: the one for its value, and those where
+/// its two operands, or its row and its column, stand.
+#[derive(Clone, Copy)]
+pub struct Places {
+    pub to: u8,
+    pub left: u8,
+    pub right: u8,
+}
+
 /// The register with the position of the activation that runs.
 pub const BASE: u8 = 31;

@@ -2,7 +2,10 @@
 
 ghost use Rattle.std.specs.Prelude.{◌≡◌, ◌≤◌, length};
 ghost use Rattle.tp_value.specs.declared.limits.TheConstants.{MAX_TABLES};
-ghost use Rattle.expr_lower.specs.Scopes.{cell_in, number_in, offset_of, register_of, table_number};
+ghost use Rattle.expr_lower.specs.Scopes.{cell_in, home_of, number_in, offset_of, register_of};
+ghost use Rattle.expr_lower.specs.Scopes.{table_number};
+
+use loop_syntax::Expr;
 
 /// What an expression may name, and the label of the first block that it may have.
 #[derive(Drop)]
@@ -41,6 +44,21 @@ pub fn register_of(scope: &Scope, name: &[u8]) -> Option<u8>
         }
     }
     None
+}
+
+/// The register where an expression's value stands before any instruction: that of a variable.
+pub fn home_of(scope: &Scope, expr: &Expr) -> Option<u8>
+    ensures { result ≡ home_of scope.now expr.now }
+{
+    match expr {
+        Expr::Var(name) => register_of(scope, name.text.as_slice()),
+        Expr::Int(_, _)
+        | Expr::Cell(_, _, _)
+        | Expr::Rows(_)
+        | Expr::Cols(_)
+        | Expr::Neg(_, _)
+        | Expr::Bin(_, _, _, _) => None,
+    }
 }
 
 /// The number of a table, or how many there are where the scope doesn't have it.

@@ -1,6 +1,6 @@
 // Expressions that are lowered and run, with values and traps worked out by hand. The variables are
-// x = 7, y = -5 and z = 0 in cells, and w = 40 in a register; table a is 1 2 3 over 4 5 6, and b is
-// 10 20.
+// x = 7, y = -5 and z = 0 in cells, and w = 40, i = 1, j = 2 and k = 0 in registers; table a is
+// 1 2 3 over 4 5 6, and b is 10 20.
 
 ghost use Rattle.std.specs.Prelude.{◌≡◌, ◌≤◌, ◌+◌, length, IfOk, IfSome};
 ghost use Rattle.loop_rules.specs.Limits.{height};
@@ -12,6 +12,7 @@ use std::alloc::Global;
 use std::test::Fail;
 use tp_value::{Items, NoMemory, Outcome, Place, Stop, TrapKind};
 use tpal_machine::{Pace, Task, Turn, run_task};
+use tpal_print::print_code;
 use tpal_syntax::{Block, Code, CodeTable, Instr, Note, Term, Value};
 
 type Made<T> = Result<T, NoMemory>;
@@ -102,6 +103,9 @@ fn scope(g: Global) -> Made<Scope>
     cells.push((b"z".to_vec(g)?, 5))?;
     let mut regs = Vec::new(g);
     regs.push((b"w".to_vec(g)?, 24))?;
+    regs.push((b"i".to_vec(g)?, 25))?;
+    regs.push((b"j".to_vec(g)?, 26))?;
+    regs.push((b"k".to_vec(g)?, 29))?;
     let mut tables = Vec::new(g);
     tables.push(b"a".to_vec(g)?)?;
     tables.push(b"b".to_vec(g)?)?;
@@ -122,11 +126,23 @@ fn block(g: Global, name: &[u8], body: &[Instr], term: Term) -> Made<Block> {
     })
 }
 
-// 111 in register 0, the variables in their cells, and w in its register
-const BEGIN: [Instr; 6] = [
+// 111 in register 0, and the variables in their registers and cells
+const BEGIN: [Instr; 9] = [
     Instr::Move {
         to: 24,
         value: Value::Int(40),
+    },
+    Instr::Move {
+        to: 25,
+        value: Value::Int(1),
+    },
+    Instr::Move {
+        to: 26,
+        value: Value::Int(2),
+    },
+    Instr::Move {
+        to: 29,
+        value: Value::Int(0),
     },
     Instr::Move {
         to: 0,
@@ -264,6 +280,140 @@ fn a_variable_in_a_register(rt: HostRuntime) -> Result<(), Fail> {
             b"111\n-200\n7\n"
         )?
     );
+    Ok(())
+}
+
+fn of_two(g: Global, op: BinOp, a: &[u8], b: &[u8]) -> Made<Expr>
+    ensures { IfOk result (λ e. height e ≤ 3) }
+{
+    bin(g, op, var(g, a)?, var(g, b)?)
+}
+
+#[test]
+fn operands_in_registers(rt: HostRuntime) -> Result<(), Fail> {
+    let g = rt.alloc();
+    assert!(rt; leaves(g, of_two(g, BinOp::Sub, b"i", b"w")?, b"111\n-39\n7\n")?);
+    assert!(rt; leaves(g, of_two(g, BinOp::Div, b"w", b"j")?, b"111\n20\n7\n")?);
+    assert!(rt; leaves(g, of_two(g, BinOp::Rem, b"y", b"j")?, b"111\n-1\n7\n")?);
+    assert!(rt; leaves(g, of_two(g, BinOp::Gt, b"w", b"j")?, b"111\n1\n7\n")?);
+    assert!(rt; leaves(g, of_two(g, BinOp::Ge, b"j", b"w")?, b"111\n0\n7\n")?);
+    assert!(rt; leaves(g, neg(g, var(g, b"w")?)?, b"111\n-40\n7\n")?);
+    let later = bin(
+        g,
+        BinOp::Sub,
+        of_two(g, BinOp::Div, b"w", b"j")?,
+        var(g, b"j")?,
+    )?;
+    assert!(rt; leaves(g, later, b"111\n18\n7\n")?);
+    let by_zero = bin_at(g, BinOp::Div, at(5, 6), var(g, b"w")?, var(g, b"k")?)?;
+    assert!(rt; traps(g, by_zero, TrapKind::Divide, at(5, 6))?);
+    Ok(())
+}
+
+// a cell of table a at two variables
+fn cell_at(g: Global, i: &[u8], j: &[u8]) -> Made<Expr>
+    ensures { IfOk result (λ e. height e ≤ 3) }
+{
+    cell(g, var(g, i)?, var(g, j)?)
+}
+
+#[test]
+fn cells_at_registers(rt: HostRuntime) -> Result<(), Fail> {
+    let g = rt.alloc();
+    assert!(rt; leaves(g, cell_at(g, b"i", b"j")?, b"111\n6\n7\n")?);
+    assert!(rt; leaves(g, cell_at(g, b"z", b"i")?, b"111\n2\n7\n")?);
+    assert!(rt; leaves(g, cell_at(g, b"k", b"z")?, b"111\n1\n7\n")?);
+    assert!(rt; traps(g, cell_at(g, b"j", b"k")?, TrapKind::Index, at(4, 2))?);
+    assert!(rt; traps(g, cell_at(g, b"i", b"w")?, TrapKind::Index, at(4, 2))?);
+    assert!(rt; traps(g, cell_at(g, b"i", b"y")?, TrapKind::Index, at(4, 2))?);
+    Ok(())
+}
+
+// the text of an expression's blocks between two others
+fn text_of(g: Global, expr: &Expr, to: u8) -> Made<Option<Vec<u8>>>
+    requires { to + height expr.now ≤ 24 }
+{
+    let scope = scope(g)?;
+    let mut lowered = lower_expr(g, expr, &scope, to)?;
+    let mut blocks = Vec::new(g);
+    blocks.push(block(g, b"begin", &[], Term::Jump(Value::Label(1)))?)?;
+    blocks.append(&mut lowered)?;
+    blocks.push(block(g, b"end", &[], Term::Halt)?)?;
+    let tables = vec![in g; CodeTable::Made, CodeTable::Made]?;
+    match Code::new(g, tables, blocks)? {
+        Some(code) => Ok(Some(print_code(g, &code)?)),
+        None => Ok(None),
+    }
+}
+
+// `a[i][j] + w / i`: no register is loaded, and none of a variable is written
+const WHERE_THEY_STAND: &[u8] = b"table t0 made
+table t1 made
+begin: plain
+  jump @b1
+b1: plain
+  r3 := r25 min r26
+  r3 := r3 lt 0
+  if-jump r3, @b2
+  r3 := rows t0
+  r3 := r3 le r25
+  if-jump r3, @b2
+  r3 := cols t0
+  r3 := r3 le r26
+  if-jump r3, @b2
+  r1 := fetch t0, r25, r26
+  r4 := r25 eq 0
+  if-jump r4, @b3
+  r2 := r24 div r25
+  r1 := r1 add r2
+  jump @end
+b2: plain
+  trap Index, 4, 2
+  halt
+b3: plain
+  trap Divide, 5, 6
+  halt
+end: plain
+  halt
+";
+
+// `a[i][z]` in the last registers
+const IN_PLACE: &[u8] = b"table t0 made
+table t1 made
+begin: plain
+  jump @b1
+b1: plain
+  r23 := mem[r31+5]
+  r23 := r25 min r23
+  r23 := r23 lt 0
+  if-jump r23, @b2
+  r23 := rows t0
+  r23 := r23 le r25
+  if-jump r23, @b2
+  r23 := mem[r31+5]
+  r22 := cols t0
+  r22 := r22 le r23
+  if-jump r22, @b2
+  r23 := mem[r31+5]
+  r22 := fetch t0, r25, r23
+  jump @end
+b2: plain
+  trap Index, 4, 2
+  halt
+end: plain
+  halt
+";
+
+#[test]
+fn where_operands_stand(rt: HostRuntime) -> Result<(), Fail> {
+    let g = rt.alloc();
+    let quotient = bin_at(g, BinOp::Div, at(5, 6), var(g, b"w")?, var(g, b"i")?)?;
+    let sum = bin(g, BinOp::Add, cell_at(g, b"i", b"j")?, quotient)?;
+    let text = text_of(g, &sum, 1)?.ok_or("a code")?;
+    assert_eq!(rt; text.as_slice(), WHERE_THEY_STAND);
+    let last = text_of(g, &low_cells(g, b"i", b"z")?, 22)?.ok_or("a code")?;
+    assert_eq!(rt; last.as_slice(), IN_PLACE);
+    assert!(rt; leaves(g, sum, b"111\n46\n7\n")?);
     Ok(())
 }
 
@@ -443,12 +593,29 @@ fn low_cell(g: Global, i: &[u8], j: i64) -> Made<Expr>
     ))
 }
 
+fn low_cells(g: Global, i: &[u8], j: &[u8]) -> Made<Expr>
+    ensures { IfOk result (λ e. height e ≤ 2) }
+{
+    let row = var(g, i)?;
+    let col = var(g, j)?;
+    Ok(Expr::Cell(
+        name(g, b"a", at(4, 2))?,
+        Box::new(g, row)?,
+        Box::new(g, col)?,
+    ))
+}
+
 #[test]
 fn the_last_registers(rt: HostRuntime) -> Result<(), Fail> {
     let g = rt.alloc();
     assert!(rt; is_last(g, low_bin(g, BinOp::Div, b"x", b"y")?, b"111\n-1\n7\n")?);
     assert!(rt; is_last(g, low_bin(g, BinOp::Rem, b"x", b"y")?, b"111\n2\n7\n")?);
     assert!(rt; is_last(g, low_cell(g, b"z", 2)?, b"111\n3\n7\n")?);
+    assert!(rt; is_last(g, low_bin(g, BinOp::Div, b"w", b"j")?, b"111\n20\n7\n")?);
+    assert!(rt; is_last(g, low_bin(g, BinOp::Rem, b"x", b"j")?, b"111\n1\n7\n")?);
+    assert!(rt; is_last(g, low_cell(g, b"i", 2)?, b"111\n6\n7\n")?);
+    assert!(rt; is_last(g, low_cells(g, b"i", b"j")?, b"111\n6\n7\n")?);
+    assert!(rt; is_last(g, low_cells(g, b"z", b"j")?, b"111\n3\n7\n")?);
     let by_zero = outcome_at(g, low_bin(g, BinOp::Div, b"x", b"z")?, 22)?.expect(&rt, "a trap");
     assert_eq!(rt; by_zero.stop, Stop::Trap(TrapKind::Divide, at(1, 1)));
     let out = outcome_at(g, low_cell(g, b"x", 2)?, 22)?.expect(&rt, "a trap");
