@@ -12,6 +12,8 @@ pub mod Regions
 pub mod Results
 -- what a task is bound to end with, for each world round a statement and each result of it
 pub mod Promises
+-- a stack as it is shown where registers stand for some of its cells
+pub mod Registered
 -- what a task owes at a place of a code, inside whatever goes on round it
 pub mod Scene
 -- steps of a task over any predicate that goes backwards: into a block, to a trap, past a tick

@@ -6,6 +6,10 @@ pub mod QuietRows
 pub mod Laying
 -- what a scope sees, told by the names alone
 pub mod Seeing
+-- variables that stand in registers, where others become visible
+pub mod Standing
+-- the variables of a leaf loop stand in its registers
+pub mod Held
 -- where what was written at the end stands in a code, what was written before goes on there
 pub mod Writing
 -- statements that fit, as a row, as a list and one after another
@@ -16,6 +20,8 @@ pub mod Lowered
 pub mod LoweredLoops
 -- the code of a quiet `par` is written where that of its parts is
 pub mod LoweredPars
+-- the code of a leaf loop is written where that of its parts is
+pub mod LoweredLeaves
 -- the code of a `par` that may be cut in the middle of an iteration is written where that of its
 -- parts is
 pub mod LoweredDeep

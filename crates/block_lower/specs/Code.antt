@@ -2,11 +2,12 @@
 -- statement leads from some instructions with an end to others with an end, which are the code of
 -- what follows.
 use Rattle.std.specs.Prelude.{◌≡◌, ◌≢◌, ℕ, suc, ◌+◌, ◌<◌, ◌≤◌, ℤ, pos, List, [], ◌∷◌, ◌++◌}
-use Rattle.std.specs.Prelude.{true, false, length, Some, None, Vec}
+use Rattle.std.specs.Prelude.{true, false, length, Option, Some, None, Vec}
 use Rattle.std.specs.List.{AllByRecursion}
 use Rattle.std.specs.declared.alloc.Global.{Global}
 use Rattle.loop_syntax.specs.declared.Name.{Name}
 use Rattle.loop_syntax.specs.declared.Expr.{Expr}
+use Rattle.loop_syntax.specs.declared.Expr.TheVariants as expr
 use Rattle.loop_syntax.specs.declared.Stmt.{Stmt}
 use Rattle.loop_syntax.specs.declared.ParLoop.{ParLoop}
 use Rattle.loop_syntax.specs.declared.Reduce.{Reduce}
@@ -33,18 +34,22 @@ use Rattle.tpal_syntax.specs.declared.notes.Note.TheVariants as note
 use Rattle.tpal_syntax.specs.Listing.{Listing}
 use Rattle.expr_lower.specs.declared.scope.Scope.{Scope}
 use Rattle.expr_lower.specs.Bodies.{body_of, traps_of, trap_block, literal, range_tests}
-use Rattle.expr_lower.specs.Scopes.{IsIn, HasCell, HasTable, offset_of, table_number}
+use Rattle.expr_lower.specs.Scopes.{IsIn, HasCell, HasTable, HasVariable, offset_of, register_of}
+use Rattle.expr_lower.specs.Scopes.{table_number}
 use Rattle.expr_lower.specs.Standing.{AreAt}
 use Rattle.block_lower.specs.DeepMarked.{IsDeepSite}
+use Rattle.block_lower.specs.LeafMarked.{IsLeafAt, leaf_turn}
 use Rattle.block_lower.specs.Layout.{value_cell, bound_cell, kept_cell, kept_value}
 use Rattle.block_lower.specs.Layout.{kept_by_both, Entry, entry_of, Activation}
 use Rattle.block_lower.specs.Marked.{IsQuietSite}
 use Rattle.block_lower.specs.Names.{Sees, names_after}
 use Rattle.block_lower.specs.Pairs.{IsPair}
 use Rattle.block_lower.specs.Quiet.{list_is_quiet}
-use Rattle.block_lower.specs.Round.{Round, loop_round, par_round}
+use Rattle.block_lower.specs.Round.{Round, leaf_round, loop_round, par_round, register_for}
+use Rattle.handler_gen.specs.LeafSites.{head_label, stored_loop}
 use Rattle.handler_gen.specs.Sites.{over_label}
 use Rattle.tpal_syntax.specs.declared.sites.CallSite.{CallSite}
+use Rattle.tpal_syntax.specs.declared.sites.LeafSite.{LeafSite}
 use Rattle.tpal_syntax.specs.declared.sites.LoopSite.{LoopSite}
 pub use Rattle.block_lower.specs.Calling.{call_test, call_entry, call_exit, parameter_cell, passed}
 pub use Rattle.block_lower.specs.Opening.{OpensAs, Opens, to, store, load}
@@ -71,13 +76,31 @@ abbrev pub put_tested : ℕ → ℕ → ℕ → ℕ → ℕ → ℕ → List Ins
 put_tested table row col number test trap more =
     range_tests table row col test trap ++ instr.Put table row col number ∷ more
 
+-- the variable that an expression is
+abbrev pub variable_of : Expr → Option (List ℕ)
+variable_of (expr.Int n place) = None
+variable_of (expr.Var x) = Some x.text.items
+variable_of (expr.Cell' t p a q b) = None
+variable_of (expr.Rows t) = None
+variable_of (expr.Cols t) = None
+variable_of (expr.Neg' p a place) = None
+variable_of (expr.Bin' o place p a q b) = None
+
+-- registers stand for cells as a scope has it
+abbrev pub Stand : Scope → List (ℕ × ℕ) → Type 0
+Stand scope registers =
+    (x : List ℕ) → HasVariable scope x
+    → HasCell scope x × (register_of scope x ≡ register_for registers (offset_of scope x))
+
 -- The code of the statements of main, or of a function, that stands on this.
 module _ (code : Listing) (act : Activation) where
   -- the code of an expression, which leaves its value in register `to`, and what stands behind it
-  pub record Computes (names : List (List ℕ)) (e : Expr) (r : ℕ) (instrs more : List Instr) : Type 0
+  pub record Computes (registers : List (ℕ × ℕ)) (names : List (List ℕ)) (e : Expr) (r : ℕ)
+      (instrs more : List Instr) : Type 0
     where
       pub scope : Scope
       pub sees : Sees scope names act.tables
+      pub kept : Stand scope registers
       pub inside : IsIn scope e
       pub low : r + height e ≤ MAX_EXPRESSION_HEIGHT
       pub ranged : ExprInRange e
@@ -85,16 +108,12 @@ module _ (code : Listing) (act : Activation) where
       pub body : instrs ≡ body_of scope first e r ++ more
       pub traps : AreAt code first (traps_of first e)
 
-  -- the code of an operand: none for a literal, else that of an expression
-  pub data Operand (names : List (List ℕ)) (e : Expr) (r : ℕ) : Value → List Instr → List Instr
-      → Type 0 where
-    number : {n : ℤ} {more : List Instr}
-        → literal e ≡ Some n
-        → InRange n
-        → Operand names e r (value.Int n) more more
-    computed : {instrs more : List Instr}
-        → Computes names e r instrs more
-        → Operand names e r (value.Reg r) instrs more
+  -- the cell of a variable
+  pub record IsPlace (names : List (List ℕ)) (x : List ℕ) (cell : ℕ) : Type 0 where
+    pub scope : Scope
+    pub sees : Sees scope names act.tables
+    pub inside : HasCell scope x
+    pub is : cell ≡ offset_of scope x
 
   -- the cell of a variable that is none of those at the fixed levels
   pub record IsCell (names : List (List ℕ)) (fixed : List ℕ) (x : List ℕ) (cell : ℕ) : Type 0 where
@@ -107,15 +126,34 @@ module _ (code : Listing) (act : Activation) where
     pub below : level < act.most
     pub free : AllByRecursion (λ j. j ≢ level) fixed
 
+  -- the code of an operand: none for a literal or a variable in a register, else that of an
+  -- expression
+  pub data Operand (registers : List (ℕ × ℕ)) (names : List (List ℕ)) (e : Expr) (r : ℕ) : Value
+      → List Instr → List Instr → Type 0 where
+    number : {n : ℤ} {more : List Instr}
+        → literal e ≡ Some n
+        → InRange n
+        → Operand registers names e r (value.Int n) more more
+    standing : {x : List ℕ} {cell held : ℕ} {more : List Instr}
+        → variable_of e ≡ Some x
+        → IsPlace names x cell
+        → register_for registers cell ≡ Some held
+        → Operand registers names e r (value.Reg held) more more
+    computed : {instrs more : List Instr}
+        → Computes registers names e r instrs more
+        → Operand registers names e r (value.Reg r) instrs more
+
   -- a variable that may be set
   pub record IsFreeCell (names : List (List ℕ)) (fixed : List ℕ) (x : List ℕ) : Type 0 where
     pub cell : ℕ
     pub is : IsCell names fixed x cell
 
   -- the number of a table
-  pub record IsTable (names : List (List ℕ)) (t : List ℕ) (number : ℕ) : Type 0 where
+  pub record IsTable (registers : List (ℕ × ℕ)) (names : List (List ℕ)) (t : List ℕ) (number : ℕ)
+      : Type 0 where
     pub scope : Scope
     pub sees : Sees scope names act.tables
+    pub kept : Stand scope registers
     pub inside : HasTable scope t
     pub is : number ≡ table_number scope t
 
@@ -129,7 +167,7 @@ module _ (code : Listing) (act : Activation) where
       → List Instr → Type 0 where
     no_argument : {i : ℕ} {instrs : List Instr} → Arguments names cell i [] instrs instrs
     one_argument : {i : ℕ} {e : Expr} {es : List Expr} {v : Value} {instrs second more : List Instr}
-        → Operand names e 0 v instrs (store (cell i) v ∷ second)
+        → Operand [] names e 0 v instrs (store (cell i) v ∷ second)
         → Arguments names cell (suc i) es second more
         → Arguments names cell i (e ∷ es) instrs more
 
@@ -152,28 +190,37 @@ module _ (code : Listing) (act : Activation) where
       let_code : {round : Round} {names : List (List ℕ)} {x : Name}
           {e : Expr} {v : Value} {instrs more : List Instr} {end : Term}
           → length names < act.most
-          → Operand names e 0 v instrs (store (value_cell (length names)) v ∷ more)
+          → Operand round.registers names e 0 v instrs (store (value_cell (length names)) v ∷ more)
           → Code round names (Let x e) instrs end more end
       set_code : {round : Round} {names : List (List ℕ)} {x : Name}
           {e : Expr} {v : Value} {cell : ℕ} {instrs more : List Instr} {end : Term}
           → IsCell names round.fixed x.text.items cell
-          → Operand names e 0 v instrs (store cell v ∷ more)
+          → register_for round.registers cell ≡ None
+          → Operand round.registers names e 0 v instrs (store cell v ∷ more)
+          → Code round names (Set x e) instrs end more end
+      set_register_code : {round : Round} {names : List (List ℕ)} {x : Name}
+          {e : Expr} {v : Value} {cell held : ℕ} {instrs more : List Instr} {end : Term}
+          → IsCell names round.fixed x.text.items cell
+          → register_for round.registers cell ≡ Some held
+          → Operand round.registers names e 0 v instrs (instr.Move held v ∷ more)
           → Code round names (Set x e) instrs end more end
       put_code : {round : Round} {names : List (List ℕ)} {t : Name}
           {a b e : Expr} {table trap : ℕ} {instrs second third more : List Instr} {end : Term}
-          → IsTable names t.text.items table
-          → Computes names a 0 instrs second
-          → Computes names b 1 second third
-          → Computes names e 2 third (put_tested table 0 1 2 3 trap more)
+          → IsTable round.registers names t.text.items table
+          → Computes round.registers names a 0 instrs second
+          → Computes round.registers names b 1 second third
+          → Computes round.registers names e 2 third (put_tested table 0 1 2 3 trap more)
           → AreAt code trap (trap_block trap Index t.place ∷ [])
           → Code round names (Put t a b e) instrs end more end
       put_kept_code : {round : Round} {names : List (List ℕ)} {t : Name}
           {a b e : Expr} {table trap : ℕ} {instrs second third more : List Instr} {end : Term}
           → Keeps 2
-          → IsTable names t.text.items table
-          → Computes names a 0 instrs (store (kept_cell act 0) (value.Reg 0) ∷ second)
-          → Computes names b 0 second (store (kept_cell act 1) (value.Reg 0) ∷ third)
-          → Computes names e 0 third
+          → IsTable round.registers names t.text.items table
+          → Computes round.registers names a 0 instrs
+          (store (kept_cell act 0) (value.Reg 0) ∷ second)
+          → Computes round.registers names b 0 second
+          (store (kept_cell act 1) (value.Reg 0) ∷ third)
+          → Computes round.registers names e 0 third
           (load 1 (kept_cell act 0) ∷ load 2 (kept_cell act 1)
           ∷ put_tested table 1 2 0 3 trap more)
           → AreAt code trap (trap_block trap Index t.place ∷ [])
@@ -181,7 +228,7 @@ module _ (code : Listing) (act : Activation) where
       if_code : {round : Round} {names : List (List ℕ)} {e : Expr}
           (body other : Vec Stmt Global) {first second exit : ℕ} {instrs more : List Instr}
           {end : Term}
-          → Computes names e 0 instrs (instr.IfJump 0 first ∷ [])
+          → Computes round.registers names e 0 instrs (instr.IfJump 0 first ∷ [])
           → Branch round names body.items first exit
           → Other round names other.items second exit
           → Opens code exit more end
@@ -189,18 +236,19 @@ module _ (code : Listing) (act : Activation) where
       while_code : {round : Round} {names : List (List ℕ)} {e : Expr}
           (body : Vec Stmt Global) {again exit : ℕ} {instrs inner test more : List Instr}
           {last end : Term}
-          → Computes names e 0 instrs (instr.IfJump 0 again ∷ [])
+          → Computes round.registers names e 0 instrs (instr.IfJump 0 again ∷ [])
           → Opens code again (instr.Tick ∷ inner) last
           → Codes round names body.items inner last test (to exit)
-          → Computes names e 0 test (instr.IfJump 0 again ∷ [])
+          → Computes round.registers names e 0 test (instr.IfJump 0 again ∷ [])
           → Opens code exit more end
           → Code round names (While e body) instrs (to exit) more end
       loop_code : {round : Round} {names : List (List ℕ)} {x : Name}
           {a b : Expr} (body : Vec Stmt Global) {again exit : ℕ}
           {instrs second inner more : List Instr} {last end : Term}
           → length names < act.most
-          → Computes names a 0 instrs (store (value_cell (length names)) (value.Reg 0) ∷ second)
-          → Computes names b 0 second
+          → Computes round.registers names a 0 instrs (store (value_cell (length names))
+          (value.Reg 0) ∷ second)
+          → Computes round.registers names b 0 second
           (store (bound_cell (length names)) (value.Reg 0) ∷ load 1 (value_cell (length names))
           ∷ below_test 1 (value.Reg 0) again)
           → Opens code again (instr.Tick ∷ inner) last
@@ -216,7 +264,7 @@ module _ (code : Listing) (act : Activation) where
           {instrs inner more : List Instr} {last end : Term}
           → length names < act.most
           → literal b ≡ Some n → InRange n
-          → Computes names a 0 instrs
+          → Computes round.registers names a 0 instrs
           (store (value_cell (length names)) (value.Reg 0) ∷ below_test 0 (value.Int n) again)
           → Opens code again (instr.Tick ∷ inner) last
           → Codes (loop_round round (length names)) (names ++ x.text.items ∷ []) body.items inner
@@ -227,14 +275,15 @@ module _ (code : Listing) (act : Activation) where
       quiet_par_code : {round : Round} {names : List (List ℕ)} (l : ParLoop) (site : LoopSite)
           {check first head exit : ℕ} {instrs second inner again more : List Instr}
           {last half end : Term}
+          → round.registers ≡ []
           → round.depth < MAX_PAR_NESTING
           → length names < act.most
           → list_is_quiet act.calls l.body.items ≡ true
           → AllByRecursion (λ (r : Reduce). IsFreeCell names round.fixed r.target.text.items)
           l.reduces.items
-          → Computes names l.from 0 instrs
+          → Computes [] names l.from 0 instrs
           (store (value_cell (length names)) (value.Reg 0) ∷ second)
-          → Computes names l.to 0 second
+          → Computes [] names l.to 0 second
           (store (bound_cell (length names)) (value.Reg 0) ∷ load 1 (value_cell (length names))
           ∷ instr.Calc 2 1 Lt (value.Reg 0) ∷ instr.IfJump 2 check ∷ [])
           → IsQuietSite code act names l round.depth check first exit site
@@ -246,16 +295,42 @@ module _ (code : Listing) (act : Activation) where
           l.body.items again half (next_turn (length names) head) (to (over_label site.label))
           → Opens code exit more end
           → Code round names (Par l) instrs (to exit) more end
+      leaf_par_code : {round : Round} {names : List (List ℕ)} (l : ParLoop) (site : LeafSite)
+          {check first exit : ℕ} {instrs second inner again more : List Instr}
+          {last half end : Term}
+          → round.registers ≡ []
+          → round.depth < MAX_PAR_NESTING
+          → length names < act.most
+          → list_is_quiet false l.body.items ≡ true
+          → AllByRecursion (λ (r : Reduce). IsFreeCell names round.fixed r.target.text.items)
+          l.reduces.items
+          → Computes [] names l.from 0 instrs
+          (store (value_cell (length names)) (value.Reg 0) ∷ second)
+          → Computes [] names l.to 0 second
+          (store (bound_cell (length names)) (value.Reg 0) ∷ load 1 (value_cell (length names))
+          ∷ instr.Calc 2 1 Lt (value.Reg 0) ∷ instr.IfJump 2 check ∷ [])
+          → IsLeafAt code act names l round.depth check first exit site
+          → OpensAs code (note.Ready site.label) (head_label site) (instr.Tick ∷ again) half
+          → Codes (leaf_round round names l.reduces.items site)
+          (names ++ l.var.text.items ∷ []) l.body.items again half (leaf_turn site)
+          (to (over_label (stored_loop site).label))
+          → Opens code first (instr.Tick ∷ inner) last
+          → Codes (leaf_round round names l.reduces.items site)
+          (names ++ l.var.text.items ∷ []) l.body.items inner last (leaf_turn site)
+          (to (over_label (stored_loop site).label))
+          → Opens code exit more end
+          → Code round names (Par l) instrs (to exit) more end
       deep_par_code : {round : Round} {names : List (List ℕ)} (l : ParLoop) (site : LoopSite)
           {check head turn exit : ℕ} {instrs second inner more : List Instr} {half end : Term}
+          → round.registers ≡ []
           → round.depth < MAX_PAR_NESTING
           → length names < act.most
           → list_is_quiet act.calls l.body.items ≡ false
           → AllByRecursion (λ (r : Reduce). IsFreeCell names round.fixed r.target.text.items)
           l.reduces.items
-          → Computes names l.from 0 instrs
+          → Computes [] names l.from 0 instrs
           (store (value_cell (length names)) (value.Reg 0) ∷ second)
-          → Computes names l.to 0 second
+          → Computes [] names l.to 0 second
           (store (bound_cell (length names)) (value.Reg 0) ∷ load 1 (value_cell (length names))
           ∷ instr.Calc 2 1 Lt (value.Reg 0) ∷ instr.IfJump 2 check ∷ [])
           → IsDeepSite code act act.dispatch names l round.depth check head turn exit site
@@ -268,16 +343,25 @@ module _ (code : Listing) (act : Activation) where
           {e : Expr} {o : Op} {v : Value} {cell : ℕ} {instrs more : List Instr} {end : Term}
           → operator_of round.reduces x.text.items ≡ Some o
           → IsCell names round.fixed x.text.items cell
-          → Operand names e 0 v instrs
+          → register_for round.registers cell ≡ None
+          → Operand round.registers names e 0 v instrs
           (load 1 cell ∷ instr.Calc 1 1 (alu_of o) v ∷ store cell (value.Reg 1) ∷ more)
+          → Code round names (Fold x e) instrs end more end
+      fold_register_code : {round : Round} {names : List (List ℕ)} {x : Name}
+          {e : Expr} {o : Op} {v : Value} {cell held : ℕ} {instrs more : List Instr} {end : Term}
+          → operator_of round.reduces x.text.items ≡ Some o
+          → IsCell names round.fixed x.text.items cell
+          → register_for round.registers cell ≡ Some held
+          → Operand round.registers names e 0 v instrs (instr.Calc held held (alu_of o) v ∷ more)
           → Code round names (Fold x e) instrs end more end
       fold_nothing_code : {round : Round} {names : List (List ℕ)}
           {x : Name} {e : Expr} {instrs more : List Instr} {end : Term}
           → operator_of round.reduces x.text.items ≡ None
-          → Computes names e 0 instrs more
+          → Computes round.registers names e 0 instrs more
           → Code round names (Fold x e) instrs end more end
       call_code : {round : Round} {names : List (List ℕ)} {x : Name}
           {f : App} {entry : Entry} {cell : ℕ} {arguments test more : List Instr} {last end : Term}
+          → round.registers ≡ []
           → entry_of act.functions f.callee.text.items ≡ Some entry
           → length f.args.items ≡ entry.parameters
           → IsCell names round.fixed x.text.items cell
@@ -287,6 +371,7 @@ module _ (code : Listing) (act : Activation) where
       both_code : {round : Round} {names : List (List ℕ)} {x y : Name}
           {f g : App} (first second : Entry) (site : CallSite) {x_cell y_cell : ℕ}
           {arguments others begins more : List Instr} {last end : Term}
+          → round.registers ≡ []
           → Keeps kept_by_both
           → entry_of act.functions f.callee.text.items ≡ Some first
           → length f.args.items ≡ first.parameters
@@ -306,11 +391,11 @@ module _ (code : Listing) (act : Activation) where
           → Code round names (Both x f y g) (instr.Salloc first.size ∷ arguments) last more end
       print_code : {round : Round} {names : List (List ℕ)} {place : Place}
           {e : Expr} {instrs more : List Instr} {end : Term}
-          → Computes names e 0 instrs (instr.Print 0 ∷ more)
+          → Computes round.registers names e 0 instrs (instr.Print 0 ∷ more)
           → Code round names (Print place e) instrs end more end
       emit_code : {round : Round} {names : List (List ℕ)} {place : Place}
           {t : Name} {table : ℕ} {more : List Instr} {end : Term}
-          → IsTable names t.text.items table
+          → IsTable round.registers names t.text.items table
           → Code round names (Emit place t) (instr.Emit table ∷ more) end more end
 
     -- the code of statements in order

@@ -1,8 +1,8 @@
 -- What the code of statements asks of them: their variables and tables are visible, none
 -- is set that is fixed there, and there is room for those that they declare. What the code of a
 -- program asks of it.
-use Rattle.std.specs.Prelude.{◌≡◌, ◌≢◌, ℕ, suc, ◌+◌, ◌<◌, ◌≤◌, cond, IsTrue, ⊤, List, [], ◌∷◌, ◌++◌}
-use Rattle.std.specs.Prelude.{length, map, bytes_eq, Some}
+use Rattle.std.specs.Prelude.{◌≡◌, ◌≢◌, ℕ, ◌+◌, ◌<◌, ◌≤◌, IsTrue, ⊤, List, [], ◌∷◌, ◌++◌}
+use Rattle.std.specs.Prelude.{false, length, map, bytes_eq, Some}
 use Rattle.std.specs.List.{AllByRecursion, IsDistinct}
 use Rattle.tp_value.specs.declared.limits.TheConstants.{MAX_TABLES, MAX_PARAMETERS}
 use Rattle.tp_value.specs.declared.limits.TheConstants.{MAX_CARRIES, MAX_PAR_NESTING}
@@ -26,14 +26,10 @@ use Rattle.loop_rules.specs.Sites.{tables_of}
 use Rattle.block_lower.specs.Heights.{AllAreLow, FuncIsLow, DeclIsLow}
 use Rattle.block_lower.specs.Layout.{Entry, entry_of}
 use Rattle.block_lower.specs.Names.{names_after, names_after_list}
+pub use Rattle.block_lower.specs.Names.{level_of}
 use Rattle.block_lower.specs.Round.{Round, outermost, loop_round, par_round}
 use Rattle.block_lower.specs.Sites.{carried_table}
 use Rattle.frame_machine.specs.Lawful.{Distinct, DistinctTargets}
-
--- how many variables stand before the first one of that name
-abbrev pub level_of : List (List ℕ) → List ℕ → ℕ
-level_of [] x = 0
-level_of (y ∷ ys) x = cond (bytes_eq y x) 0 (suc (level_of ys x))
 
 -- the variables and tables of an expression are among these tables and these variables
 abbrev pub IsVisible : List (List ℕ) → List (List ℕ) → Expr → Type 0
@@ -101,6 +97,7 @@ module _ (tables : List (List ℕ)) (functions : List Entry) (most : ℕ) where
         × IsVisible tables names b
         × FitInRow (par_round round names reduces.items) (names ++ x.text.items ∷ []) body
         × CanBeCut names round.fixed reduces.items carries.items
+        × (is_in names x.text.items ≡ false)
     Fits round names (Fold x e) = IsFree names round.fixed x.text.items × IsVisible tables names e
     Fits round names (Call x f) = IsFree names round.fixed x.text.items × IsCall names f
     Fits round names (Both x f y g) =

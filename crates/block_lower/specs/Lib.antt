@@ -4,10 +4,10 @@
 pub mod Count
 -- where the words of an activation stand
 pub mod Layout
--- which variables and tables are visible where
-pub mod Names
 -- what stands round a statement
 pub mod Round
+-- which variables and tables are visible where
+pub mod Names
 -- which block stands at a label, and the instructions that stand in most blocks
 pub mod Opening
 -- the site of a `par`
@@ -16,6 +16,8 @@ pub mod Sites
 pub mod Marked
 -- the code of a `par` in whose body promotion points may be reached
 pub mod DeepMarked
+-- the code of a leaf loop, round its iterations
+pub mod LeafMarked
 -- the instructions of a call
 pub mod Calling
 -- the code of two calls that can be cut

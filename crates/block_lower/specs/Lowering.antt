@@ -1,16 +1,21 @@
 -- What is promised of writing the code of expressions and statements: wherever what is written at
 -- the end stands in a code, what was written before goes on there with the code of the expression
 -- or the statement.
-use Rattle.std.specs.Prelude.{◌≡◌, ℕ, ◌+◌, ℤ, true, List, [], ◌∷◌, ◌++◌, length, Some, Vec}
+use Rattle.std.specs.Prelude.{◌≡◌, ℕ, ◌+◌, ℤ, true, false, List, [], ◌∷◌, ◌++◌, length}
+use Rattle.std.specs.Prelude.{Some, Vec, map}
 use Rattle.std.specs.List.{list_any}
 use Rattle.std.specs.declared.alloc.Global.{Global}
-use Rattle.handler_gen.specs.Registers.{back_register}
+use Rattle.handler_gen.specs.LeafBlocks.{leaf_handler_blocks, start_block}
+use Rattle.handler_gen.specs.LeafSites.{start_label, stored_loop}
+use Rattle.handler_gen.specs.Registers.{back_register, leaf_cursor, leaf_first_acc}
 use Rattle.loop_syntax.specs.declared.Expr.{Expr}
 use Rattle.loop_syntax.specs.declared.ParLoop.{ParLoop}
+use Rattle.loop_syntax.specs.declared.Reduce.{Reduce}
 use Rattle.loop_syntax.specs.declared.Stmt.{Stmt}
 use Rattle.loop_syntax.specs.declared.Stmt.TheVariants.{Par}
 use Rattle.tp_value.specs.declared.Place.{Place}
 use Rattle.tp_value.specs.declared.TrapKind.TheVariants.{Index, Wide}
+use Rattle.tpal_syntax.specs.declared.instructions.Alu.{Alu}
 use Rattle.tpal_syntax.specs.declared.instructions.Alu.TheVariants.{Lt}
 use Rattle.tpal_syntax.specs.declared.instructions.Instr.{Instr}
 use Rattle.tpal_syntax.specs.declared.instructions.Instr.TheVariants.{Tick, Calc, IfJump}
@@ -20,6 +25,7 @@ use Rattle.tpal_syntax.specs.declared.instructions.Value.{Value}
 use Rattle.tpal_syntax.specs.declared.instructions.Value.TheVariants as value
 use Rattle.tpal_syntax.specs.declared.notes.Note.TheVariants.{Ready}
 use Rattle.tpal_syntax.specs.declared.sites.CallSite.{CallSite}
+use Rattle.tpal_syntax.specs.declared.sites.LeafSite.{LeafSite}
 use Rattle.tpal_syntax.specs.declared.sites.LoopSite.{LoopSite}
 use Rattle.tpal_syntax.specs.Listing.{Listing}
 use Rattle.expr_lower.specs.declared.scope.Scope.{Scope}
@@ -45,10 +51,12 @@ use Rattle.block_lower.specs.Code.{step_up, put_tested}
 use Rattle.block_lower.specs.DeepMarked.{IsDeepSite, last_begun, next_begun}
 use Rattle.block_lower.specs.Fitting.{IsVisible, AreVisible, Fits, AllFit}
 use Rattle.block_lower.specs.Layout.{value_cell, bound_cell, kept_cell, Entry, Activation}
+use Rattle.block_lower.specs.LeafMarked.{IsLeafAt, leaf_turn}
 use Rattle.block_lower.specs.Marked.{length_test, marked_begin, unmark, side_test, IsQuietSite}
-use Rattle.block_lower.specs.Names.{Sees}
+use Rattle.block_lower.specs.Names.{Sees, SeesAs, StandFor}
 use Rattle.block_lower.specs.Pairs.{IsPair, call_enters, call_site, pair_begins, pair_joined}
 use Rattle.block_lower.specs.Pairs.{second_call}
+use Rattle.block_lower.specs.Quiet.{list_is_quiet}
 use Rattle.block_lower.specs.Round.{Round}
 use Rattle.block_lower.specs.Sites.{rows_from}
 use Rattle.block_lower.specs.Sizes.{has_row}
@@ -61,6 +69,11 @@ pub record IsRound (round : Round) (as_told : told.Round) : Type 0 where
   pub reduces : round.reduces ≡ as_told.reduces.now
   pub depth : round.depth ≡ as_told.depth
 
+-- statements that are run while variables of a scope stand in registers: no point of promotion can
+-- be reached in them, in a call neither
+abbrev pub AreStill : Scope → List Stmt → Type 0
+AreStill scope ss = list_is_quiet false ss ≡ false → scope.regs.items ≡ []
+
 -- statements fit in a body, where a scope is visible and this stands round them
 pub record FitsIn (on : Body) (scope : Scope) (as_told : told.Round) (ss : List Stmt) : Type 0
   where
@@ -70,6 +83,7 @@ pub record FitsIn (on : Body) (scope : Scope) (as_told : told.Round) (ss : List 
     pub is_round : IsRound round as_told
     pub sees : Sees scope names tables
     pub fits : AllFit tables (entries on.callees.items) on.most round names ss
+    pub still : AreStill scope ss
 
 -- the same of the body of a loop over a variable that isn't visible yet
 pub record FitsInside (on : Body) (scope : Scope) (as_told : told.Round) (x : List ℕ)
@@ -80,30 +94,40 @@ pub record FitsInside (on : Body) (scope : Scope) (as_told : told.Round) (x : Li
   pub is_round : IsRound round as_told
   pub sees : Sees scope names tables
   pub fits : AllFit tables (entries on.callees.items) on.most round (names ++ x ∷ []) ss
+  pub still : AreStill scope ss
 
 -- ---- expressions
 
 -- the value of an expression was left in a register
 abbrev pub WritesValue : Scope → Expr → ℕ → Output → Output → Type 0
 WritesValue scope e r old new =
-    (code : Listing) (act : Activation) (names : List (List ℕ)) (more : List Instr) (last : Term)
-    → Sees scope names act.tables → IsVisible act.tables names e → Continues code new more last
-    → Leads code old (λ instrs end. (end ≡ last) × Computes code act names e r instrs more)
+    (code : Listing) (act : Activation) (names : List (List ℕ)) (registers : List (ℕ × ℕ))
+    (more : List Instr) (last : Term)
+    → SeesAs scope names act.tables registers
+    → IsVisible act.tables names e
+    → Continues code new more last
+    → Leads code old
+    (λ instrs end. (end ≡ last) × Computes code act registers names e r instrs more)
 
 -- the value of an expression is an operand
 abbrev pub WritesOperand : Scope → Expr → ℕ → Value → Output → Output → Type 0
 WritesOperand scope e r v old new =
-    (code : Listing) (act : Activation) (names : List (List ℕ)) (more : List Instr) (last : Term)
-    → Sees scope names act.tables → IsVisible act.tables names e → Continues code new more last
-    → Leads code old (λ instrs end. (end ≡ last) × Operand code act names e r v instrs more)
+    (code : Listing) (act : Activation) (names : List (List ℕ)) (registers : List (ℕ × ℕ))
+    (more : List Instr) (last : Term)
+    → SeesAs scope names act.tables registers
+    → IsVisible act.tables names e
+    → Continues code new more last
+    → Leads code old
+    (λ instrs end. (end ≡ last) × Operand code act registers names e r v instrs more)
 
 -- a test that goes on at one of two labels was written, and its block closed
 abbrev pub WritesTest : Scope → Expr → ℕ → ℕ → Output → Output → Type 0
 WritesTest scope e first second old new =
-    (code : Listing) (act : Activation) (names : List (List ℕ))
-    → Sees scope names act.tables → IsVisible act.tables names e → Stands code new
+    (code : Listing) (act : Activation) (names : List (List ℕ)) (registers : List (ℕ × ℕ))
+    → SeesAs scope names act.tables registers → IsVisible act.tables names e → Stands code new
     → Leads code old
-    (λ instrs end. (end ≡ to second) × Computes code act names e 0 instrs (IfJump 0 first ∷ []))
+    (λ instrs end. (end ≡ to second)
+    × Computes code act registers names e 0 instrs (IfJump 0 first ∷ []))
 
 -- the test of a `loop` was written, and its block closed
 abbrev pub WritesBelow : ℕ → Value → ℕ → ℕ → Output → Output → Type 0
@@ -115,44 +139,46 @@ WritesBelow counter bound again exit old new =
 -- the begin of a `loop` up to a number was written, and its block closed
 abbrev pub WritesStart : Scope → Expr → ℤ → ℕ → ℕ → Output → Output → Type 0
 WritesStart scope a n again exit old new =
-    (code : Listing) (act : Activation) (names : List (List ℕ))
-    → Sees scope names act.tables → IsVisible act.tables names a → Stands code new
+    (code : Listing) (act : Activation) (names : List (List ℕ)) (registers : List (ℕ × ℕ))
+    → SeesAs scope names act.tables registers → IsVisible act.tables names a → Stands code new
     → Leads code old
     (λ instrs end. (end ≡ to exit)
-    × Computes code act names a 0 instrs
+    × Computes code act registers names a 0 instrs
     (store (value_cell (length names)) (value.Reg 0) ∷ below_test 0 (value.Int n) again))
 
 -- instructions that store the two bounds of a loop, with the first one in register 1 and the other
 -- in register 0
-pub record AreBounds (code : Listing) (act : Activation) (names : List (List ℕ)) (a b : Expr)
-    (instrs more : List Instr) : Type 0 where
+pub record AreBounds (code : Listing) (act : Activation) (registers : List (ℕ × ℕ))
+    (names : List (List ℕ)) (a b : Expr) (instrs more : List Instr) : Type 0 where
   pub second : List Instr
-  pub from : Computes code act names a 0 instrs
+  pub from : Computes code act registers names a 0 instrs
       (store (value_cell (length names)) (value.Reg 0) ∷ second)
-  pub to : Computes code act names b 0 second
+  pub to : Computes code act registers names b 0 second
       (store (bound_cell (length names)) (value.Reg 0) ∷ load 1 (value_cell (length names)) ∷ more)
 
 -- the bounds of a loop were stored
 abbrev pub WritesBounds : Scope → Expr → Expr → Output → Output → Type 0
 WritesBounds scope a b old new =
-    (code : Listing) (act : Activation) (names : List (List ℕ)) (more : List Instr) (last : Term)
-    → Sees scope names act.tables
+    (code : Listing) (act : Activation) (names : List (List ℕ)) (registers : List (ℕ × ℕ))
+    (more : List Instr) (last : Term)
+    → SeesAs scope names act.tables registers
     → IsVisible act.tables names a
     → IsVisible act.tables names b
     → Continues code new more last
-    → Leads code old (λ instrs end. (end ≡ last) × AreBounds code act names a b instrs more)
+    → Leads code old
+    (λ instrs end. (end ≡ last) × AreBounds code act registers names a b instrs more)
 
 -- the begin of a `loop` up to the value of an expression was written, and its block closed
 abbrev pub WritesBoundedStart : Scope → Expr → Expr → ℕ → ℕ → Output → Output → Type 0
 WritesBoundedStart scope a b again exit old new =
-    (code : Listing) (act : Activation) (names : List (List ℕ))
-    → Sees scope names act.tables
+    (code : Listing) (act : Activation) (names : List (List ℕ)) (registers : List (ℕ × ℕ))
+    → SeesAs scope names act.tables registers
     → IsVisible act.tables names a
     → IsVisible act.tables names b
     → Stands code new
     → Leads code old
     (λ instrs end. (end ≡ to exit)
-    × AreBounds code act names a b instrs (below_test 1 (value.Reg 0) again))
+    × AreBounds code act registers names a b instrs (below_test 1 (value.Reg 0) again))
 
 -- the begin of a `loop` was written, whose bound is as told
 abbrev pub BeginsLoop : Scope → Expr → Expr → Bound → ℕ → ℕ → Output → Output → Type 0
@@ -196,7 +222,7 @@ pub record IsParBegun (code : Listing) (act : Activation) (names : List (List �
     (check exit : ℕ) (old : Output) (more : List Instr) (last : Term) : Type 0 where
   pub leads : Leads code old
       (λ instrs end. (end ≡ to exit)
-      × AreBounds code act names l.from l.to instrs
+      × AreBounds code act [] names l.from l.to instrs
       (Calc 2 1 Lt (value.Reg 0) ∷ IfJump 2 check ∷ []))
   pub tests : Opens code check (length_test (check + 1) more) last
 
@@ -204,7 +230,7 @@ pub record IsParBegun (code : Listing) (act : Activation) (names : List (List �
 abbrev pub BeginsPar : Scope → ParLoop → ℕ → ℕ → Output → Output → Type 0
 BeginsPar scope l check exit old new =
     (code : Listing) (act : Activation) (names : List (List ℕ)) (more : List Instr) (last : Term)
-    → Sees scope names act.tables
+    → SeesAs scope names act.tables []
     → IsVisible act.tables names l.from
     → IsVisible act.tables names l.to
     → Continues code new more last
@@ -249,7 +275,7 @@ pub record IsQuietBegun (code : Listing) (act : Activation) (names : List (List 
     (depth first exit : ℕ) (turns : Turns) (instrs : List Instr) : Type 0 where
   pub site : LoopSite
   pub check : ℕ
-  pub bounds : AreBounds code act names l.from l.to instrs
+  pub bounds : AreBounds code act [] names l.from l.to instrs
       (Calc 2 1 Lt (value.Reg 0) ∷ IfJump 2 check ∷ [])
   pub is_site : IsQuietSite code act names l depth check first exit site
   pub over : turns.exit ≡ over_label site.label
@@ -259,12 +285,93 @@ abbrev pub BeginsQuiet : Body → told.Round → Scope → ParLoop → Turns →
 BeginsQuiet on as_told scope l turns exit old new =
     (code : Listing) (tables names : List (List ℕ)) (round : Round)
     → IsRound round as_told
-    → Sees scope names tables
+    → SeesAs scope names tables []
     → Fits tables (entries on.callees.items) on.most round names (Par l)
     → Stands code new
     → Leads code old
     (λ instrs end. (end ≡ to exit)
     × IsQuietBegun code (activation on tables) names l round.depth (label new) exit turns instrs)
+
+-- ---- leaf loops
+
+-- the variables that are reduced, each with its register, where the first one has a register
+abbrev pub held_from : ℕ → List Reduce → List (List ℕ × ℕ)
+held_from r [] = []
+held_from r (x ∷ xs) = (x.target.text.items, r) ∷ held_from (r + 1) xs
+
+-- the variables of a leaf loop, each with its register
+abbrev pub held_by : ParLoop → List (List ℕ × ℕ)
+held_by l = (l.var.text.items, leaf_cursor) ∷ held_from leaf_first_acc l.reduces.items
+
+-- these variables stand in registers, each in its own
+abbrev pub AreHeld : List (Vec ℕ Global × ℕ) → List (List ℕ × ℕ) → Type 0
+AreHeld regs held = map (λ (r : Vec ℕ Global × ℕ). (r.0.items, r.1)) regs ≡ held
+
+-- the site of a leaf loop, which is that of a loop with another kind of handler
+abbrev pub leaf_of : LoopSite → LeafSite
+leaf_of site =
+    record {
+      label = site.label;
+      cells = site.cells;
+      cursor = site.cursor;
+      bound = site.bound;
+      rec = site.rec;
+      mark = site.mark;
+      accs = site.accs;
+      carries = site.carries;
+    }
+
+-- the blocks of a leaf loop round its iterations, the first of which is at a label
+pub record IsRoundLeaf (code : Listing) (scope : Scope) (l : ParLoop) (site : LeafSite)
+    (first exit : ℕ) : Type 0 where
+  pub handler : AreAt code site.label (leaf_handler_blocks site)
+  pub join : AreAt code (target_label (stored_loop site).label)
+      (loop_join_blocks (stored_loop site))
+  pub start : AreAt code (start_label site) (start_block site first ∷ [])
+  pub over : Opens code (over_label (stored_loop site).label)
+      (unmark (stored_loop site) ∷ side_test (stored_loop site) exit)
+      (to (side_label (stored_loop site).label))
+  pub none : Opens code (none_label (stored_loop site).label) []
+      (to (over_label (stored_loop site).label))
+  pub rows : list_any has_row l.carries.items ≡ true
+      → Opens code (prep_label (stored_loop site).label) (rows_from scope 0 l.carries.items)
+      (to (stored_loop site).label)
+
+-- they were written
+abbrev pub WritesLeafSite : Scope → ParLoop → LeafSite → ℕ → ℕ → Output → Output → Type 0
+WritesLeafSite scope l site first exit old new =
+    (code : Listing) → Stands code new
+    → Stands code old × IsRoundLeaf code scope l site first exit
+
+-- instructions that begin a leaf loop
+pub record IsLeafBegun (code : Listing) (act : Activation) (names : List (List ℕ)) (l : ParLoop)
+    (depth first exit : ℕ) (site : LeafSite) (instrs : List Instr) : Type 0 where
+  pub check : ℕ
+  pub bounds : AreBounds code act [] names l.from l.to instrs
+      (Calc 2 1 Lt (value.Reg 0) ∷ IfJump 2 check ∷ [])
+  pub is_leaf : IsLeafAt code act names l depth check first exit site
+
+-- the begin of a leaf loop was written; the open block is that of its promotion point
+abbrev pub BeginsLeaf : Body → told.Round → Scope → ParLoop → LeafSite → ℕ → ℕ → Output → Output
+    → Type 0
+BeginsLeaf on as_told scope l site first exit old new =
+    (code : Listing) (tables names : List (List ℕ)) (round : Round)
+    → IsRound round as_told
+    → SeesAs scope names tables []
+    → Fits tables (entries on.callees.items) on.most round names (Par l)
+    → Stands code new
+    → Leads code old
+    (λ instrs end. (end ≡ to exit)
+    × IsLeafBegun code (activation on tables) names l round.depth first exit site instrs)
+
+-- what comes behind an iteration of a leaf loop was written, and its block closed
+abbrev pub EndsLeaf : LeafSite → Output → Output → Type 0
+EndsLeaf site old new =
+    (code : Listing)
+    → Stands code new
+    → Continues code old (leaf_turn site) (to (over_label (stored_loop site).label))
+
+-- ---- other loops that can be cut
 
 -- the begin of an iteration of a `par` that isn't quiet was written, where the two labels behind
 -- the one at which it goes on are told, and its block closed
@@ -304,7 +411,7 @@ pub record IsDeepBegun (code : Listing) (act : Activation) (dispatch : ℕ) (nam
     (l : ParLoop) (depth head exit : ℕ) (instrs : List Instr) : Type 0 where
   pub site : LoopSite
   pub check : ℕ
-  pub bounds : AreBounds code act names l.from l.to instrs
+  pub bounds : AreBounds code act [] names l.from l.to instrs
       (Calc 2 1 Lt (value.Reg 0) ∷ IfJump 2 check ∷ [])
   pub is_site : IsDeepSite code act dispatch names l depth check head (head + 2) exit site
 
@@ -313,14 +420,19 @@ abbrev pub BeginsDeep : Body → told.Round → Scope → ParLoop → ℕ → �
 BeginsDeep on as_told scope l head exit old new =
     (code : Listing) (tables names : List (List ℕ)) (round : Round)
     → IsRound round as_told
-    → Sees scope names tables
+    → SeesAs scope names tables []
     → Fits tables (entries on.callees.items) on.most round names (Par l)
     → Stands code new
     → Leads code old
     (λ instrs end. (end ≡ to exit)
     × IsDeepBegun code (activation on tables) on.dispatch names l round.depth head exit instrs)
 
--- ---- tables
+-- ---- variables and tables
+
+-- the instructions by which a cell gets what an operator makes of it and a value
+abbrev pub folded_in_cell : ℕ → Alu → Value → List Instr
+folded_in_cell cell alu v =
+    load 1 cell ∷ Calc 1 1 alu v ∷ store cell (value.Reg 1) ∷ []
 
 -- the write of a cell was written, with the tests of its row and its column
 abbrev pub WritesPut : ℕ → ℕ → ℕ → ℕ → Place → Output → Output → Type 0
@@ -335,7 +447,9 @@ WritesPut table row col number place old new =
 abbrev pub WritesArguments : Scope → List Expr → (ℕ → ℕ) → Output → Output → Type 0
 WritesArguments scope es cell old new =
     (code : Listing) (act : Activation) (names : List (List ℕ)) (more : List Instr) (last : Term)
-    → Sees scope names act.tables → AreVisible act.tables names es → Continues code new more last
+    → SeesAs scope names act.tables []
+    → AreVisible act.tables names es
+    → Continues code new more last
     → Leads code old (λ instrs end. (end ≡ last) × Arguments code act names cell 0 es instrs more)
 
 -- instructions that store the arguments of two calls: those of the first as its parameters, the
@@ -350,7 +464,7 @@ pub record AreBothArguments (code : Listing) (act : Activation) (names : List (L
 abbrev pub WritesBothArguments : Body → Scope → List Expr → List Expr → Output → Output → Type 0
 WritesBothArguments on scope fs gs old new =
     (code : Listing) (tables names : List (List ℕ)) (more : List Instr) (last : Term)
-    → Sees scope names tables
+    → SeesAs scope names tables []
     → AreVisible tables names fs
     → AreVisible tables names gs
     → Continues code new more last
@@ -425,7 +539,7 @@ Lowers on as_told scope s old new =
     (code : Listing) (tables names : List (List ℕ)) (round : Round) (more : List Instr)
     (last : Term)
     → IsRound round as_told
-    → Sees scope names tables
+    → SeesAs scope names tables round.registers
     → Fits tables (entries on.callees.items) on.most round names s
     → Continues code new more last
     → Leads code old
@@ -441,7 +555,7 @@ LowersAll on as_told scope ss old new =
     (code : Listing) (tables names : List (List ℕ)) (round : Round) (more : List Instr)
     (last : Term)
     → IsRound round as_told
-    → Sees scope names tables
+    → SeesAs scope names tables round.registers
     → AllFit tables (entries on.callees.items) on.most round names ss
     → Continues code new more last
     → Leads code old
@@ -453,7 +567,7 @@ abbrev pub LowersBranch : Body → told.Round → Scope → List Stmt → ℕ �
 LowersBranch on as_told scope body exit old new =
     (code : Listing) (tables names : List (List ℕ)) (round : Round)
     → IsRound round as_told
-    → Sees scope names tables
+    → SeesAs scope names tables round.registers
     → AllFit tables (entries on.callees.items) on.most round names body
     → Stands code new
     → Stands code old × Branch code (activation on tables) round names body (label old) exit
@@ -463,7 +577,7 @@ abbrev pub LowersOther : Body → told.Round → Scope → List Stmt → ℕ →
 LowersOther on as_told scope body exit old new =
     (code : Listing) (tables names : List (List ℕ)) (round : Round)
     → IsRound round as_told
-    → Sees scope names tables
+    → SeesAs scope names tables round.registers
     → AllFit tables (entries on.callees.items) on.most round names body
     → Stands code new
     → exit ≡ label new
@@ -479,6 +593,21 @@ pub record IsBodyAt (code : Listing) (act : Activation) (round : Round)
   pub opens : OpensAs code out.note (label out) (Tick ∷ instrs) end
   pub codes : Codes code act round names body instrs end more last
 
+-- an iteration of a leaf loop was written, for what stands round its body, and its block closed
+abbrev pub WritesLeafTurn : Body → told.Round → Scope → ParLoop → LeafSite → Output → Output
+    → Type 0
+WritesLeafTurn on as_told scope l site old new =
+    (code : Listing) (tables names : List (List ℕ)) (round : Round)
+    → IsRound round as_told
+    → Sees scope names tables
+    → ((regs : List (Vec ℕ Global × ℕ)) → AreHeld regs (held_by l)
+    → StandFor (names ++ l.var.text.items ∷ []) regs round.registers)
+    → AllFit tables (entries on.callees.items) on.most round (names ++ l.var.text.items ∷ [])
+    l.body.items
+    → Stands code new
+    → IsBodyAt code (activation on tables) round (names ++ l.var.text.items ∷ []) l.body.items old
+    (leaf_turn site) (to (over_label (stored_loop site).label))
+
 -- the body of a loop over a variable was written, for what stands round that body
 abbrev pub LowersBody : Body → told.Round → Scope → List ℕ → List Stmt → Output → Output → Type 0
 LowersBody on as_told scope x body old new =
@@ -486,6 +615,7 @@ LowersBody on as_told scope x body old new =
     (last : Term)
     → IsRound round as_told
     → Sees scope names tables
+    → StandFor (names ++ x ∷ []) scope.regs.items round.registers
     → AllFit tables (entries on.callees.items) on.most round (names ++ x ∷ []) body
     → Continues code new more last
     → IsBodyAt code (activation on tables) round (names ++ x ∷ []) body old more last

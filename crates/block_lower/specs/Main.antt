@@ -44,17 +44,17 @@ pub data Makes (code : Listing) (act : Activation) : List (List ℕ) → List Ta
       → Makes code act seen (Input x ∷ ds) instrs more
   made_table : {seen : List (List ℕ)} {x : Name} {a b : Expr} {ds : List TableDecl}
       {instrs second third more : List Instr}
-      → Computes code (record act { tables = seen }) [] a 0 instrs second
-      → Computes code (record act { tables = seen }) [] b 1 second
+      → Computes code (record act { tables = seen }) [] [] a 0 instrs second
+      → Computes code (record act { tables = seen }) [] [] b 1 second
       (instr.Make (length seen) 0 1 x.place ∷ third)
       → Makes code act (seen ++ x.text.items ∷ []) ds third more
       → Makes code act seen (Made x a b ∷ ds) instrs more
   made_kept_table : {seen : List (List ℕ)} {x : Name} {a b : Expr} {ds : List TableDecl}
       {instrs second third more : List Instr}
       → kept_cell act 1 ≤ act.size
-      → Computes code (record act { tables = seen }) [] a 0 instrs
+      → Computes code (record act { tables = seen }) [] [] a 0 instrs
       (store (kept_cell act 0) (value.Reg 0) ∷ second)
-      → Computes code (record act { tables = seen }) [] b 0 second
+      → Computes code (record act { tables = seen }) [] [] b 0 second
       (load 1 (kept_cell act 0) ∷ instr.Make (length seen) 1 0 x.place ∷ third)
       → Makes code act (seen ++ x.text.items ∷ []) ds third more
       → Makes code act seen (Made x a b ∷ ds) instrs more
@@ -72,7 +72,7 @@ pub record IsFunction (code : Listing) (act : Activation) (f : Func) (label : �
   pub begins : Opens code label instrs end
   pub statements : Codes code act outermost (texts f.params.items) f.body.items instrs end last
       (term.Jump (value.Reg 1))
-  pub value : Computes code act (names_after_list (texts f.params.items) f.body.items) f.result 0
+  pub value : Computes code act [] (names_after_list (texts f.params.items) f.body.items) f.result 0
       last (load 1 return_cell ∷ [])
 
 -- what the activations of a program have in common

@@ -1,11 +1,16 @@
--- Which variables and tables are visible where, and which cells a scope gives them.
-use Rattle.std.specs.Prelude.{◌≡◌, ℕ, suc, ⊤, List, [], ◌∷◌, ◌++◌, map, Vec}
+-- Which variables and tables are visible where, which cells a scope gives them, and which of them
+-- stand in registers.
+use Rattle.std.specs.Prelude.{◌≡◌, ℕ, suc, ◌≤◌, cond, IsTrue, ⊤, List, [], ◌∷◌, ◌++◌, map, length}
+use Rattle.std.specs.Prelude.{bytes_eq, None, Vec}
 use Rattle.std.specs.declared.alloc.Global.{Global}
+use Rattle.loop_rules.specs.Names.{is_in}
 use Rattle.loop_syntax.specs.declared.Stmt.{Stmt}
 use Rattle.loop_syntax.specs.declared.Stmt.TheVariants.{Let, Set, Put, If', While', Loop', Par'}
 use Rattle.loop_syntax.specs.declared.Stmt.TheVariants.{Fold, Call, Both, Print, Emit}
 use Rattle.expr_lower.specs.declared.scope.Scope.{Scope}
+use Rattle.expr_lower.specs.Scopes.{has_cell_in, register_in}
 use Rattle.block_lower.specs.Layout.{value_cell}
+use Rattle.block_lower.specs.Round.{register_for}
 
 -- each variable has the cell of its level
 abbrev pub AreLaid : ℕ → List (Vec ℕ Global × ℕ) → Type 0
@@ -18,10 +23,36 @@ names_of scope = map (λ (c : Vec ℕ Global × ℕ). c.0.items) scope.cells.ite
 
 -- a scope has just these variables and tables, in this order, and each variable stands in its cell
 pub record Sees (scope : Scope) (names tables : List (List ℕ)) : Type 0 where
-  pub bare : scope.regs.items ≡ []
   pub named : names_of scope ≡ names
   pub laid : AreLaid 0 scope.cells.items
   pub listed : map (λ (t : Vec ℕ Global). t.items) scope.tables.items ≡ tables
+
+-- the same, and none of its variables stands in a register
+pub record SeesBare (scope : Scope) (names tables : List (List ℕ)) : Type 0 where
+  pub sees : Sees scope names tables
+  pub bare : scope.regs.items ≡ []
+
+-- how many variables stand before the first one of that name
+abbrev pub level_of : List (List ℕ) → List ℕ → ℕ
+level_of [] x = 0
+level_of (y ∷ ys) x = cond (bytes_eq y x) 0 (suc (level_of ys x))
+
+-- Where these variables are visible, those stand in registers for whose cells registers stand, and
+-- no others do.
+pub record StandFor (names : List (List ℕ)) (regs : List (Vec ℕ Global × ℕ))
+    (registers : List (ℕ × ℕ)) : Type 0 where
+  pub are : (x : List ℕ) → IsTrue (is_in names x)
+      → register_in regs x ≡ register_for registers (value_cell (level_of names x))
+  pub seen : (x : List ℕ) → IsTrue (has_cell_in regs x) → IsTrue (is_in names x)
+  pub others : (level : ℕ) → length names ≤ level
+      → register_for registers (value_cell level) ≡ None
+  pub bare : regs ≡ [] → registers ≡ []
+
+-- a scope has just these variables and tables, and registers stand for these cells
+pub record SeesAs (scope : Scope) (names tables : List (List ℕ)) (registers : List (ℕ × ℕ))
+    : Type 0 where
+  pub sees : Sees scope names tables
+  pub stand : StandFor names scope.regs.items registers
 
 -- a scope has the same tables as before, and so many of the variables as told of those before
 abbrev pub SeesAfter : (List (List ℕ) → List (List ℕ)) → Scope → Scope → Type 0

@@ -21,7 +21,7 @@ use Rattle.block_lower.specs.Fitting.{IsVisible, AllFit, DeclsFit}
 use Rattle.block_lower.specs.Code.{Codes, store}
 use Rattle.block_lower.specs.Layout.{value_cell, levels_cell, Entry, Activation}
 use Rattle.block_lower.specs.Main.{IsFunction, Makes, table_name}
-use Rattle.block_lower.specs.Names.{Sees, names_after_list}
+use Rattle.block_lower.specs.Names.{SeesBare, names_after_list}
 use Rattle.block_lower.specs.Quiet.{functions_are_quiet}
 use Rattle.block_lower.specs.Round.{outermost}
 use Rattle.block_lower.specs.Sizes.{added_by_list, added_by_func, added_by_decls, declared_by_list}
@@ -73,14 +73,14 @@ pub record FuncFitsIn (tables : List (List ℕ)) (functions : List Entry) (f : F
 -- functions fit in a body, where a scope is visible
 pub record FuncsFitNow (on : Body) (scope : Scope) (fs : List Func) : Type 0 where
   pub tables : List (List ℕ)
-  pub sees : Sees scope [] tables
+  pub sees : SeesBare scope [] tables
   pub fits : AllByRecursion (FuncFitsIn tables (entries on.callees.items)) fs
 
 -- the code of a function was written and closed; the open block was to be its first
 abbrev pub LowersFunc : Body → Scope → Func → Output → Output → Type 0
 LowersFunc on scope f old new =
     (code : Listing) (tables : List (List ℕ))
-    → Sees scope [] tables
+    → SeesBare scope [] tables
     → AllFit tables (entries on.callees.items) on.most outermost (texts f.params.items) f.body.items
     → IsVisible tables (names_after_list (texts f.params.items) f.body.items) f.result
     → Stands code new
@@ -101,7 +101,7 @@ AreWritten code act at (f ∷ fs) =
 abbrev pub LowersFuncs : Body → Scope → List Func → Output → Output → Type 0
 LowersFuncs on scope fs old new =
     (code : Listing) (tables : List (List ℕ))
-    → Sees scope [] tables
+    → SeesBare scope [] tables
     → AllByRecursion (FuncFitsIn tables (entries on.callees.items)) fs
     → Stands code new
     → Stands code old × AreWritten code (activation on tables) (label old) fs
@@ -111,13 +111,13 @@ LowersFuncs on scope fs old new =
 -- a scope has the same variables as before, and so many of the tables as told of those before
 abbrev pub SeesTables : (List (List ℕ) → List (List ℕ)) → Scope → Scope → Type 0
 SeesTables told old new =
-    (names tables : List (List ℕ)) → Sees old names tables → Sees new names (told tables)
+    (names tables : List (List ℕ)) → SeesBare old names tables → SeesBare new names (told tables)
 
 -- the code of declarations was written
 abbrev pub WritesMakes : Body → Scope → List TableDecl → Output → Output → Type 0
 WritesMakes on scope ds old new =
     (code : Listing) (tables seen : List (List ℕ)) (more : List Instr) (last : Term)
-    → Sees scope [] seen
+    → SeesBare scope [] seen
     → DeclsFit seen ds
     → Continues code new more last
     → Leads code old

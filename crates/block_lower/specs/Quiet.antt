@@ -1,6 +1,8 @@
 -- Where no task is cut: the only points of promotion are those of `par` and of `both`.
-use Rattle.std.specs.Prelude.{Bool, true, false, ◌&&◌, List, [], ◌∷◌}
+use Rattle.std.specs.Prelude.{Bool, true, false, ◌&&◌, nat_le, List, [], ◌∷◌, length}
+use Rattle.handler_gen.specs.Registers.{leaf_accs}
 use Rattle.loop_syntax.specs.declared.Func.{Func}
+use Rattle.loop_syntax.specs.declared.Reduce.{Reduce}
 use Rattle.loop_syntax.specs.declared.Stmt.{Stmt, Row_of-Stmt, end_of-Stmt, more_of-Stmt}
 use Rattle.loop_syntax.specs.declared.Stmt.TheVariants.{Let, Set, Put, If', While', Loop', Par'}
 use Rattle.loop_syntax.specs.declared.Stmt.TheVariants.{Fold, Call, Both, Print, Emit}
@@ -28,6 +30,14 @@ abbrev mutual
 abbrev pub list_is_quiet : Bool → List Stmt → Bool
 list_is_quiet calls [] = true
 list_is_quiet calls (s ∷ ss) = is_quiet calls s && list_is_quiet calls ss
+
+-- Whether a `par` with this body, which reduces these, is a leaf loop: there are registers for what
+-- it reduces, and its body holds no `par`, no `both` and no call.
+abbrev pub is_leaf : List Stmt → List Reduce → Bool
+is_leaf body reduces = nat_le (length reduces) leaf_accs && list_is_quiet false body
+
+abbrev pub row_is_leaf : {m : _} → Row_of-Stmt m → List Reduce → Bool
+row_is_leaf body reduces = nat_le (length reduces) leaf_accs && all_is_quiet false body
 
 -- whether none can in any function: none has a `par` or a `both`
 abbrev pub functions_are_quiet : List Func → Bool

@@ -18,7 +18,7 @@ use Rattle.loop_rules.specs.Limits.{height}
 use Rattle.tp_value.specs.declared.limits.TheConstants.{MAX_EXPRESSION_HEIGHT}
 use Rattle.expr_lower.specs.Bodies.{trap_count}
 use Rattle.block_lower.specs.Layout.{kept_by_both}
-use Rattle.block_lower.specs.Quiet.{all_is_quiet, list_is_quiet}
+use Rattle.block_lower.specs.Quiet.{all_is_quiet, is_leaf, list_is_quiet, row_is_leaf}
 
 -- ---- blocks
 
@@ -37,10 +37,13 @@ abbrev pub site_blocks : List Carry → ℕ
 site_blocks carries = if list_any has_row carries then 10 else 9
 
 -- How many blocks a `par` has behind its tests, where those of its body are so many. The body of a
--- quiet one stands there twice, and that of another one behind the two blocks where an iteration
--- begins.
-abbrev pub par_blocks : Bool → List Carry → ℕ → ℕ
-par_blocks quiet carries body = site_blocks carries + (if quiet then 2 * body else body + 2)
+-- leaf loop or of a quiet one stands there twice, and that of another one behind the two blocks
+-- where an iteration begins. A leaf loop has two blocks more round it, which store its registers
+-- and load them.
+abbrev pub par_blocks : Bool → Bool → List Carry → ℕ → ℕ
+par_blocks leaf quiet carries body =
+    site_blocks carries
+    + (if leaf then 2 * body + 2 else (if quiet then 2 * body else body + 2))
 
 -- the blocks that become closed between the begin of a statement and its end, where no point of
 -- promotion can be reached in a call or one may
@@ -55,7 +58,8 @@ abbrev mutual
   added calls (Loop' x a b p body) = trap_count a + trap_count b + 1 + (added_by_all calls body + 1)
   added calls (Par' place x a b carry_place carries reduces p body) =
       trap_count a + trap_count b + 3
-      + par_blocks (all_is_quiet calls body) carries.items (added_by_all calls body + 1)
+      + par_blocks (row_is_leaf body reduces.items) (all_is_quiet calls body) carries.items
+      (added_by_all calls body + 1)
   added calls (Fold x e) = trap_count e
   added calls (Call x f) = trap_counts f.args.items + 2
   added calls (Both x f y g) = trap_counts f.args.items + trap_counts g.args.items + 12
@@ -82,8 +86,8 @@ added_by_second calls (s ∷ ss) = added_by_list calls (s ∷ ss) + 1
 abbrev pub added_by_par : Bool → ParLoop → ℕ
 added_by_par calls l =
     trap_count l.from + trap_count l.to + 3
-    + par_blocks (list_is_quiet calls l.body.items) l.carries.items
-    (added_by_list calls l.body.items + 1)
+    + par_blocks (is_leaf l.body.items l.reduces.items) (list_is_quiet calls l.body.items)
+    l.carries.items (added_by_list calls l.body.items + 1)
 
 -- the blocks of a function
 abbrev pub added_by_func : Bool → Func → ℕ

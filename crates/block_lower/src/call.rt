@@ -216,6 +216,7 @@ impl Lowering {
         requires labels { writing.next_label self.old.out + (sizes.trap_counts f.now.args.items + 2)
             ≤ MAX_BLOCKS }
         requires size { self.old.on.size ≤ MAX_ACTIVATION_CELLS }
+        requires bare { self.old.scope.regs.items ≡ [] }
         ensures labels { OnOk result
             (writing.next_label self.new.out
             ≡ writing.next_label self.old.out + (sizes.trap_counts f.now.args.items + 2)) }
@@ -317,7 +318,7 @@ impl Lowering {
         self.push_given(1, site.entry + 1)?;
         self.push_mark(site.mark, site.label)?;
         self.push_deep_test(go, place)?;
-        self.make_ready();
+        self.make_ready(self.on.dispatch);
         self.push_move(Alu::Add)?;
         self.close(jump(target.label))?;
         Ok(())
@@ -472,6 +473,7 @@ impl Lowering {
             + (sizes.trap_counts f.now.args.items + sizes.trap_counts g.now.args.items + 12)
             ≤ MAX_BLOCKS }
         requires room { HasRoomFor self.old.on kept_by_both }
+        requires bare { self.old.scope.regs.items ≡ [] }
         ensures labels { OnOk result
             (writing.next_label self.new.out
             ≡ writing.next_label self.old.out

@@ -113,7 +113,7 @@ impl Lowering {
         self.push_end(site, exit)?;
         self.close(Term::Jump(Value::Reg(BACK)))?;
         self.push_prep(l, site)?;
-        self.make_ready();
+        self.make_ready(self.on.dispatch);
         self.push_next(site, head)?;
         self.push_last(site, head + 2)?;
         Ok(())

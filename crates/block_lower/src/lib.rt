@@ -3,8 +3,8 @@
 //! `expr_lower`, and on the handlers and joins of `handler_gen` and `join_gen`. Start with
 //! `specs/Code.antt`, which says which code is the code of a statement, and `laws`; what writes
 //! such code begins in `program`. `lowering` has the type that writes it, whose methods stand by
-//! what they write; `statement` says which of them writes which form, and `par` how one that a beat
-//! can cut is marked.
+//! what they write; `statement` says which of them writes which form, `par` how one that a beat can
+//! cut is marked, and `leaf` which variables of a loop stand in registers.
 #![tactic(auto)]
 
 mod body;
@@ -15,6 +15,7 @@ mod fault;
 mod function;
 pub mod laws;
 mod layout;
+mod leaf;
 mod lowering;
 mod make;
 mod output;

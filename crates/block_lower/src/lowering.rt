@@ -15,7 +15,7 @@ ghost use Rattle.block_lower.specs.Lowering.{WritesOperand, WritesValue};
 ghost use Rattle.block_lower.specs.Writing as writing;
 ghost use Rattle.block_lower.specs.Writing.{IsEmpty, IsFresh, Pushes, Traps, Closes, Appends};
 ghost use Rattle.block_lower.specs.Writing.{Readies};
-ghost use Rattle.expr_lower.specs.Scopes.{offset_of, table_number};
+ghost use Rattle.expr_lower.specs.Scopes.{offset_of, register_of, table_number};
 ghost use Rattle.block_lower.specs.Bodies.{HasRoomFor};
 ghost use Rattle.block_lower.specs.Layout.{value_cell};
 ghost use Rattle.block_lower.specs.Names.{SeesAfter};
@@ -23,7 +23,7 @@ ghost use Rattle.block_lower.specs.Names.{SeesAfter};
 use crate::body::{Body, kept_cell, parameter_cell};
 use crate::output::{Output, close, next_label, push, push_trap_block, push_value};
 use crate::scope::{declare, leave};
-use expr_lower::{BASE, Scope, literal, offset_of, table_number};
+use expr_lower::{BASE, Scope, home_of, literal, offset_of, register_of, table_number};
 use loop_syntax::{Expr, Name};
 use std::alloc::Global;
 use tp_value::{NoMemory, Place, TrapKind};
@@ -183,8 +183,8 @@ impl Lowering {
         push_value(self.alloc, &mut self.out, &self.scope, expr, to)
     }
 
-    /// The operand that is an expression's value: a number where it is a literal, else a register,
-    /// in which instructions leave it.
+    /// The operand that is an expression's value: a number where it is a literal, the register of a
+    /// variable that stands in one, else a register, in which instructions leave it.
     pub fn operand(&mut self, expr: &Expr, to: u8) -> Result<Value, NoMemory>
         requires few_tables { length self.old.scope.tables.items ≤ MAX_TABLES }
         requires registers { to + height expr.now ≤ MAX_EXPRESSION_HEIGHT }
@@ -199,10 +199,13 @@ impl Lowering {
     {
         match literal(expr) {
             Some(number) => Ok(Value::Int(number)),
-            None => {
-                self.value(expr, to)?;
-                Ok(Value::Reg(to))
-            }
+            None => match home_of(&self.scope, expr) {
+                Some(register) => Ok(Value::Reg(register)),
+                None => {
+                    self.value(expr, to)?;
+                    Ok(Value::Reg(to))
+                }
+            },
         }
     }
 
@@ -230,15 +233,16 @@ impl Lowering {
         close(self.alloc, &mut self.out, term)
     }
 
-    /// Makes the open block, in which nothing is written, a promotion-ready one.
-    pub fn make_ready(&mut self)
+    /// Makes the open block, in which nothing is written, a promotion-ready one, from which a beat
+    /// goes to a label.
+    pub fn make_ready(&mut self, to: u32)
         requires empty { IsEmpty self.old.out }
-        ensures ready { Readies self.old.on.dispatch self.old.out self.new.out }
+        ensures ready { Readies to self.old.out self.new.out }
         ensures labels { writing.next_label self.new.out ≡ writing.next_label self.old.out }
         ensures on { self.new.on ≡ self.old.on }
         ensures scope { self.new.scope ≡ self.old.scope }
     {
-        self.out.note = Note::Ready(self.on.dispatch);
+        self.out.note = Note::Ready(to);
     }
 
     /// Appends closed blocks in the place of the open one, in which nothing is written.
@@ -284,6 +288,13 @@ impl Lowering {
         ensures { result ≡ offset_of self.now.scope x.now.text.items }
     {
         offset_of(&self.scope, &x.text)
+    }
+
+    /// The register of a variable, where it stands in one.
+    pub fn register(&self, x: &Name) -> Option<u8>
+        ensures { result ≡ register_of self.now.scope x.now.text.items }
+    {
+        register_of(&self.scope, &x.text)
     }
 
     /// The number of a table.

@@ -1,6 +1,6 @@
 // The code of `par`, which is marked while iterations aren't begun. Where a beat cuts it, the
 // handler and the join are made from its site; round them stand the blocks of this file, for one in
-// whose body no promotion point can be reached, or those of `deep`.
+// whose body no promotion point can be reached, those of `deep`, or those of `leaf`.
 
 ghost use Rattle.std.specs.Prelude.{◌≡◌, ◌+◌, ◌*◌, ◌<◌, ◌≤◌, ◌^◌, ◌∷◌, ◌++◌, [], true, false};
 ghost use Rattle.std.specs.Prelude.{length, OnOk, IfOk};
@@ -31,7 +31,7 @@ ghost use Rattle.block_lower.specs.Writing.{IsFresh, Pushes, Appends, Stands, Co
 
 use crate::layout::value_cell;
 use crate::lowering::{Lowering, jump};
-use crate::quiet::list_is_quiet;
+use crate::quiet::{is_leaf, list_is_quiet};
 use crate::repeat::{Bound, Turns};
 use crate::round::Round;
 use crate::sizes::{added_by_body, have_row, site_blocks};
@@ -192,7 +192,7 @@ impl Lowering {
     }
 
     /// The end of a piece.
-    fn push_over(&mut self, site: &LoopSite, exit: u32) -> Result<(), NoMemory>
+    pub fn push_over(&mut self, site: &LoopSite, exit: u32) -> Result<(), NoMemory>
         requires labels { writing.next_label self.old.out ≤ MAX_BLOCKS }
         requires label { site.now.label < MAX_BLOCKS }
         ensures labels { OnOk result
@@ -369,7 +369,7 @@ impl Lowering {
         let turns = self.begin_quiet(round, l)?;
         self.lower_body(inside, &l.var, &l.body)?;
         self.end_loop(turns)?;
-        self.make_ready();
+        self.make_ready(self.on.dispatch);
         self.lower_body(inside, &l.var, &l.body)?;
         self.end_loop(turns)?;
         Ok(())
@@ -402,7 +402,9 @@ impl Lowering {
             self.new.out) }
         ensures on { OnOk result (self.new.on ≡ self.old.on) }
     {
-        if list_is_quiet(&l.body, self.on.quiet_calls) {
+        if is_leaf(&l.body, &l.reduces) {
+            self.lower_leaf(round, l)
+        } else if list_is_quiet(&l.body, self.on.quiet_calls) {
             self.lower_quiet(round, l)
         } else {
             self.lower_deep(round, l)

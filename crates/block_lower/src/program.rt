@@ -11,7 +11,7 @@ ghost use Rattle.block_lower.specs.Count.{blocks_of_program};
 ghost use Rattle.block_lower.specs.Fitting.{ProgramFits};
 ghost use Rattle.block_lower.specs.Layout.{levels_cell, value_cell};
 ghost use Rattle.block_lower.specs.Main.{IsProgram, table_name};
-ghost use Rattle.block_lower.specs.Names.{Sees};
+ghost use Rattle.block_lower.specs.Names.{SeesBare};
 ghost use Rattle.block_lower.specs.Owing.{AreDeclared, OwesMeaning};
 ghost use Rattle.block_lower.specs.Programs as programs;
 ghost use Rattle.block_lower.specs.Programs.{LowersMain};
@@ -155,7 +155,7 @@ impl Lowering {
         ensures cells { OnOk result (self.new.scope.cells.items ≡ []) }
         ensures tables { OnOk result (length self.new.scope.tables.items ≤ MAX_TABLES) }
         ensures sees { OnOk result
-            (Sees self.new.scope [] (map table_name program.now.tables.items)) }
+            (SeesBare self.new.scope [] (map table_name program.now.tables.items)) }
         ensures code { OnOk result (LowersMain self.old.on program.now self.old.out self.new.out) }
         ensures on { OnOk result (self.new.on ≡ self.old.on) }
     {

@@ -3,7 +3,10 @@
 ghost use Rattle.std.specs.Prelude.{◌≡◌};
 ghost use Rattle.block_lower.specs.Quiet as quiet;
 
-use loop_syntax::{Func, Stmt};
+use loop_syntax::{Func, Reduce, Stmt};
+
+/// How many variables a leaf loop may reduce: there are so many registers for them.
+const MAX_LEAF_ACCS: usize = 4;
 
 /// Whether no point of promotion can be reached in a statement: it has no `par`, no `both`, and no
 /// call unless `calls` says that a call reaches none.
@@ -38,6 +41,14 @@ pub fn list_is_quiet(body: &[Stmt], calls: bool) -> bool
         }
     }
     true
+}
+
+/// Whether a `par` with this body, which reduces these, is a leaf loop: its body has no `par`, no
+/// `both` and no call, and there are registers for what it reduces.
+pub fn is_leaf(body: &[Stmt], reduces: &[Reduce]) -> bool
+    ensures { result ≡ quiet.is_leaf body.now reduces.now }
+{
+    reduces.len() <= MAX_LEAF_ACCS && list_is_quiet(body, false)
 }
 
 /// Whether no point of promotion can be reached in any function: none has a `par` or a `both`.

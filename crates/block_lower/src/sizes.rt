@@ -7,7 +7,7 @@ ghost use Rattle.expr_lower.specs.Bodies.{trap_count};
 ghost use Rattle.block_lower.specs.Sizes as sizes;
 
 use crate::layout::KEPT_BY_BOTH;
-use crate::quiet::list_is_quiet;
+use crate::quiet::{is_leaf, list_is_quiet};
 use expr_lower::trap_count;
 use loop_syntax::{Carry, Expr, Func, ParLoop, Stmt, TableDecl};
 use tp_value::MAX_EXPRESSION_HEIGHT;
@@ -99,7 +99,9 @@ fn added_by_par(calls: bool, l: &ParLoop) -> u32
 {
     let tests = trap_count_of_two(&l.from, &l.to).saturating_add(3);
     let body = added_by_body(calls, &l.body);
-    let turns = if list_is_quiet(&l.body, calls) {
+    let turns = if is_leaf(&l.body, &l.reduces) {
+        body.saturating_mul(2).saturating_add(2)
+    } else if list_is_quiet(&l.body, calls) {
         body.saturating_mul(2)
     } else {
         body.saturating_add(2)

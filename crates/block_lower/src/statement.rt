@@ -12,11 +12,11 @@ ghost use Rattle.block_lower.specs.declared.round.Round.{Round};
 ghost use Rattle.block_lower.specs.Bodies.{HasRoomFor};
 ghost use Rattle.block_lower.specs.Heights.{AreLow, AllAreLow};
 ghost use Rattle.block_lower.specs.Lowering.{Lowers, WithBody, LowersAll, LowersBranch};
-ghost use Rattle.block_lower.specs.Lowering.{LowersOther, FitsIn, WritesTest};
+ghost use Rattle.block_lower.specs.Lowering.{LowersOther, FitsIn, WritesTest, folded_in_cell};
 ghost use Rattle.block_lower.specs.Names.{SeesAfter, names_after, names_after_list};
 ghost use Rattle.block_lower.specs.Sizes as sizes;
 ghost use Rattle.block_lower.specs.Writing as writing;
-ghost use Rattle.block_lower.specs.Writing.{IsFresh};
+ghost use Rattle.block_lower.specs.Writing.{IsFresh, Pushes};
 
 use crate::layout::value_cell;
 use crate::lowering::{Lowering, jump};
@@ -26,7 +26,7 @@ use expr_lower::trap_count;
 use join_gen::alu_of;
 use loop_syntax::{Expr, Name, Reduce, Stmt};
 use tp_value::{NoMemory, Op};
-use tpal_syntax::{Instr, Value};
+use tpal_syntax::{Alu, Instr, Value};
 
 /// The operator that a reduce list gives to a variable.
 fn operator_of(reduces: &[Reduce], name: &[u8]) -> Option<Op>
@@ -82,11 +82,29 @@ impl Lowering {
     {
         let cell = self.offset(x);
         let value = self.operand(e, 0)?;
-        self.store(cell, value)?;
+        match self.register(x) {
+            Some(to) => self.push(Instr::Move { to, value }),
+            None => self.store(cell, value),
+        }
+    }
+
+    /// A cell gets what an operator makes of it and a value.
+    fn fold_in_cell(&mut self, cell: u16, alu: Alu, value: Value) -> Result<(), NoMemory>
+        ensures pushed { OnOk result
+            (Pushes (folded_in_cell cell alu value) self.old.out self.new.out) }
+        ensures labels { OnOk result
+            (writing.next_label self.new.out ≡ writing.next_label self.old.out) }
+        ensures on { OnOk result (self.new.on ≡ self.old.on) }
+        ensures scope { OnOk result (self.new.scope ≡ self.old.scope) }
+    {
+        self.load(1, cell)?;
+        self.calc(1, 1, alu, value)?;
+        self.store(cell, Value::Reg(1))?;
         Ok(())
     }
 
-    /// A variable that is reduced gets what the operator makes of it and a value.
+    /// A variable that is reduced gets what the operator makes of it and a value, in its register
+    /// or in its cell.
     fn push_fold(&mut self, x: &Name, e: &Expr, op: Op) -> Result<(), NoMemory>
         requires few_tables { length self.old.scope.tables.items ≤ MAX_TABLES }
         requires registers { height e.now ≤ MAX_EXPRESSION_HEIGHT }
@@ -103,10 +121,10 @@ impl Lowering {
     {
         let cell = self.offset(x);
         let value = self.operand(e, 0)?;
-        self.load(1, cell)?;
-        self.calc(1, 1, alu_of(op), value)?;
-        self.store(cell, Value::Reg(1))?;
-        Ok(())
+        match self.register(x) {
+            Some(held) => self.calc(held, held, alu_of(op), value),
+            None => self.fold_in_cell(cell, alu_of(op), value),
+        }
     }
 
     /// A variable that the nearest `par` doesn't reduce stays as it is.

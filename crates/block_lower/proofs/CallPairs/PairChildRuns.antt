@@ -89,6 +89,7 @@ module _ {code : Listing} {heartbeat z : ℕ} {act : Activation} (q : PairAt cod
       label = λ w. child_end_label q.site.label;
       calm = λ w. calm_end;
       held = λ w s h. h.label;
+      bare = refl;
       goes_on = ends;
     }
       where

@@ -1,5 +1,6 @@
 -- The child of a pair of calls that is cut makes the second call, and ends with its value.
 use Rattle.std.proofs.Common.{◌≡◌, ℕ, ◌+◌, true, List, [], ◌∷◌, refl, ◌++◌, append-nil, ◌∙◌}
+use Rattle.std.proofs.Common.{arith}
 use Rattle.std.specs.Prelude.{ℤ, ⊤}
 use Rattle.tp_value.specs.declared.Stop.{Stop}
 use Rattle.tp_value.specs.declared.Stop.TheVariants.{Done, NoFuel, Trap}
@@ -85,6 +86,11 @@ module _ (code : Listing) (heartbeat z : ℕ) (act : Activation) (fuel dispatch 
     lowest = 0;
     may = λ c. ⊤;
     cut = λ i n printed. tt;
+    registers = [];
+    high = tt;
+    unlike = tt;
+    under = λ i d below. absurd (omega (arith, below));
+    sized = λ i d below. absurd (omega (arith, below));
     stable = λ i level s t low same h. tt;
     below = λ i. refl;
     stops = λ i stop st state last early ticks printed ends step_is.

@@ -351,5 +351,6 @@ module _ {code : Listing} {heartbeat z : ℕ} {act : Activation} (q : PairAt cod
             label = label_of;
             calm = calm_of;
             held = held_of;
+            bare = refl;
             goes_on = goes_of;
           }

@@ -412,6 +412,11 @@ module _ (code : Listing) (heartbeat z : ℕ) (act : Activation) (fuel : ℕ)
       lowest = 0;
       may = λ c. header ≤ c;
       cut = cut_first;
+      registers = [];
+      high = tt;
+      unlike = tt;
+      under = λ i d below. absurd (omega (arith, below));
+      sized = λ i d below. absurd (omega (arith, below));
       stable = stable_of;
       below = λ i. clear_first i (z + act.size + value_cell 0) (omega arith);
       stops = stops_of;

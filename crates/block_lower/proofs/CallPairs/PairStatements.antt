@@ -247,7 +247,7 @@ module _ (code : Listing) (heartbeat z : ℕ) (act : Activation) (p : Program) (
     (dispatches : AreAt code act.dispatch (dispatch_block act.dispatch ∷ []))
     (calls : CallsOwe code heartbeat fuel (bare act) p room)
     (place : HasPlace z act room)
-    (S : Scene code heartbeat z) (round : Round)
+    (S : Scene code heartbeat z) (no_registers : S.registers ≡ []) (round : Round)
     (names : List (List ℕ)) (admits : Admits code heartbeat z room S round names)
     (k : meaning.State → Result) (x y : Name) (f g : App)
     (permits : PermitsOne code heartbeat z p act.dispatch S names (Both x f y g))
@@ -512,7 +512,8 @@ module _ (code : Listing) (heartbeat z : ℕ) (act : Activation) (p : Program) (
       admits.lowest (Both x f y g) (λ loud. permits) f.callee first is_first
       (S.owing i (then (result (run set (Both x f y g) st)) k)) i st state arguments end shows
       stands
-      (arguments_law code heartbeat z act first.size fuel S i names admits.lowest st expr_law args
+      (arguments_law code heartbeat z act first.size fuel S i names admits.lowest st
+      no_registers expr_law args
       (λ p q lt. omega (arith, lt))
       (omega (arith, shows.few, place.has_room.room))
       (λ p lt. omega (arith, lt, arity_first, there.arity, there.is.params, there.is.has_room.room))
@@ -522,7 +523,8 @@ module _ (code : Listing) (heartbeat z : ℕ) (act : Activation) (p : Program) (
       (λ ns. given_all g.args.items st
       (λ ms. two_calls set x f.callee ns y g.callee ms (Chance ∷ []) st)) k
       (λ ns two many shows_two stored here_two.
-      arguments_law code heartbeat z act first.size fuel S i names admits.lowest st expr_law
+      arguments_law code heartbeat z act first.size fuel S i names admits.lowest st
+      no_registers expr_law
       others_args (λ p q lt. omega (arith, lt)) (omega (arith, shows.few))
       (λ p lt. omega (arith, lt, eight, fits)) end two shows_two here_two
       (λ ms. two_calls set x f.callee ns y g.callee ms (Chance ∷ []) st) k

@@ -7,6 +7,7 @@ use Rattle.std.proofs.lemmas.List.Sums.{sum_by-cons}
 use Rattle.std.specs.declared.alloc.Global.{Global}
 use Rattle.loop_rules.specs.Declarations.{declared_in, declared_all}
 use Rattle.loop_syntax.specs.declared.Carry.{Carry}
+use Rattle.loop_syntax.specs.declared.Reduce.{Reduce}
 use Rattle.loop_syntax.specs.declared.Stmt.{Stmt, Row_of-Stmt, end_of-Stmt, more_of-Stmt}
 use Rattle.loop_syntax.specs.declared.Stmt.{items-the_row-Stmt, items_hidden-the_row-Stmt-0}
 use Rattle.loop_syntax.specs.declared.Stmt.TheBlock.{hidden-the_row-Stmt-0}
@@ -18,11 +19,11 @@ use Rattle.loop_syntax.specs.declared.TableDecl.{TableDecl}
 use Rattle.loop_syntax.specs.declared.TableDecl.TheVariants.{Input, Made}
 use Rattle.loop_rules.specs.Limits.{height}
 use Rattle.block_lower.specs.Layout.{kept_by_both}
-use Rattle.block_lower.specs.Quiet.{all_is_quiet, list_is_quiet}
+use Rattle.block_lower.specs.Quiet.{all_is_quiet, is_leaf, list_is_quiet, row_is_leaf}
 use Rattle.block_lower.specs.Sizes.{added, added_by_all, added_by_list, added_by_other}
 use Rattle.block_lower.specs.Sizes.{added_by_second, par_blocks, declared, is_low_at, kept}
 use Rattle.block_lower.specs.Sizes.{kept_by_all, kept_by_list, kept_by_decl, kept_by_decls}
-use Rattle.block_lower.proofs.Written.QuietRows.{quiet_of_vec}
+use Rattle.block_lower.proofs.Written.QuietRows.{leaf_of_vec, quiet_of_vec}
 
 added_of_row : {m : _} (calls : Bool) (row : Row_of-Stmt m) → added_by_all calls row ≡ sum_by (added calls) (items-the_row-Stmt _ row)
 added_of_row calls end_of-Stmt = refl
@@ -42,12 +43,20 @@ pub second_of_vec : (calls : Bool) (body : Vec Stmt Global) → added_by_other c
 second_of_vec calls body =
     second_of_row calls (hidden-the_row-Stmt-0 body) ∙ ap (λ ss. added_by_second calls ss) (items_hidden-the_row-Stmt-0 body)
 
-pub par_of_vec : (calls : Bool) (carries : List Carry) (body : Vec Stmt Global)
-    → par_blocks (all_is_quiet calls (hidden-the_row-Stmt-0 body)) carries (added_by_all calls (hidden-the_row-Stmt-0 body) + 1)
-    ≡ par_blocks (list_is_quiet calls body.items) carries (added_by_list calls body.items + 1)
-par_of_vec calls carries body =
-    ap (λ (quiet : Bool). par_blocks quiet carries (added_by_all calls (hidden-the_row-Stmt-0 body) + 1)) (quiet_of_vec calls body)
-    ∙ ap (λ n. par_blocks (list_is_quiet calls body.items) carries (n + 1)) (added_of_vec calls body)
+pub par_of_vec : (calls : Bool) (carries : List Carry) (reduces : List Reduce)
+    (body : Vec Stmt Global)
+    → par_blocks (row_is_leaf (hidden-the_row-Stmt-0 body) reduces)
+    (all_is_quiet calls (hidden-the_row-Stmt-0 body)) carries
+    (added_by_all calls (hidden-the_row-Stmt-0 body) + 1)
+    ≡ par_blocks (is_leaf body.items reduces) (list_is_quiet calls body.items) carries
+    (added_by_list calls body.items + 1)
+par_of_vec calls carries reduces body =
+    ap (λ (leaf : Bool). par_blocks leaf (all_is_quiet calls (hidden-the_row-Stmt-0 body)) carries
+    (added_by_all calls (hidden-the_row-Stmt-0 body) + 1)) (leaf_of_vec body reduces)
+    ∙ ap (λ (quiet : Bool). par_blocks (is_leaf body.items reduces) quiet carries
+    (added_by_all calls (hidden-the_row-Stmt-0 body) + 1)) (quiet_of_vec calls body)
+    ∙ ap (λ n. par_blocks (is_leaf body.items reduces) (list_is_quiet calls body.items) carries
+    (n + 1)) (added_of_vec calls body)
 
 declared_of_row : {m : _} (row : Row_of-Stmt m) → length (declared_all row) ≡ sum_by declared (items-the_row-Stmt _ row)
 declared_of_row end_of-Stmt = refl

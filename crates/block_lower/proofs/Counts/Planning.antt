@@ -3,7 +3,9 @@
 use Rattle.std.proofs.Common.{◌≡◌, ℕ, ◌<◌, ◌≤◌, ◌+◌, ◌*◌, ◌++◌, Bool, true, false, true≢false, ◌&&◌}
 use Rattle.std.proofs.Common.{if◌then◌else◌, cond, bytes_eq, max, List, [], ◌∷◌, length, Some, refl}
 use Rattle.std.proofs.Common.{ap, sym, subst, ◌∙◌, arith}
+use Rattle.std.specs.Prelude.{nat_le}
 use Rattle.std.specs.List.{sum_by, list_any, AllByRecursion}
+use Rattle.handler_gen.specs.Registers.{leaf_accs}
 use Rattle.std.proofs.lemmas.Option.{none-some, same_Some}
 use Rattle.std.proofs.lemmas.List.{length-append}
 use Rattle.std.proofs.lemmas.List.Sums.{sum_by-cons}
@@ -31,7 +33,7 @@ use Rattle.block_lower.specs.Fitting.{AllFit, HasEntry, AreEntriesOf, MainFits, 
 use Rattle.block_lower.specs.Fitting.{variables_of}
 use Rattle.block_lower.specs.Programs.{most_of, size_of, added_by_funcs, added_by_program, entry_at}
 use Rattle.block_lower.specs.Programs.{entries_from, quiet_calls, FuncIsSmall}
-use Rattle.block_lower.specs.Quiet.{is_quiet, all_is_quiet}
+use Rattle.block_lower.specs.Quiet.{is_quiet, all_is_quiet, row_is_leaf}
 use Rattle.block_lower.specs.Round.{outermost}
 use Rattle.block_lower.specs.Sizes.{trap_counts, added, added_by_all, added_by_other, added_by_list}
 use Rattle.block_lower.specs.Sizes.{added_by_func, added_by_decl, added_by_decls, has_row}
@@ -67,6 +69,9 @@ both_second : (a b : Bool) → (a && b) ≡ true → b ≡ true
 both_second true b is = is
 both_second false b is = absurd (true≢false (sym is))
 
+both_true : (a b : Bool) → a ≡ true → b ≡ true → (a && b) ≡ true
+both_true a b one two = rw (one, two) refl
+
 -- a quiet statement adds no more than half of the blocks that it is counted with, so that it may stand twice
 mutual
   few_twice : (calls : Bool) (s : Stmt) → is_quiet calls s ≡ true → 2 * added calls s ≤ blocks s
@@ -98,11 +103,42 @@ few_site_blocks : (row : Bool) → (if row then 10 else 9) ≤ 10
 few_site_blocks true = omega arith
 few_site_blocks false = omega arith
 
--- so a `par` has behind its tests no more blocks than its body is counted with, and thirteen
-few_par_blocks : {m : _} (calls : Bool) (carries : List Carry) (row : Row_of-Stmt m) → added_by_all calls row ≤ blocks_of_all row → (quiet : Bool) → all_is_quiet calls row ≡ quiet
-    → par_blocks quiet carries (added_by_all calls row + 1) ≤ blocks_of_all row + 13
-few_par_blocks calls carries row once true is = omega (arith, few_site_blocks (list_any has_row carries), few_twice_by_all calls row is)
-few_par_blocks calls carries row once false is = omega (arith, few_site_blocks (list_any has_row carries), once)
+-- a statement that is quiet whatever a call reaches is quiet where calls reach no point too
+mutual
+  quiet_too : (calls : Bool) (s : Stmt) → is_quiet false s ≡ true → is_quiet calls s ≡ true
+  quiet_too calls (Let x e) quiet = refl
+  quiet_too calls (Set x e) quiet = refl
+  quiet_too calls (Put t a b e) quiet = refl
+  quiet_too calls (If' e p body q other) quiet =
+      both_true (all_is_quiet calls body) (all_is_quiet calls other)
+      (all_quiet_too calls body (both_first (all_is_quiet false body) (all_is_quiet false other) quiet))
+      (all_quiet_too calls other (both_second (all_is_quiet false body) (all_is_quiet false other) quiet))
+  quiet_too calls (While' e p body) quiet = all_quiet_too calls body quiet
+  quiet_too calls (Loop' x a b p body) quiet = all_quiet_too calls body quiet
+  quiet_too calls (Par' place x a b carry_place carries reduces p body) quiet = quiet
+  quiet_too calls (Fold x e) quiet = refl
+  quiet_too calls (Call x f) quiet = absurd (true≢false (sym quiet))
+  quiet_too calls (Both x f y g) quiet = quiet
+  quiet_too calls (Print place e) quiet = refl
+  quiet_too calls (Emit place t) quiet = refl
+
+  all_quiet_too : {m : _} (calls : Bool) (row : Row_of-Stmt m) → all_is_quiet false row ≡ true → all_is_quiet calls row ≡ true
+  all_quiet_too calls end_of-Stmt quiet = refl
+  all_quiet_too calls (more_of-Stmt first rest) quiet =
+      both_true (is_quiet calls first) (all_is_quiet calls rest)
+      (quiet_too calls first (both_first (is_quiet false first) (all_is_quiet false rest) quiet))
+      (all_quiet_too calls rest (both_second (is_quiet false first) (all_is_quiet false rest) quiet))
+
+-- so a `par` has behind its tests no more blocks than its body is counted with, and fifteen
+few_par_blocks : {m : _} (calls : Bool) (carries : List Carry) (row : Row_of-Stmt m)
+    → added_by_all calls row ≤ blocks_of_all row
+    → (leaf quiet : Bool) → (leaf ≡ true → all_is_quiet false row ≡ true)
+    → all_is_quiet calls row ≡ quiet
+    → par_blocks leaf quiet carries (added_by_all calls row + 1) ≤ blocks_of_all row + 15
+few_par_blocks calls carries row once true quiet is_leaf is =
+    omega (arith, few_site_blocks (list_any has_row carries), few_twice_by_all calls row (all_quiet_too calls row (is_leaf refl)))
+few_par_blocks calls carries row once false true is_leaf is = omega (arith, few_site_blocks (list_any has_row carries), few_twice_by_all calls row is)
+few_par_blocks calls carries row once false false is_leaf is = omega (arith, few_site_blocks (list_any has_row carries), once)
 
 -- a statement adds no more blocks than it is counted with
 mutual
@@ -114,7 +150,7 @@ mutual
   few_added calls (While' e p body) = omega (arith, few_trap_blocks e, few_added_by_all calls body)
   few_added calls (Loop' x a b p body) = omega (arith, few_trap_blocks a, few_trap_blocks b, few_added_by_all calls body)
   few_added calls (Par' place x a b carry_place carries reduces p body) =
-      omega (arith, few_trap_blocks a, few_trap_blocks b, few_par_blocks calls carries.items body (few_added_by_all calls body) (all_is_quiet calls body) refl)
+      omega (arith, few_trap_blocks a, few_trap_blocks b, few_par_blocks calls carries.items body (few_added_by_all calls body) (row_is_leaf body reduces.items) (all_is_quiet calls body) (both_second (nat_le (length reduces.items) leaf_accs) (all_is_quiet false body)) refl)
   few_added calls (Fold x e) = omega (arith, few_trap_blocks e)
   few_added calls (Call x f) = omega (arith, twice_few_trap_blocks f.args.items)
   few_added calls (Both x f y g) = omega (arith, twice_few_trap_blocks f.args.items, twice_few_trap_blocks g.args.items)

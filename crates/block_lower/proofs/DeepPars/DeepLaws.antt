@@ -51,19 +51,19 @@ module _ {code : Listing} {heartbeat z : ℕ} {act : Activation} (d : Deep code 
   Runs = (N : ℕ) (turns : (c : ℕ) → c < N → FirstOwed d c)
       → BodyOwed d N (handles d N joins turns over_owed) inner first instrs half opens
 
-  pub deep_law : (here second : List Instr)
-      → Computes code act d.q.names d.q.loop.from 0 here
+  pub deep_law : d.S.registers ≡ [] → (here second : List Instr)
+      → Computes code act [] d.q.names d.q.loop.from 0 here
       (store (value_cell (length d.q.names)) (value.Reg 0) ∷ second)
-      → Computes code act d.q.names d.q.loop.to 0 second
+      → Computes code act [] d.q.names d.q.loop.to 0 second
       (store (bound_cell (length d.q.names)) (value.Reg 0)
       ∷ load 1 (value_cell (length d.q.names)) ∷ instr.Calc 2 1 alu.Lt (value.Reg 0)
       ∷ instr.IfJump 2 d.q.check ∷ [])
       → Runs
       → Owed code heartbeat z act d.fuel d.S d.q.names here (to d.q.exit)
       (λ st. then (result (run (set d expr_law reduces) (Par d.q.loop) st)) d.k)
-  deep_law here second from_code to_code runs =
+  deep_law none here second from_code to_code runs =
       begins_par code heartbeat z act (set d expr_law reduces) expr_law d.S d.q.names d.lowest
-      d.q.fits d.k d.q.loop d.q.check d.q.exit here second
+      d.q.fits d.k d.q.loop none d.q.check d.q.exit here second
       (length_test d.q.is_deep.wide
       (store d.q.site.cursor (value.Reg 1) ∷ marked_begin d.q.site (first_label d.q.site.label)))
       more (to d.q.is_deep.wide) last from_code to_code d.q.is_deep.begins ends post

@@ -367,6 +367,11 @@ module _ {code : Listing} {heartbeat z : ℕ} {act : Activation} (d : Deep code 
       lowest = suc level;
       may = MayRunning;
       cut = λ v c printed. cut_running v c printed;
+      registers = [];
+      high = tt;
+      unlike = tt;
+      under = λ i d below. absurd (omega (arith, below));
+      sized = λ i d below. absurd (omega (arith, below));
       stable = stable_running;
       below = λ v. clear_of d (are_any v.more) v.piece;
       stops = λ v stop st state last early ticks printed ends step_is known.

@@ -383,6 +383,11 @@ module _ {code : Listing} {heartbeat z : ℕ} {act : Activation} (d : Deep code 
     lowest = suc level;
     may = MayBetween;
     cut = λ i n printed. i;
+    registers = [];
+    high = tt;
+    unlike = tt;
+    under = λ i d below. absurd (omega (arith, below));
+    sized = λ i d below. absurd (omega (arith, below));
     stable = stable_between m j;
     below = clear_of marked;
     stops = stops_of;
@@ -437,6 +442,11 @@ module _ {code : Listing} {heartbeat z : ℕ} {act : Activation} (d : Deep code 
     lowest = suc level;
     may = MayEnded;
     cut = λ i n printed. i;
+    registers = [];
+    high = tt;
+    unlike = tt;
+    under = λ i d below. absurd (omega (arith, below));
+    sized = λ i d below. absurd (omega (arith, below));
     stable = stable_ended;
     below = clear_of false;
     stops = stops_of;

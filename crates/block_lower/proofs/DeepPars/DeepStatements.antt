@@ -76,6 +76,7 @@ module _ {code : Listing} {heartbeat z : ℕ} {act : Activation} (d : Deep code 
       (par_round round d.q.names d.q.loop.reduces.items)
       (d.q.names ++ d.q.loop.var.text.items ∷ [])
   admits_running N there = record {
+    registers = refl;
     levels = admits.levels;
     lowest = omega (arith, length-append d.q.names (d.q.loop.var.text.items ∷ []));
     allows = λ y free. record {
@@ -222,10 +223,10 @@ module _ (code : Listing) (heartbeat z : ℕ) (act : Activation) (p : Program) (
             (modes_at (in_body permits.around l)) f called cut.lawful.body;
       }
 
-    pub deep_statement : (here second instrs more : List Instr) (half end : Term)
-        → Computes code act names l.from 0 here (store (value_cell (length names))
+    pub deep_statement : S.registers ≡ [] → (here second instrs more : List Instr) (half end : Term)
+        → Computes code act [] names l.from 0 here (store (value_cell (length names))
         (value.Reg 0) ∷ second)
-        → Computes code act names l.to 0 second
+        → Computes code act [] names l.to 0 second
         (store (bound_cell (length names)) (value.Reg 0) ∷ load 1 (value_cell (length names))
         ∷ instr.Calc 2 1 alu.Lt (value.Reg 0) ∷ instr.IfJump 2 check ∷ [])
         → Opens code turn (instr.Tick ∷ instrs) half → Opens code exit more end
@@ -235,10 +236,10 @@ module _ (code : Listing) (heartbeat z : ℕ) (act : Activation) (p : Program) (
         (λ st. then (result (run
         (record { reduces = round.reduces; fuel = fuel; call = call_at p.funcs.items fuel room })
         (Par l) st)) k)
-    deep_statement here second instrs more half end from_code to_code opens ends inner first post
-        body_owes i st state shows stands =
+    deep_statement none here second instrs more half end from_code to_code opens ends inner first
+        post body_owes i st state shows stands =
         deep_law d expr_law round.reduces more end ends post (loads_from 0 site.accs) (term.Join 24)
-        side instrs half opens inner first here second from_code to_code runs i st state shows
+        side instrs half opens inner first none here second from_code to_code runs i st state shows
         stands
       where
         d : Deep code heartbeat z act

@@ -1,5 +1,5 @@
 -- The law of the code of arguments, which leaves the numbers of expressions in cells.
-use Rattle.std.proofs.Common.{◌≡◌, ◌≢◌, ℕ, zero, suc, ◌+◌, ◌<◌, ◌≤◌, List, [], ◌∷◌, length, Some}
+use Rattle.std.proofs.Common.{◌≡◌, ◌≢◌, ℕ, zero, suc, ◌+◌, ◌<◌, ◌≤◌, List, [], ◌∷◌, length, None, Some}
 use Rattle.std.proofs.Common.{refl, sym, ap, subst, ◌∙◌, arith}
 use Rattle.std.specs.Prelude.{ℤ, pos, ⊤, slice_set}
 use Rattle.std.proofs.lemmas.List.{length-set}
@@ -29,14 +29,14 @@ use Rattle.expr_lower.specs.Standing.{Remains}
 use Rattle.expr_lower.proofs.Keeping.{register_set, register_other}
 use Rattle.expr_lower.proofs.Standing.{next, behind}
 use Rattle.handler_gen.proofs.Words.{word_same, word_other}
-use Rattle.block_lower.specs.Code.{Computes, Operand, number, computed, Arguments, no_argument}
+use Rattle.block_lower.specs.Code.{Computes, Operand, number, standing, computed, Arguments, no_argument}
 use Rattle.block_lower.specs.Code.{one_argument, parameter_cell, passed, store}
 use Rattle.block_lower.specs.Layout.{value_cell, kept_cell, Activation}
 use Rattle.block_lower.proofs.Scenes.Results.{Result, result, then}
 use Rattle.block_lower.proofs.Scenes.Scene.{Scene, ShowsIn}
 use Rattle.block_lower.proofs.Scenes.Showing.{shows_words, shows_new}
 use Rattle.block_lower.proofs.Forms.Simple.{stores_in, still_shows}
-use Rattle.block_lower.proofs.Scenes.Values.{ExprLaw, operand_is}
+use Rattle.block_lower.proofs.Scenes.Values.{ExprLaw, operand_is_bare}
 use Rattle.block_lower.proofs.Scenes.Variables.{AreHeld, var_names}
 
 -- ---- numbers in cells
@@ -87,10 +87,13 @@ one_stored z cell i n ns s t rises fits from inside stored = record {
 abbrev pub wider : Activation → ℕ → Activation
 wider act n = record act { size = act.size + n }
 
-computes_wider : (code : Listing) (act : Activation) (n : ℕ) (names : List (List ℕ)) (e : Expr) (r : ℕ) (instrs more : List Instr) → Computes code act names e r instrs more → Computes code (wider act n) names e r instrs more
+computes_wider : (code : Listing) (act : Activation) (n : ℕ) (names : List (List ℕ)) (e : Expr)
+    (r : ℕ) (instrs more : List Instr) → Computes code act [] names e r instrs more
+    → Computes code (wider act n) [] names e r instrs more
 computes_wider code act n names e r instrs more c = record {
   scope = c.scope;
   sees = c.sees;
+  kept = c.kept;
   inside = c.inside;
   low = c.low;
   ranged = c.ranged;
@@ -99,13 +102,19 @@ computes_wider code act n names e r instrs more c = record {
   traps = c.traps;
 }
 
-operand_wider : (code : Listing) (act : Activation) (n : ℕ) (names : List (List ℕ)) (e : Expr) (r : ℕ) (v : operands.Value) (instrs more : List Instr) → Operand code act names e r v instrs more → Operand code (wider act n) names e r v instrs more
+operand_wider : (code : Listing) (act : Activation) (n : ℕ) (names : List (List ℕ)) (e : Expr)
+    (r : ℕ) (v : operands.Value) (instrs more : List Instr) → Operand code act [] names e r v instrs
+    more → Operand code (wider act n) [] names e r v instrs more
 operand_wider code act n names e r _ _ more (number is fits) = number is fits
+operand_wider code act n names e r _ _ more (standing is_x c is_held) =
+    let wrong : None ≡ Some _ = is_held in cc
 operand_wider code act n names e r _ instrs more (computed c) = computed (computes_wider code act n names e r instrs more c)
 
 -- ---- the laws
 
-module _ (code : Listing) (heartbeat z : ℕ) (act : Activation) (n fuel : ℕ) (S : Scene code heartbeat z) (i : S.World) (names : List (List ℕ)) (lowest : S.lowest ≤ length names) (st : meaning.State) where
+module _ (code : Listing) (heartbeat z : ℕ) (act : Activation) (n fuel : ℕ)
+    (S : Scene code heartbeat z) (i : S.World) (names : List (List ℕ))
+    (lowest : S.lowest ≤ length names) (st : meaning.State) where
   abbrev Showing : machine.State → Type 0
   Showing task = ShowsIn code heartbeat z (wider act n) fuel S i names st task
 
@@ -119,13 +128,16 @@ module _ (code : Listing) (heartbeat z : ℕ) (act : Activation) (n fuel : ℕ) 
       (subst (λ (w : Word). K.Holds (effect.with_stack (advanced state) (with_word state.stack (pos (z + cell)) w))) (sym is)
       (holds (shows_new code heartbeat z (wider act n) fuel S i shows cell (word.Int m) above lowest) (behind code state.block state.at (store cell v) more end stands)))
 
-  pub arguments_law : (expr_law : ExprLaw code heartbeat) {cell : ℕ → ℕ} {j : ℕ} {es : List Expr} {instrs more : List Instr} → Arguments code act names cell j es instrs more → Rises cell → value_cell (length names) ≤ cell 0 → ((p : ℕ) → p < j + length es → cell p < act.size + n)
+  pub arguments_law : S.registers ≡ [] → (expr_law : ExprLaw code heartbeat) {cell : ℕ → ℕ} {j : ℕ}
+      {es : List Expr} {instrs more : List Instr} → Arguments code act names cell j es instrs more → Rises cell → value_cell (length names) ≤ cell 0 → ((p : ℕ) → p < j + length es → cell p < act.size + n)
       → (end : Term) (state : machine.State) → Showing state → Remains code state.block state.at instrs end → (f : List ℤ → Ran) (k : meaning.State → Result)
       → ((ns : List ℤ) (task : machine.State) → length ns ≡ length es → Showing task → Stored z cell j ns state.stack task.stack → Remains code task.block task.at more end → (S.owing i (then (result (f ns)) k)).Holds task)
       → (S.owing i (then (result (given_all es st f)) k)).Holds state
-  arguments_law expr_law {cell} (no_argument {i = j}) rises above inside end state shows stands f k go = go [] state refl shows (none_stored z cell j state.stack) stands
-  arguments_law expr_law {cell} (one_argument {i = j} {e = e} {es = es} {v = v} {second = second} {more = more} c rest) rises above inside end state shows stands f k go =
-      operand_is code heartbeat z (wider act n) fuel expr_law S i names st state shows e 0 v _ (store (cell j) v ∷ second) end (operand_wider code act n names e 0 v _ (store (cell j) v ∷ second) c) stands (λ m. given_all es st (λ ns. f (m ∷ ns))) k
+  arguments_law bare expr_law {cell} (no_argument {i = j}) rises above inside end state shows stands f k go = go [] state refl shows (none_stored z cell j state.stack) stands
+  arguments_law bare expr_law {cell} (one_argument {i = j} {e = e} {es = es} {v = v} {second = second} {more = more} c rest) rises above inside end state shows stands f k go =
+      operand_is_bare code heartbeat z (wider act n) fuel expr_law S bare i names st state shows e 0
+      v _ (store (cell j) v ∷ second) end (operand_wider code act n names e 0 v _
+      (store (cell j) v ∷ second) c) stands (λ m. given_all es st (λ ns. f (m ∷ ns))) k
       (λ m fits words beat at keeps is here.
       let K : Back code heartbeat = S.owing i (then (result (given_all es st (λ ns. f (m ∷ ns)))) k) in
       let one : machine.State = moved state words beat at in
@@ -133,7 +145,7 @@ module _ (code : Listing) (heartbeat z : ℕ) (act : Activation) (n fuel : ℕ) 
       let higher : value_cell (length names) ≤ cell j = go_up j in
       let within : cell j < act.size + n = inside j (omega arith) in
       stores_number K one (cell j) v m second end shows_one is higher within here (λ shows_two left_two.
-      arguments_law expr_law rest rises above (λ p low. inside p (omega (arith, low))) end (effect.with_stack (advanced one) (with_word state.stack (pos (z + cell j)) (word.Int m))) shows_two left_two (λ ns. f (m ∷ ns)) k
+      arguments_law bare expr_law rest rises above (λ p low. inside p (omega (arith, low))) end (effect.with_stack (advanced one) (with_word state.stack (pos (z + cell j)) (word.Int m))) shows_two left_two (λ ns. f (m ∷ ns)) k
       (λ ns task many shows_task stored left.
       go (m ∷ ns) task (ap suc many) shows_task (one_stored z cell j m ns state.stack task.stack rises fits (omega (arith, shows_one.low)) (omega (arith, shows_one.top, within)) stored) left)))
     where

@@ -161,6 +161,7 @@ module _ (code : Listing) (heartbeat z : ℕ) (act : Activation) (fuel : ℕ) (S
       label = λ w. back;
       calm = λ w. calm code back (call_exit entry.size act.size more) last behind_it;
       held = λ w s held. held.label;
+      bare = refl;
       goes_on = again;
     }
       where

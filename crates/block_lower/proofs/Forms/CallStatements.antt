@@ -118,7 +118,7 @@ module _ (code : Listing) (heartbeat z : ℕ) (act : Activation) (fuel : ℕ) (p
   abbrev nothing_kept : Keeping code heartbeat z act fuel S names ⊤
   nothing_kept = record { Holds = λ a s. ⊤; same = λ few a s t alike holds. tt }
 
-  pub call_law : (reduces : List Reduce) (k : meaning.State → Result) (fixed : List ℕ) (x : Name) (f
+  pub call_law : S.registers ≡ [] → (reduces : List Reduce) (k : meaning.State → Result) (fixed : List ℕ) (x : Name) (f
       : App) (entry : Entry) (cell : ℕ) (arguments test more : List Instr) (last end : Term)
       → Called f.callee.text.items stmt
       → entry_of act.functions f.callee.text.items ≡ Some entry → length f.args.items ≡
@@ -128,13 +128,13 @@ module _ (code : Listing) (heartbeat z : ℕ) (act : Activation) (fuel : ℕ) (p
       → Owed code heartbeat z act fuel S names more end k → Owed code heartbeat z act fuel S names
       (instr.Salloc entry.size ∷ arguments) last (λ st. then (result (run (setting reduces)
       (Call x f) st)) k)
-  call_law reduces k fixed x f entry cell arguments test more last end is_called is_entry arity c
-      may args call post i st state shows stands =
+  call_law none reduces k fixed x f entry cell arguments test more last end is_called is_entry arity
+      c may args call post i st state shows stands =
       let one : machine.State = effect.with_stack (advanced state) (pushed state.stack entry.size)
       in
       opens f.callee entry is_entry (S.owing i (then (result (run (setting reduces) (Call x f) st))
       k)) i st state arguments last shows stands
-      (arguments_law code heartbeat z act entry.size fuel S i names lowest st expr_law args
+      (arguments_law code heartbeat z act entry.size fuel S i names lowest st none expr_law args
       parameters_rise (omega (arith, above shows.few)) (λ p lt. omega (
         arith,
         parameters_fit

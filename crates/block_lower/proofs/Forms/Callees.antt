@@ -104,6 +104,7 @@ module _ (code : Listing) (heartbeat fuel z : ℕ) (act : Activation) where
   pub record Returns (C : Scene code heartbeat z) : Type 0 where
     pub label : C.World → ℕ
     pub calm : (w : C.World) → IsCalm code (label w)
+    pub bare : C.registers ≡ []
     pub held : (w : C.World) (s : StackValue) → C.kept w s →
         word_at s (pos (z + return_cell)) ≡ Some (word.Label (label w))
     pub goes_on : (w : C.World) (names : List (List ℕ)) (st : meaning.State) (state : machine.State)

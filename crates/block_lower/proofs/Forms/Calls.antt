@@ -300,6 +300,11 @@ module _ (code : Listing) (heartbeat z : ℕ) (act : Activation) (fuel : ℕ) (S
     lowest = 0;
     may = λ c. header ≤ c;
     cut = λ w n printed. record w { world = S.cut w.world n printed };
+    registers = [];
+    high = tt;
+    unlike = tt;
+    under = λ i d below. absurd (omega (arith, below));
+    sized = λ i d below. absurd (omega (arith, below));
     stable = λ w level s t low same h. kept_same w s t same.base (λ a lt. same.at a (omega (
       arith,
       lt,

@@ -33,9 +33,9 @@ use Rattle.block_lower.specs.Code.{Computes, Opens, to}
 use Rattle.block_lower.specs.Names.{names_after, names_after_list}
 use Rattle.block_lower.proofs.Scenes.Moves.{opened, calm, jumps}
 use Rattle.block_lower.proofs.Scenes.Results.{Result, result, then, left, leave_then}
-use Rattle.block_lower.proofs.Scenes.Scene.{Scene, ShowsIn, Owed}
+use Rattle.block_lower.proofs.Scenes.Scene.{Scene, ShowsIn, Owed, SeenIn, OwedSeen}
 use Rattle.block_lower.proofs.Scenes.Showing.{as_many, shows_left}
-use Rattle.block_lower.proofs.Forms.Simple.{still_shows}
+use Rattle.block_lower.proofs.Forms.Simple.{still_seen}
 use Rattle.block_lower.proofs.Scenes.Values.{ExprLaw, computes}
 
 -- ---- the variables that were visible before a list of statements are the first ones after it
@@ -97,9 +97,26 @@ module _ (code : Listing) (heartbeat z : ℕ) (act : Activation) (fuel : ℕ) wh
       let here : Remains code label 0 instrs end = opened code label instrs end opens in
       owed i st state shows (rw (at_label, at_begin) here)
 
+  -- the same of a task that shows it in its cells and in registers
+  abbrev pub SeenAt : Scene code heartbeat z → List (List ℕ) → ℕ → (meaning.State → Result) → Type 0
+  SeenAt S names label f =
+      (i : S.World) (st : meaning.State) (state : machine.State)
+      → SeenIn code heartbeat z act fuel S i names st state → state.block ≡ label → state.at ≡ 0
+      → (S.owing i (f st)).Holds state
+
+  pub enters_seen : (S : Scene code heartbeat z) (names : List (List ℕ)) (label : ℕ)
+      (instrs : List Instr) (end : Term) (f : meaning.State → Result) → Opens code label instrs end
+      → OwedSeen code heartbeat z act fuel S names instrs end f → SeenAt S names label f
+  enters_seen S names label instrs end f opens owed i st state shows at_label at_begin =
+      let here : Remains code label 0 instrs end = opened code label instrs end opens in
+      owed i st state shows (rw (at_label, at_begin) here)
+
   -- the end of a block of statements
-  pub leaves : (S : Scene code heartbeat z) (names inner : List (List ℕ)) (exit : ℕ) (more : List Instr) (end : Term) (k : meaning.State → Result) → take (length names) inner ≡ names → Opens code exit more end → Owed code heartbeat z act fuel S names more end k
-      → Owed code heartbeat z act fuel S inner [] (to exit) (λ s. k (left (length names) s))
+  pub leaves : (S : Scene code heartbeat z) (names inner : List (List ℕ)) (exit : ℕ)
+      (more : List Instr) (end : Term) (k : meaning.State → Result)
+      → take (length names) inner ≡ names → Opens code exit more end
+      → OwedSeen code heartbeat z act fuel S names more end k
+      → OwedSeen code heartbeat z act fuel S inner [] (to exit) (λ s. k (left (length names) s))
   leaves S names inner exit more end k first opens post i s state shows stands =
       jumps code heartbeat (S.owing i (k (left (length names) s))) state exit more end stands opens
       (post i (left (length names) s) (at_block exit (advanced state)) (shows_left code heartbeat z act fuel S i shows (length names) names first) (opened code exit more end opens))
@@ -112,18 +129,22 @@ module _ (code : Listing) (heartbeat z : ℕ) (act : Activation) (fuel : ℕ) wh
       (subst (λ (n : ℕ). (S.owing i (then (result (body begin)) (λ s. k (left n s)))).Holds state) (sym many) holds)
 
   pub blocks : (set : Setting) (S : Scene code heartbeat z) (names : List (List ℕ)) (body : List Stmt) (label : ℕ) (instrs : List Instr) (end : Term) (k : meaning.State → Result) → Opens code label instrs end
-      → Owed code heartbeat z act fuel S names instrs end (λ st. then (result (run_list set body st)) (λ s. k (left (length names) s)))
-      → OwedAt S names label (λ st. then (result (block (run_list set body) st)) k)
+      → OwedSeen code heartbeat z act fuel S names instrs end
+      (λ st. then (result (run_list set body st)) (λ s. k (left (length names) s)))
+      → SeenAt S names label (λ st. then (result (block (run_list set body) st)) k)
   blocks set S names body label instrs end k opens owed i st state shows at_label at_begin =
       leaving S i names st state (run_list set body) st k (as_many st.vars names shows.named)
-      (enters S names label instrs end (λ s. then (result (run_list set body s)) (λ t. k (left (length names) t))) opens owed i st state shows at_label at_begin)
+      (enters_seen S names label instrs end (λ s. then (result (run_list set body s))
+      (λ t. k (left (length names) t))) opens owed i st state shows at_label at_begin)
 
   -- a block with no statements
-  pub nothing_done : (set : Setting) (S : Scene code heartbeat z) (names : List (List ℕ)) (label : ℕ) (more : List Instr) (end : Term) (k : meaning.State → Result) → Opens code label more end → Owed code heartbeat z act fuel S names more end k
-      → OwedAt S names label (λ st. then (result (block (run_list set []) st)) k)
+  pub nothing_done : (set : Setting) (S : Scene code heartbeat z) (names : List (List ℕ))
+      (label : ℕ) (more : List Instr) (end : Term) (k : meaning.State → Result)
+      → Opens code label more end → OwedSeen code heartbeat z act fuel S names more end k
+      → SeenAt S names label (λ st. then (result (block (run_list set []) st)) k)
   nothing_done set S names label more end k opens post i st state shows at_label at_begin =
       subst (λ (vs : List Variable). (S.owing i (k (record st { vars = vs }))).Holds state) (sym (take_all (length st.vars) st.vars (omega arith)))
-      (enters S names label more end k opens post i st state shows at_label at_begin)
+      (enters_seen S names label more end k opens post i st state shows at_label at_begin)
 
 -- ---- choices
 
@@ -144,10 +165,15 @@ below_zero m = is_false _ (λ h. let same : negsuc m ≡ pos 0 = (Decides-int_eq
 
 module _ (code : Listing) (heartbeat z : ℕ) (act : Activation) (fuel : ℕ) (S : Scene code heartbeat z) (i : S.World) (names : List (List ℕ)) (st : meaning.State) (k : meaning.State → Result) (f g : meaning.State → Ran) where
   -- a jump where the number in register 0 isn't 0, and another one where it is
-  pub chooses : (n : ℤ) (state : machine.State) (first second : ℕ) (instrs : List Instr) (end : Term) → ShowsIn code heartbeat z act fuel S i names st state → register state.registers 0 ≡ word.Int n → Remains code state.block state.at (instr.IfJump 0 first ∷ []) (to second)
+  pub chooses : (n : ℤ) (state : machine.State) (first second : ℕ) (instrs : List Instr)
+      (end : Term) → SeenIn code heartbeat z act fuel S i names st state
+      → register state.registers 0 ≡ word.Int n → Remains code state.block state.at
+      (instr.IfJump 0 first ∷ []) (to second)
       → IsCalm code first → Opens code second instrs end
-      → ((task : machine.State) → ShowsIn code heartbeat z act fuel S i names st task → task.block ≡ first → task.at ≡ 0 → (S.owing i (then (result (f st)) k)).Holds task)
-      → ((task : machine.State) → ShowsIn code heartbeat z act fuel S i names st task → task.block ≡ second → task.at ≡ 0 → (S.owing i (then (result (g st)) k)).Holds task)
+      → ((task : machine.State) → SeenIn code heartbeat z act fuel S i names st task
+      → task.block ≡ first → task.at ≡ 0 → (S.owing i (then (result (f st)) k)).Holds task)
+      → ((task : machine.State) → SeenIn code heartbeat z act fuel S i names st task
+      → task.block ≡ second → task.at ≡ 0 → (S.owing i (then (result (g st)) k)).Holds task)
       → (S.owing i (then (result (choose n f g st)) k)).Holds state
   chooses (pos zero) state first second instrs end shows is stands calm_first opens yes_go no_go =
       on_if_not code heartbeat (S.owing i (then (result (g st)) k)) state 0 first (next code state (instr.IfJump 0 first) [] (to second) stands) is
@@ -161,14 +187,21 @@ module _ (code : Listing) (heartbeat z : ℕ) (act : Activation) (fuel : ℕ) (S
       (yes_go (at_block first (advanced state)) shows refl refl)
 
 module _ (code : Listing) (heartbeat z : ℕ) (act : Activation) (set : Setting) (expr_law : ExprLaw code heartbeat) (S : Scene code heartbeat z) (names : List (List ℕ)) (k : meaning.State → Result) where
-  pub if_law : (e : Expr) (body other : Vec Stmt Global) (first second : ℕ) (instrs then_instrs other_instrs : List Instr) (then_end other_end : Term) → Computes code act names e 0 instrs (instr.IfJump 0 first ∷ [])
+  pub if_law : (e : Expr) (body other : Vec Stmt Global) (first second : ℕ)
+      (instrs then_instrs other_instrs : List Instr) (then_end other_end : Term)
+      → Computes code act S.registers names e 0 instrs (instr.IfJump 0 first ∷ [])
       → Opens code first then_instrs then_end → Opens code second other_instrs other_end
-      → OwedAt code heartbeat z act set.fuel S names first (λ st. then (result (block (run_list set body.items) st)) k)
-      → OwedAt code heartbeat z act set.fuel S names second (λ st. then (result (block (run_list set other.items) st)) k)
-      → Owed code heartbeat z act set.fuel S names instrs (to second) (λ st. then (result (run set (If e body other) st)) k)
+      → SeenAt code heartbeat z act set.fuel S names first
+      (λ st. then (result (block (run_list set body.items) st)) k)
+      → SeenAt code heartbeat z act set.fuel S names second
+      (λ st. then (result (block (run_list set other.items) st)) k)
+      → OwedSeen code heartbeat z act set.fuel S names instrs (to second)
+      (λ st. then (result (run set (If e body other) st)) k)
   if_law e body other first second instrs then_instrs other_instrs then_end other_end c opens_first opens_second yes_go no_go i st state shows stands =
       subst (λ (r : Ran). (S.owing i (then (result r) k)).Holds state) (sym (run_if set e body other st))
       (computes code heartbeat z act set.fuel expr_law S i names st state shows e 0 instrs (instr.IfJump 0 first ∷ []) (to second) c stands (λ n. choose n (block (run_list set body.items)) (block (run_list set other.items)) st) k
       (λ n fits words beat at keeps is here.
       chooses code heartbeat z act set.fuel S i names st k (block (run_list set body.items)) (block (run_list set other.items)) n (moved state words beat at) first second other_instrs other_end
-      (still_shows code heartbeat z act set.fuel S i names st state 0 words beat at shows keeps) is here (calm code first then_instrs then_end opens_first) opens_second (yes_go i st) (no_go i st)))
+      (still_seen code heartbeat z act set.fuel S i names st state 0 words beat at shows keeps) is
+      here (calm code first then_instrs then_end opens_first) opens_second (yes_go i st)
+      (no_go i st)))

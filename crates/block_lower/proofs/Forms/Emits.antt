@@ -28,7 +28,7 @@ use Rattle.expr_lower.proofs.Standing.{next, behind}
 use Rattle.block_lower.specs.Code.{IsTable}
 use Rattle.block_lower.specs.Layout.{Activation}
 use Rattle.block_lower.proofs.Scenes.Results.{Result, noting, result, then}
-use Rattle.block_lower.proofs.Scenes.Scene.{Scene, Owed}
+use Rattle.block_lower.proofs.Scenes.Scene.{Scene, OwedSeen}
 use Rattle.block_lower.proofs.Scenes.Showing.{shows_output}
 use Rattle.block_lower.proofs.Forms.TableSteps.{on_emit}
 use Rattle.block_lower.specs.Owing.{IsWholeOf}
@@ -79,8 +79,11 @@ module _ (h : Holding) (t : Table) (held : IsWholeOf h t) where
       ap (λ n. rows_text h 0 n) held.rows ∙ (rows_are t.rows 0 (omega arith) ∙ ap (λ i. Some (row_lines t.rows t.cols (drop i t.cells))) none)
 
 module _ (code : Listing) (heartbeat z : ℕ) (act : Activation) (set : Setting) (S : Scene code heartbeat z) (names : List (List ℕ)) (k : meaning.State → Result) where
-  pub emit_law : (place : Place) (t : Name) (table : ℕ) (more : List Instr) (end : Term) → IsTable code act names t.text.items table
-      → Owed code heartbeat z act set.fuel S names more end k → Owed code heartbeat z act set.fuel S names (instr.Emit table ∷ more) end (λ st. then (result (run set (Emit place t) st)) k)
+  pub emit_law : (place : Place) (t : Name) (table : ℕ) (more : List Instr) (end : Term)
+      → IsTable code act S.registers names t.text.items table
+      → OwedSeen code heartbeat z act set.fuel S names more end k
+      → OwedSeen code heartbeat z act set.fuel S names (instr.Emit table ∷ more) end
+      (λ st. then (result (run set (Emit place t) st)) k)
   emit_law place t table more end is post i st state shows stands =
       let meant : Table = table_of st.tables t.text.items in
       let text : List ℕ = row_lines meant.rows meant.cols meant.cells in

@@ -45,15 +45,17 @@ use Rattle.expr_lower.proofs.Standing.{next, behind}
 use Rattle.handler_gen.proofs.Words.{word_same, word_other}
 use Rattle.block_lower.specs.Code.{Computes, Opens, to, store, load, below_test, step_up}
 use Rattle.block_lower.specs.Layout.{value_cell, bound_cell, Activation}
-use Rattle.block_lower.proofs.Forms.Choices.{enters, leaving}
+use Rattle.block_lower.proofs.Forms.Choices.{enters_seen, leaving}
 use Rattle.block_lower.proofs.Forms.Gaps.{IsGap, gap_is, gap_next, gap_more, gap_none, next_in}
 use Rattle.block_lower.proofs.Scenes.Moves.{opened, calm, jumps}
 use Rattle.block_lower.proofs.Scenes.Results.{Result, result, then, left, after_then}
-use Rattle.block_lower.proofs.Scenes.Scene.{Scene, Same, Near, Shows, ShowsIn, Owed, runs_kept}
+use Rattle.block_lower.proofs.Scenes.Scene.{Scene, Same, Near, Shows, SeenIn, OwedSeen, runs_kept}
+use Rattle.block_lower.proofs.Scenes.Scene.{ShowsIn, seen, seen_bare, shows_bare}
 use Rattle.block_lower.proofs.Scenes.Activations.{clear_above, marks_from}
-use Rattle.block_lower.proofs.Scenes.Showing.{as_many, shows_words, shows_new, shows_declared}
+use Rattle.block_lower.proofs.Scenes.Showing.{as_many, shows_low, shows_declared}
 use Rattle.block_lower.proofs.Scenes.Showing.{shows_ticked, shows_left}
-use Rattle.block_lower.proofs.Forms.Simple.{stores, still_shows}
+use Rattle.block_lower.proofs.Forms.Simple.{low_there, room_there, seen_above, seen_new, stores}
+use Rattle.block_lower.proofs.Forms.Simple.{still_seen}
 use Rattle.block_lower.proofs.Forms.Ticks.{ticks}
 use Rattle.block_lower.proofs.Scenes.Values.{ExprLaw, computes, literal_value}
 
@@ -120,6 +122,11 @@ module _ (code : Listing) (heartbeat z : ℕ) where
     around = record S.around { kept = λ w s. KeptIn z level m held (S.kept w) s };
     lowest = suc level;
     may = MayIn level S.may;
+    registers = S.registers;
+    high = S.high;
+    unlike = S.unlike;
+    under = λ i d below. omega (arith, S.under i d below, lowest);
+    sized = S.sized;
     cut = S.cut;
     below = λ w. clear_above (S.marks w) (z + value_cell S.lowest) (z + value_cell (suc level))
         (omega (arith, lowest)) (S.below w);
@@ -151,43 +158,68 @@ module _ (code : Listing) (heartbeat z : ℕ) where
         )));
   }
 
+  -- the bound is shown as it is
+  bound_seen : (act : Activation) (fuel : ℕ) (S : Scene code heartbeat z) (level : ℕ)
+      → S.lowest ≤ level → (held : Option ℤ) (words : List Word) (s : StackValue) → s.base ≤ z
+      → BoundHeld z level held s → BoundHeld z level held (seen code heartbeat z act fuel S words s)
+  bound_seen act fuel S level lowest None words s low h = tt
+  bound_seen act fuel S level lowest (Some j) words s low h =
+      seen_above code heartbeat z act fuel S words s (bound_cell level) low (omega (arith, lowest))
+      ∙ h
+
+  bound_there : (act : Activation) (fuel : ℕ) (S : Scene code heartbeat z) (level : ℕ)
+      → S.lowest ≤ level → (held : Option ℤ) (words : List Word) (s : StackValue) → s.base ≤ z
+      → BoundHeld z level held (seen code heartbeat z act fuel S words s) → BoundHeld z level held s
+  bound_there act fuel S level lowest None words s low h = tt
+  bound_there act fuel S level lowest (Some j) words s low h =
+      sym (seen_above code heartbeat z act fuel S words s (bound_cell level) low
+      (omega (arith, lowest)))
+      ∙ h
+
   module _ (act : Activation) (fuel : ℕ) (S : Scene code heartbeat z) (level : ℕ) (lowest : S.lowest
       ≤ level) (m : ℤ) (held : Option ℤ) (i : S.World) (names : List (List ℕ)) (st : meaning.State)
       (state : machine.State) where
-    shows_in : ShowsIn code heartbeat z act fuel S i names st state → word_at state.stack (pos (z +
-        value_cell level)) ≡ Some (word.Int m) → BoundHeld z level held state.stack → ShowsIn code
+    shows_in : SeenIn code heartbeat z act fuel S i names st state → word_at state.stack (pos (z +
+        value_cell level)) ≡ Some (word.Int m) → BoundHeld z level held state.stack → SeenIn code
         heartbeat z act fuel (inside S level lowest m held) i names st state
-    shows_in h cell bound = record {
-      size = h.size;
-      base = h.base;
-      limit = h.limit;
-      limited = h.limited;
-      tall = h.tall;
-      ticks = h.ticks;
-      within = h.within;
-      begun = h.begun;
-      printed = h.printed;
-      ends = h.ends;
-      free = h.free;
-      unmet = h.unmet;
-      marked = h.marked;
-      named = h.named;
-      few = h.few;
-      tabled = h.tabled;
-      held = h.held;
-      can = h.can;
-      ranged = h.ranged;
-      levels = h.levels;
-      unmarked = h.unmarked;
-      top = h.top;
-      low = h.low;
-      room = h.room;
-      vars = h.vars;
-      keeps = (h.keeps, cell, bound);
-    }
+    shows_in h cell bound = let low : state.stack.base ≤ z = low_there code heartbeat z act fuel S i
+        names st state h in record {
+          size = h.size;
+          base = h.base;
+          limit = h.limit;
+          limited = h.limited;
+          tall = h.tall;
+          ticks = h.ticks;
+          within = h.within;
+          begun = h.begun;
+          printed = h.printed;
+          ends = h.ends;
+          free = h.free;
+          unmet = h.unmet;
+          marked = h.marked;
+          named = h.named;
+          few = h.few;
+          tabled = h.tabled;
+          held = h.held;
+          can = h.can;
+          ranged = h.ranged;
+          levels = h.levels;
+          unmarked = h.unmarked;
+          top = h.top;
+          low = h.low;
+          room = h.room;
+          vars = h.vars;
+          keeps = (
+            h.keeps,
+            seen_above code heartbeat z act fuel S state.registers state.stack (value_cell level)
+                low
+                (omega (arith, lowest)) ∙ cell,
+            bound_seen act fuel S level lowest held state.registers state.stack low bound,
+          );
+        }
 
-    shows_out : ShowsIn code heartbeat z act fuel (inside S level lowest m held) i names st state →
-        ShowsIn code heartbeat z act fuel S i names st state
+    shows_out : SeenIn code heartbeat z act fuel (inside S level lowest m held) i names st state →
+        SeenIn code heartbeat z act fuel S i names st state
     shows_out h = record {
       size = h.size;
       base = h.base;
@@ -221,9 +253,9 @@ module _ (code : Listing) (heartbeat z : ℕ) where
 
 module _ (code : Listing) (heartbeat z : ℕ) (act : Activation) (fuel : ℕ) (S : Scene code heartbeat
     z) (i : S.World) (names : List (List ℕ)) (st : meaning.State) (state : machine.State) (shows :
-    ShowsIn code heartbeat z act fuel S i names st state) where
+    SeenIn code heartbeat z act fuel S i names st state) where
   abbrev Showing : machine.State → Type 0
-  Showing task = ShowsIn code heartbeat z act fuel S i names st task
+  Showing task = SeenIn code heartbeat z act fuel S i names st task
 
   tests_below : (r : Result) (counter : ℕ) (bound : operands.Value) (again exit : ℕ) (instrs more :
       List Instr) (last end : Term) (m j : ℤ) → register state.registers counter ≡ word.Int m →
@@ -246,11 +278,13 @@ module _ (code : Listing) (heartbeat z : ℕ) (act : Activation) (fuel : ℕ) (S
       words_by : Bool → List Word
       words_by b = slice_set state.registers 0 (word.Int (truth b))
 
-      shows_by : (b : Bool) → Shows code heartbeat z act fuel S i names st (words_by b) state.stack
-          state.tables state.fuel state.output state.goal (state.pending, state.met)
-      shows_by b = shows_words code heartbeat z act fuel S i shows (words_by b) (length-set
-          state.registers 0 (word.Int (truth b))) (register_other state.registers 0 31 (word.Int
-          (truth b)) (λ (q : 31 ≡ 0). absurd (omega (arith, q))))
+      shows_by : (b : Bool) → Shows code heartbeat z act fuel S i names st (words_by b)
+          (seen code heartbeat z act fuel S (words_by b) state.stack) state.tables state.fuel
+          state.output state.goal (state.pending, state.met)
+      shows_by b = shows_low code heartbeat z act fuel S i state.stack shows (words_by b)
+          (length-set state.registers 0 (word.Int (truth b)))
+          (λ r from. register_other state.registers 0 r (word.Int (truth b))
+          (λ (q : r ≡ 0). absurd (omega (arith, q, from))))
 
       is_by : (b : Bool) → register (words_by b) 0 ≡ word.Int (truth b)
       is_by b = register_set state.registers 0 (word.Int (truth b)) (omega (arith, shows.size))
@@ -299,13 +333,16 @@ module _ (code : Listing) (heartbeat z : ℕ) (act : Activation) (fuel : ℕ) (S
       (on_calc code heartbeat K loaded counter counter alu.Add (value.Int (pos 1)) (word.Int (m +ℤ
       pos 1)) (next code loaded _ _ end second) sum_is
       (stores code heartbeat z act fuel K added (value_cell (length names)) (value.Reg counter) more
-      end third base_two shows.low shows.room (omega arith)
+      end third base_two (low_there code heartbeat z act fuel S i names st state shows) (room_there
+      code heartbeat z act fuel S i names st state shows) (omega arith)
       (subst (λ (w : Word). K.Holds (effect.with_stack (advanced added) (with_word state.stack (pos
       (z + value_cell (length names))) w))) (sym is_two)
       (go two (counted (counted (counted state.beat))) (state.at + 1 + 1 + 1)
-      (shows_new code heartbeat z act fuel S i (shows_words code heartbeat z act fuel S i shows two
-      size_two (base_two ∙ sym shows.base)) (value_cell (length names)) (word.Int (m +ℤ pos 1))
-      (omega arith) lowest)
+      (seen_new code heartbeat z act fuel S i names st added
+      (shows_low code heartbeat z act fuel S i
+      state.stack shows two size_two high_two) (value_cell (length names)) (word.Int (m +ℤ pos 1))
+      (omega arith)
+      lowest)
       is_two (behind code state.block (state.at + 1 + 1) _ more end third)))))
     where
       loaded : machine.State
@@ -340,12 +377,15 @@ module _ (code : Listing) (heartbeat z : ℕ) (act : Activation) (fuel : ℕ) (S
       is_two = register_set (slice_set state.registers counter (word.Int m)) counter (word.Int (m +ℤ
           pos 1)) (omega (arith, shows.size, size_one))
 
+      high_two : (r : ℕ) → 24 ≤ r → register two r ≡ register state.registers r
+      high_two r from =
+          register_other (slice_set state.registers counter (word.Int m)) counter r (word.Int (m +ℤ
+          pos 1)) (λ (q : r ≡ counter). absurd (omega (arith, q, from, small)))
+          ∙ register_other state.registers counter r (word.Int m) (λ (q : r ≡ counter). absurd
+          (omega (arith, q, from, small)))
+
       base_two : register two 31 ≡ word.Int (pos z)
-      base_two =
-          register_other (slice_set state.registers counter (word.Int m)) counter 31 (word.Int (m +ℤ
-          pos 1)) (λ (q : 31 ≡ counter). absurd (omega (arith, q)))
-          ∙ (register_other state.registers counter 31 (word.Int m) (λ (q : 31 ≡ counter). absurd
-          (omega (arith, q))) ∙ shows.base)
+      base_two = high_two 31 (omega arith) ∙ shows.base
 
       sum_is : calculated alu.Add (register loaded.registers counter) (word.Int (pos 1)) ≡ Ok
           (word.Int (m +ℤ pos 1))
@@ -360,17 +400,19 @@ module _ (code : Listing) (heartbeat z : ℕ) (act : Activation) (set : Setting)
     (held : Option ℤ) (j : ℤ) (in_j : InRange j) (again exit : ℕ) (instrs reload more : List
     Instr) (last end : Term)
     (begins : Opens code again (instr.Tick ∷ instrs) last) (ends : Opens code exit more end)
-    (post : Owed code heartbeat z act set.fuel S names more end k)
-    (body_law : (m : ℤ) (f : meaning.State → Result) → Owed code heartbeat z act set.fuel (inside
+    (post : OwedSeen code heartbeat z act set.fuel S names more end k)
+    (body_law : (m : ℤ) (f : meaning.State → Result) → OwedSeen code heartbeat z act set.fuel
+    (inside
     code heartbeat z S (length names) lowest m held) inner (step_up counter (length names)
     reload) (to exit) f
-    → Owed code heartbeat z act set.fuel (inside code heartbeat z S (length names) lowest m held)
+    → OwedSeen code heartbeat z act set.fuel
+    (inside code heartbeat z S (length names) lowest m held)
     (names ++ x ∷ []) instrs last (λ st. then (result (run_list set body st)) f))
     (reloads : (K : Back code heartbeat) (i : S.World) (st : meaning.State) (state : machine.State)
-    (m : ℤ) → ShowsIn code heartbeat z act set.fuel S i names st state → BoundHeld z (length
+    (m : ℤ) → SeenIn code heartbeat z act set.fuel S i names st state → BoundHeld z (length
     names) held state.stack → register state.registers counter ≡ word.Int m → Remains code
     state.block state.at reload (to exit)
-    → ((words : List Word) (beat : BeatState) (at : ℕ) → ShowsIn code heartbeat z act set.fuel S i
+    → ((words : List Word) (beat : BeatState) (at : ℕ) → SeenIn code heartbeat z act set.fuel S i
     names st (moved state words beat at) → register words counter ≡ word.Int m → operand words
     bound ≡ word.Int j → Remains code state.block at (below_test counter bound again) (to exit)
     → K.Holds (moved state words beat at))
@@ -381,7 +423,7 @@ module _ (code : Listing) (heartbeat z : ℕ) (act : Activation) (set : Setting)
   -- what a task owes at the test, with so many turns to go
   abbrev AtTest : ℕ → Type 0
   AtTest n =
-      (m : ℤ) (i : S.World) (st : meaning.State) (state : machine.State) → ShowsIn code heartbeat z
+      (m : ℤ) (i : S.World) (st : meaning.State) (state : machine.State) → SeenIn code heartbeat z
       act set.fuel S i names st state → IsGap n m j → InRange m
       → register state.registers counter ≡ word.Int m → operand state.registers bound ≡ word.Int j →
       word_at state.stack (pos (z + value_cell (length names))) ≡ Some (word.Int m) → BoundHeld
@@ -391,7 +433,7 @@ module _ (code : Listing) (heartbeat z : ℕ) (act : Activation) (set : Setting)
 
   -- one turn, and what follows it
   a_turn : (n : ℕ) → AtTest n → (m : ℤ) (i : S.World) (st : meaning.State) → IsGap (suc n) m j →
-      InRange m → (task : machine.State) → ShowsIn code heartbeat z act set.fuel S i names st task →
+      InRange m → (task : machine.State) → SeenIn code heartbeat z act set.fuel S i names st task →
       task.block ≡ again → task.at ≡ 0
       → word_at task.stack (pos (z + value_cell (length names))) ≡ Some (word.Int m) → BoundHeld z
       (length names) held task.stack → (S.owing i (then (result (iterate set.fuel x (run_list
@@ -413,20 +455,29 @@ module _ (code : Listing) (heartbeat z : ℕ) (act : Activation) (set : Setting)
       (ticks code heartbeat z act set.fuel S i names st task shows_task instrs last G (λ s. follows
       (left (length names) s)) here
       (λ below.
-      let ticked_shows : ShowsIn code heartbeat z act set.fuel S i names later after_tick =
+      let ticked_shows : SeenIn code heartbeat z act set.fuel S i names later after_tick =
       shows_ticked code heartbeat z act set.fuel S i shows_task below in
-      let with_variable : ShowsIn code heartbeat z act set.fuel S i (names ++ x ∷ []) (record later
+      let with_variable : SeenIn code heartbeat z act set.fuel S i (names ++ x ∷ []) (record later
       { vars = declare later.vars x m }) after_tick = shows_declared code heartbeat z act
-      set.fuel S i ticked_shows x m room cell_is in_m in
+      set.fuel S i ticked_shows x m room (seen_above code heartbeat z act set.fuel S task.registers
+      task.stack (value_cell (length names)) (low_there code heartbeat z act set.fuel S i names st
+      task
+      shows_task) (omega (arith, lowest)) ∙ cell_is) in_m in
       body_law m (λ s. follows (left (length names) s))
       (λ w s done_task shows_done stands_done.
-      let shows_s : ShowsIn code heartbeat z act set.fuel S w names (left (length names) s)
+      let shows_s : SeenIn code heartbeat z act set.fuel S w names (left (length names) s)
       done_task =
       shows_left code heartbeat z act set.fuel S w (shows_out code heartbeat z act set.fuel S
       (length names) lowest m held w inner s done_task shows_done) (length names) names first in
+      let low : done_task.stack.base ≤ z = low_there code heartbeat z act set.fuel S w names (left
+      (length names) s) done_task shows_s in
       steps_up code heartbeat z act set.fuel S w names (left (length names) s) done_task shows_s
       (S.owing w (follows (left (length names) s))) counter reload (to exit) m small lowest room
-      shows_done.keeps.1 (next_in n m j gap in_m in_j) stands_done
+      (sym (seen_above code heartbeat z act set.fuel S done_task.registers done_task.stack
+      (value_cell
+      (length names)) low (omega (arith, lowest))) ∙ shows_done.keeps.1)
+      (next_in n m j gap in_m in_j)
+      stands_done
       (λ words beat at shows_up is_up left_up.
       let stack : StackValue = with_word done_task.stack (pos (z + value_cell (length names)))
       (word.Int (m +ℤ pos 1)) in
@@ -437,15 +488,20 @@ module _ (code : Listing) (heartbeat z : ℕ) (act : Activation) (set : Setting)
         stack =
             stack;
       } in
-      let from : done_task.stack.base ≤ z + value_cell (length names) = omega (arith, shows_s.low)
-      in
+      let from : done_task.stack.base ≤ z + value_cell (length names) = omega (arith, low) in
       let within : z + value_cell (length names) < done_task.stack.base + length
-      done_task.stack.cells = omega (arith, shows_s.room, room) in
+      done_task.stack.cells = omega (
+        arith,
+        room_there code heartbeat z act set.fuel S w names (left
+            (length names) s) done_task shows_s,
+        room,
+      ) in
       let cell_up : word_at stack (pos (z + value_cell (length names))) ≡ Some (word.Int (m +ℤ pos
       1)) = word_same done_task.stack (z + value_cell (length names)) (word.Int (m +ℤ pos 1))
       from within in
       let bound_up : BoundHeld z (length names) held stack = bound_stays z (length names) held
-      done_task.stack (word.Int (m +ℤ pos 1)) shows_s.low shows_done.keeps.2 in
+      done_task.stack (word.Int (m +ℤ pos 1)) low (bound_there code heartbeat z act set.fuel S
+      (length names) lowest held done_task.registers done_task.stack low shows_done.keeps.2) in
       reloads (S.owing w (follows (left (length names) s))) w (left (length names) s) up (m +ℤ pos
       1) shows_up bound_up is_up left_up
       (λ words_r beat_r at_r shows_r is_r bound_r left_r.
@@ -470,7 +526,8 @@ module _ (code : Listing) (heartbeat z : ℕ) (act : Activation) (set : Setting)
       tests_below code heartbeat z act set.fuel S i names st state shows (k st) counter bound again
       exit (instr.Tick ∷ instrs) more last end m j is_counter is_bound stands begins ends
       (λ is words beat shows_it. cc)
-      (λ is words beat shows_it. enters code heartbeat z act set.fuel S names exit more end k ends
+      (λ is words beat shows_it. enters_seen code heartbeat z act set.fuel S names exit more end k
+      ends
       post i st (moved_to state words beat exit 0) shows_it refl refl)
   loop_at (suc n) m i st state shows gap in_m is_counter is_bound cell bound_is stands =
       let over : int_lt m j ≡ true = gap_more n m j gap in
@@ -491,13 +548,15 @@ module _ (code : Listing) (heartbeat z : ℕ) (act : Activation) (fuel : ℕ) (e
   -- register 0.
   pub bounds : (k : meaning.State → Result) (a b : Expr) (here second rest : List Instr) (end :
       Term)
-      → Computes code act names a 0 here (store (value_cell (length names)) (value.Reg 0) ∷ second)
-      → Computes code act names b 0 second (store (bound_cell (length names)) (value.Reg 0) ∷ load 1
+      → Computes code act S.registers names a 0 here (store (value_cell (length names))
+      (value.Reg 0) ∷ second)
+      → Computes code act S.registers names b 0 second (store (bound_cell (length names))
+      (value.Reg 0) ∷ load 1
       (value_cell (length names)) ∷ rest)
       → (g : ℤ → ℤ → meaning.State → Ran) (i : S.World) (st : meaning.State) (state : machine.State)
-      → ShowsIn code heartbeat z act fuel S i names st state → Remains code state.block state.at
+      → SeenIn code heartbeat z act fuel S i names st state → Remains code state.block state.at
       here end
-      → ((m j : ℤ) → InRange m → InRange j → (task : machine.State) → ShowsIn code heartbeat z act
+      → ((m j : ℤ) → InRange m → InRange j → (task : machine.State) → SeenIn code heartbeat z act
       fuel S i names st task → register task.registers 1 ≡ word.Int m → register task.registers
       0 ≡ word.Int j
       → word_at task.stack (pos (z + value_cell (length names))) ≡ Some (word.Int m) → word_at
@@ -511,24 +570,29 @@ module _ (code : Listing) (heartbeat z : ℕ) (act : Activation) (fuel : ℕ) (e
       (λ m. given b st (λ j. g m j st)) k
       (λ m in_m words beat at keeps is left_here.
       let one : machine.State = moved state words beat at in
-      let shows_one : ShowsIn code heartbeat z act fuel S i names st one = still_shows code
+      let shows_one : SeenIn code heartbeat z act fuel S i names st one = still_seen code
       heartbeat z act fuel S i names st state 0 words beat at shows keeps in
       let K : Back code heartbeat = S.owing i (then (result (given b st (λ j. g m j st))) k) in
-      let from : state.stack.base ≤ z + value_cell (length names) = omega (arith, shows_one.low) in
+      let low : state.stack.base ≤ z =
+      low_there code heartbeat z act fuel S i names st one shows_one
+      in
+      let has_room : z + value_cell act.most ≤ state.stack.base + length state.stack.cells =
+      room_there code heartbeat z act fuel S i names st one shows_one in
+      let from : state.stack.base ≤ z + value_cell (length names) = omega (arith, low) in
       let within : z + value_cell (length names) < state.stack.base + length state.stack.cells =
-      omega (arith, shows_one.room, room) in
+      omega (arith, has_room, room) in
       stores code heartbeat z act fuel K one (value_cell (length names)) (value.Reg 0) second end
-      left_here shows_one.base shows_one.low shows_one.room (omega arith)
+      left_here shows_one.base low has_room (omega arith)
       (subst (λ (w : Word). K.Holds (effect.with_stack (advanced one) (with_word state.stack (pos (z
       + value_cell (length names))) w))) (sym is)
       (with_first m in_m (effect.with_stack (advanced one) (with_word state.stack (pos (z +
       value_cell (length names))) (word.Int m)))
-      (shows_new code heartbeat z act fuel S i shows_one (value_cell (length names)) (word.Int m)
-      (omega arith) lowest)
+      (seen_new code heartbeat z act fuel S i names st one shows_one (value_cell (length names))
+      (word.Int m) (omega arith) lowest)
       (word_same state.stack (z + value_cell (length names)) (word.Int m) from within)
       (behind code state.block at _ second end left_here))))
     where
-      with_first : (m : ℤ) → InRange m → (two : machine.State) → ShowsIn code heartbeat z act fuel S
+      with_first : (m : ℤ) → InRange m → (two : machine.State) → SeenIn code heartbeat z act fuel S
           i names st two → word_at two.stack (pos (z + value_cell (length names))) ≡ Some (word.Int
           m) → Remains code two.block two.at second end
           → (S.owing i (then (result (given b st (λ j. g m j st))) k)).Holds two
@@ -539,19 +603,22 @@ module _ (code : Listing) (heartbeat z : ℕ) (act : Activation) (fuel : ℕ) (e
           (λ j. g m j st) k
           (λ j in_j words beat at keeps is left_here.
           let three : machine.State = moved two words beat at in
-          let shows_three : ShowsIn code heartbeat z act fuel S i names st three = still_shows code
+          let shows_three : SeenIn code heartbeat z act fuel S i names st three = still_seen code
           heartbeat z act fuel S i names st two 0 words beat at shows_two keeps in
           let K : Back code heartbeat = S.owing i (then (result (g m j st)) k) in
-          let from : two.stack.base ≤ z + bound_cell (length names) = omega (arith, shows_two.low)
-          in
+          let low : two.stack.base ≤ z = low_there code heartbeat z act fuel S i names st two
+          shows_two in
+          let has_room : z + value_cell act.most ≤ two.stack.base + length two.stack.cells =
+          room_there code heartbeat z act fuel S i names st two shows_two in
+          let from : two.stack.base ≤ z + bound_cell (length names) = omega (arith, low) in
           let within : z + bound_cell (length names) < two.stack.base + length two.stack.cells =
-          omega (arith, shows_two.room, room) in
+          omega (arith, has_room, room) in
           let stack : StackValue = with_word two.stack (pos (z + bound_cell (length names)))
           (word.Int j) in
           let four : machine.State = effect.with_stack (advanced three) stack in
-          let shows_four : ShowsIn code heartbeat z act fuel S i names st four = shows_new code
-          heartbeat z act fuel S i shows_three (bound_cell (length names)) (word.Int j) (omega
-          arith) lowest in
+          let shows_four : SeenIn code heartbeat z act fuel S i names st four = seen_new code
+          heartbeat z act fuel S i names st three shows_three (bound_cell (length names)) (word.Int
+          j) (omega arith) lowest in
           let cell_four : word_at stack (pos (z + value_cell (length names))) ≡ Some (word.Int m) =
           word_other two.stack (z + bound_cell (length names)) (z + value_cell (length names))
           (word.Int j) from (λ (q : z + value_cell (length names) ≡ z + bound_cell (length
@@ -559,30 +626,60 @@ module _ (code : Listing) (heartbeat z : ℕ) (act : Activation) (fuel : ℕ) (e
           let fourth : Remains code two.block (at + 1) (load 1 (value_cell (length names)) ∷ rest)
           end = behind code two.block at _ _ end left_here in
           stores code heartbeat z act fuel K three (bound_cell (length names)) (value.Reg 0) (load 1
-          (value_cell (length names)) ∷ rest) end left_here shows_three.base shows_three.low
-          shows_three.room (omega arith)
+          (value_cell (length names)) ∷ rest) end left_here shows_three.base low has_room
+          (omega arith)
           (subst (λ (w : Word). K.Holds (effect.with_stack (advanced three) (with_word two.stack
           (pos (z + bound_cell (length names))) w))) (sym is)
           (on_load code heartbeat K four 1 31 (value_cell (length names)) (pos z) (word.Int m) (next
           code four _ _ end fourth) shows_four.base cell_four
           (go m j in_m in_j (with_register (advanced four) 1 (word.Int m))
-          (shows_words code heartbeat z act fuel S i shows_four (slice_set words 1 (word.Int m))
-          (length-set words 1 (word.Int m)) (register_other words 1 31 (word.Int m) (λ (q : 31 ≡
-          1). absurd (omega (arith, q)))))
+          (shows_low code heartbeat z act fuel S i stack shows_four (slice_set words 1 (word.Int m))
+          (length-set words 1 (word.Int m)) (λ r above. register_other words 1 r (word.Int m)
+          (λ (q :
+          r ≡ 1). absurd (omega (arith, q, above)))))
           (register_set words 1 (word.Int m) (omega (arith, shows_four.size))) (register_other words
           1 0 (word.Int m) (λ (q : 0 ≡ 1). absurd (omega (arith, q))) ∙ is) cell_four
           (word_same two.stack (z + bound_cell (length names)) (word.Int j) from within)
           (behind code two.block (at + 1) _ _ end fourth)))))
 
+  -- the same in a scene in which no register stands for a cell
+  pub bounds_bare : S.registers ≡ [] → (k : meaning.State → Result) (a b : Expr)
+      (here second rest : List Instr) (end : Term)
+      → Computes code act [] names a 0 here (store (value_cell (length names))
+      (value.Reg 0) ∷ second)
+      → Computes code act [] names b 0 second
+      (store (bound_cell (length names)) (value.Reg 0) ∷ load 1 (value_cell (length names)) ∷ rest)
+      → (g : ℤ → ℤ → meaning.State → Ran) (i : S.World) (st : meaning.State) (state : machine.State)
+      → ShowsIn code heartbeat z act fuel S i names st state
+      → Remains code state.block state.at here end
+      → ((m j : ℤ) → InRange m → InRange j → (task : machine.State)
+      → ShowsIn code heartbeat z act fuel S i names st task → register task.registers 1 ≡ word.Int m
+      → register task.registers 0 ≡ word.Int j
+      → word_at task.stack (pos (z + value_cell (length names))) ≡ Some (word.Int m)
+      → word_at task.stack (pos (z + bound_cell (length names))) ≡ Some (word.Int j)
+      → Remains code task.block task.at rest end → (S.owing i (then (result (g m j st)) k)).Holds
+      task)
+      → (S.owing i (then (result (given a st (λ m. given b st (λ j. g m j st)))) k)).Holds state
+  bounds_bare none k a b here second rest end c d g i st state shows stands go =
+      bounds k a b here second rest end
+      (subst (λ (ps : List (ℕ × ℕ)). Computes code act ps names a 0 here
+      (store (value_cell (length names)) (value.Reg 0) ∷ second)) (sym none) c)
+      (subst (λ (ps : List (ℕ × ℕ)). Computes code act ps names b 0 second
+      (store (bound_cell (length names)) (value.Reg 0) ∷ load 1 (value_cell (length names)) ∷ rest))
+      (sym none) d) g i st state (seen_bare code heartbeat z act fuel S i names st state none shows)
+      stands (λ m j in_m in_j task shows_task.
+      go m j in_m in_j task (shows_bare code heartbeat z act fuel S i names st task none
+      shows_task))
+
 module _ (code : Listing) (heartbeat z : ℕ) (act : Activation) (fuel : ℕ) (S : Scene code heartbeat
     z) (names : List (List ℕ)) where
   -- the bound, back in register 0
   pub reloads_bound : (j : ℤ) (more : List Instr) (end : Term) (K : Back code heartbeat) (i :
-      S.World) (st : meaning.State) (task : machine.State) (m : ℤ) → ShowsIn code heartbeat z act
+      S.World) (st : meaning.State) (task : machine.State) (m : ℤ) → SeenIn code heartbeat z act
       fuel S i names st task → BoundHeld z (length names) (Some j) task.stack → register
       task.registers 1 ≡ word.Int m
       → Remains code task.block task.at (load 0 (bound_cell (length names)) ∷ more) end
-      → ((words : List Word) (beat : BeatState) (at : ℕ) → ShowsIn code heartbeat z act fuel S i
+      → ((words : List Word) (beat : BeatState) (at : ℕ) → SeenIn code heartbeat z act fuel S i
       names st (moved task words beat at) → register words 1 ≡ word.Int m → operand words
       (value.Reg 0) ≡ word.Int j → Remains code task.block at more end → K.Holds (moved task
       words beat at))
@@ -591,9 +688,10 @@ module _ (code : Listing) (heartbeat z : ℕ) (act : Activation) (fuel : ℕ) (S
       on_load code heartbeat K task 0 31 (bound_cell (length names)) (pos z) (word.Int j) (next code
       task _ _ end stands) shows.base held
       (go (slice_set task.registers 0 (word.Int j)) (counted task.beat) (task.at + 1)
-      (shows_words code heartbeat z act fuel S i shows (slice_set task.registers 0 (word.Int j))
-      (length-set task.registers 0 (word.Int j)) (register_other task.registers 0 31 (word.Int
-      j) (λ (q : 31 ≡ 0). absurd (omega (arith, q)))))
+      (shows_low code heartbeat z act fuel S i task.stack shows
+      (slice_set task.registers 0 (word.Int j))
+      (length-set task.registers 0 (word.Int j)) (λ r above. register_other task.registers 0 r
+      (word.Int j) (λ (q : r ≡ 0). absurd (omega (arith, q, above)))))
       (register_other task.registers 0 1 (word.Int j) (λ (q : 1 ≡ 0). absurd (omega (arith, q))) ∙
       is) (register_set task.registers 0 (word.Int j) (omega (arith, shows.size)))
       (behind code task.block task.at _ _ end stands))
@@ -606,17 +704,21 @@ module _ (code : Listing) (heartbeat z : ℕ) (act : Activation) (set : Setting)
     meaning.State → Result) where
   pub loop_to_law : (x : Name) (a b : Expr) (body : Vec Stmt Global) (n : ℤ) (again exit : ℕ) (here
       instrs more : List Instr) (last end : Term) → literal b ≡ Some n → InRange n
-      → Computes code act names a 0 here (store (value_cell (length names)) (value.Reg 0) ∷
+      → Computes code act S.registers names a 0 here (store (value_cell (length names))
+      (value.Reg 0) ∷
       below_test 0 (value.Int n) again)
-      → Opens code again (instr.Tick ∷ instrs) last → Opens code exit more end → Owed code heartbeat
+      → Opens code again (instr.Tick ∷ instrs) last → Opens code exit more end
+      → OwedSeen code heartbeat
       z act set.fuel S names more end k
-      → ((m : ℤ) (f : meaning.State → Result) → Owed code heartbeat z act set.fuel (inside code
+      → ((m : ℤ) (f : meaning.State → Result) → OwedSeen code heartbeat z act set.fuel (inside code
       heartbeat z S (length names) lowest m None) inner (step_up 0 (length names) (below_test 0
       (value.Int n) again)) (to exit) f
-      → Owed code heartbeat z act set.fuel (inside code heartbeat z S (length names) lowest m None)
+      → OwedSeen code heartbeat z act set.fuel
+      (inside code heartbeat z S (length names) lowest m None)
       (names ++ x.text.items ∷ []) instrs last (λ st. then (result (run_list set body.items st))
       f))
-      → Owed code heartbeat z act set.fuel S names here (to exit) (λ st. then (result (run set (Loop
+      → OwedSeen code heartbeat z act set.fuel S names here (to exit)
+      (λ st. then (result (run set (Loop
       x a b body) st)) k)
   loop_to_law x a b body n again exit here instrs more last end is_literal in_n c begins ends post
       body_law i st state shows stands =
@@ -629,17 +731,21 @@ module _ (code : Listing) (heartbeat z : ℕ) (act : Activation) (set : Setting)
       m j) m st)) k
       (λ m in_m words beat at keeps is left_here.
       let one : machine.State = moved state words beat at in
-      let shows_one : ShowsIn code heartbeat z act set.fuel S i names st one = still_shows code
+      let shows_one : SeenIn code heartbeat z act set.fuel S i names st one = still_seen code
       heartbeat z act set.fuel S i names st state 0 words beat at shows keeps in
       let K : Back code heartbeat = S.owing i (then (result (iterate set.fuel x.text.items (run_list
       set body.items) [] [] (int_gap m n) m st)) k) in
-      let from : state.stack.base ≤ z + value_cell (length names) = omega (arith, shows_one.low) in
+      let low : state.stack.base ≤ z = low_there code heartbeat z act set.fuel S i names st one
+      shows_one in
+      let has_room : z + value_cell act.most ≤ state.stack.base + length state.stack.cells =
+      room_there code heartbeat z act set.fuel S i names st one shows_one in
+      let from : state.stack.base ≤ z + value_cell (length names) = omega (arith, low) in
       let within : z + value_cell (length names) < state.stack.base + length state.stack.cells =
-      omega (arith, shows_one.room, room) in
+      omega (arith, has_room, room) in
       rw (literal_value st.vars st.tables b n is_literal)
       (stores code heartbeat z act set.fuel K one (value_cell (length names)) (value.Reg 0)
-      (below_test 0 (value.Int n) again) (to exit) left_here shows_one.base shows_one.low
-      shows_one.room (omega arith)
+      (below_test 0 (value.Int n) again) (to exit) left_here shows_one.base low has_room
+      (omega arith)
       (subst (λ (w : Word). K.Holds (effect.with_stack (advanced one) (with_word state.stack (pos (z
       + value_cell (length names))) w))) (sym is)
       (loop_at code heartbeat z act set S names inner lowest room first k x.text.items body.items 0
@@ -649,26 +755,32 @@ module _ (code : Listing) (heartbeat z : ℕ) (act : Activation) (set : Setting)
       is_s refl stands_s)
       (int_gap m n) m i st (effect.with_stack (advanced one) (with_word state.stack (pos (z +
       value_cell (length names))) (word.Int m)))
-      (shows_new code heartbeat z act set.fuel S i shows_one (value_cell (length names)) (word.Int
-      m) (omega arith) lowest)
+      (seen_new code heartbeat z act set.fuel S i names st one shows_one (value_cell (length names))
+      (word.Int m) (omega arith) lowest)
       (gap_is m n) in_m is refl (word_same state.stack (z + value_cell (length names)) (word.Int m)
       from within) tt
       (behind code state.block at _ (below_test 0 (value.Int n) again) (to exit) left_here))))))
 
   pub loop_law : (x : Name) (a b : Expr) (body : Vec Stmt Global) (again exit : ℕ) (here second
       instrs more : List Instr) (last end : Term)
-      → Computes code act names a 0 here (store (value_cell (length names)) (value.Reg 0) ∷ second)
-      → Computes code act names b 0 second (store (bound_cell (length names)) (value.Reg 0) ∷ load 1
+      → Computes code act S.registers names a 0 here (store (value_cell (length names))
+      (value.Reg 0) ∷ second)
+      → Computes code act S.registers names b 0 second (store (bound_cell (length names))
+      (value.Reg 0) ∷ load 1
       (value_cell (length names)) ∷ below_test 1 (value.Reg 0) again)
-      → Opens code again (instr.Tick ∷ instrs) last → Opens code exit more end → Owed code heartbeat
+      → Opens code again (instr.Tick ∷ instrs) last → Opens code exit more end
+      → OwedSeen code heartbeat
       z act set.fuel S names more end k
-      → ((j m : ℤ) (f : meaning.State → Result) → Owed code heartbeat z act set.fuel (inside code
+      → ((j m : ℤ) (f : meaning.State → Result) → OwedSeen code heartbeat z act set.fuel
+      (inside code
       heartbeat z S (length names) lowest m (Some j)) inner (step_up 1 (length names) (load 0
       (bound_cell (length names)) ∷ below_test 1 (value.Reg 0) again)) (to exit) f
-      → Owed code heartbeat z act set.fuel (inside code heartbeat z S (length names) lowest m (Some
+      → OwedSeen code heartbeat z act set.fuel (inside code heartbeat z S (length names) lowest m
+      (Some
       j)) (names ++ x.text.items ∷ []) instrs last (λ st. then (result (run_list set body.items
       st)) f))
-      → Owed code heartbeat z act set.fuel S names here (to exit) (λ st. then (result (run set (Loop
+      → OwedSeen code heartbeat z act set.fuel S names here (to exit)
+      (λ st. then (result (run set (Loop
       x a b body) st)) k)
   loop_law x a b body again exit here second instrs more last end c d begins ends post body_law i st
       state shows stands =

@@ -65,7 +65,7 @@ use Rattle.block_lower.proofs.Forms.TableSteps.{on_make, make_traps}
 use Rattle.block_lower.specs.Owing.{IsTable, AreDeclared, AreNamed, IsWholeOf, AreHeld}
 use Rattle.block_lower.proofs.Scenes.Regions.{AreShown, Region, everywhere, wholly_shown}
 use Rattle.block_lower.proofs.Scenes.Tables.{AreWhole}
-use Rattle.block_lower.proofs.Scenes.Values.{ExprLaw, computes}
+use Rattle.block_lower.proofs.Scenes.Values.{ExprLaw, computes_bare}
 
 -- ---- tables that are wholly held
 
@@ -216,7 +216,11 @@ module _ (code : Listing) (heartbeat z : ℕ) (act : Activation) (fuel : ℕ) (S
     keeps = h.keeps;
   }
 
-module _ (code : Listing) (heartbeat z : ℕ) (act : Activation) (fuel : ℕ) (expr_law : ExprLaw code heartbeat) (S : Scene code heartbeat z) (lowest : S.lowest ≤ 0) (roots : (i : S.World) → S.goal i ≡ goal.Root) (all : (i : S.World) → S.region i ≡ everywhere) (can : (i : S.World) (ts : List Table) → S.can i ts) (given_tables : List Table) where
+module _ (code : Listing) (heartbeat z : ℕ) (act : Activation) (fuel : ℕ)
+    (expr_law : ExprLaw code heartbeat) (S : Scene code heartbeat z) (bare : S.registers ≡ [])
+    (lowest : S.lowest ≤ 0) (roots : (i : S.World) → S.goal i ≡ goal.Root) (all : (i : S.World)
+    → S.region i ≡ everywhere) (can : (i : S.World) (ts : List Table) → S.can i ts)
+    (given_tables : List Table) where
   -- a task that has made the tables up to here
   pub record Making (i : S.World) (seen : List (List ℕ)) (cells : ℕ) (ds : List TableDecl) (st : meaning.State) (state : machine.State) : Type 0 where
     pub shows : ShowsIn code heartbeat z (seeing act seen) fuel S i [] st state
@@ -371,7 +375,8 @@ module _ (code : Listing) (heartbeat z : ℕ) (act : Activation) (fuel : ℕ) (e
 
   -- the first size kept in a cell, and taken back behind the second
   kept_size : (seen : List (List ℕ)) (b : Expr) (number : ℕ) (place : Place) (second third : List Instr) (end : Term) → kept_cell act 1 ≤ act.size
-      → Computes code (seeing act seen) [] b 0 second (load 1 (kept_cell act 0) ∷ instr.Make number 1 0 place ∷ third)
+      → Computes code (seeing act seen) [] [] b 0 second
+      (load 1 (kept_cell act 0) ∷ instr.Make number 1 0 place ∷ third)
       → (g : ℤ → Ran) (f : meaning.State → Result) (i : S.World) (st : meaning.State) (state : machine.State) (m : ℤ) → ShowsIn code heartbeat z (seeing act seen) fuel S i [] st state → register state.registers 0 ≡ word.Int m
       → Remains code state.block state.at (store (kept_cell act 0) (value.Reg 0) ∷ second) end
       → ((n : ℤ) → InRange n → (other : machine.State) → ShowsIn code heartbeat z (seeing act seen) fuel S i [] st other → other.tables ≡ state.tables → other.made ≡ state.made → register other.registers 1 ≡ word.Int m → register other.registers 0 ≡ word.Int n
@@ -386,7 +391,9 @@ module _ (code : Listing) (heartbeat z : ℕ) (act : Activation) (fuel : ℕ) (e
       let shows_one : ShowsIn code heartbeat z (seeing act seen) fuel S i [] st one = shows_new code heartbeat z (seeing act seen) fuel S i shows (kept_cell act 0) (word.Int m) (omega arith) lowest in
       stores_in code heartbeat z (seeing act seen) fuel K state (kept_cell act 0) (value.Reg 0) second end stands shows.base shows.low inside_it
       (subst (λ (w : Word). K.Holds (effect.with_stack (advanced state) (with_word state.stack (pos (z + kept_cell act 0)) w))) (sym is_m)
-      (computes code heartbeat z (seeing act seen) fuel expr_law S i [] st one shows_one b 0 second (load 1 (kept_cell act 0) ∷ instr.Make number 1 0 place ∷ third) end d (behind code state.block state.at _ second end stands) g f
+      (computes_bare code heartbeat z (seeing act seen) fuel expr_law S bare i [] st one shows_one b
+      0 second (load 1 (kept_cell act 0) ∷ instr.Make number 1 0 place ∷ third) end d
+      (behind code state.block state.at _ second end stands) g f
       (λ n in_n words beat at keeps is_n left.
       let two : machine.State = moved one words beat at in
       let shows_two : ShowsIn code heartbeat z (seeing act seen) fuel S i [] st two = still_shows code heartbeat z (seeing act seen) fuel S i [] st one 0 words beat at shows_one keeps in
@@ -411,12 +418,15 @@ module _ (code : Listing) (heartbeat z : ℕ) (act : Activation) (fuel : ℕ) (e
       let others : MakingOwes (seen ++ x.text.items ∷ []) ds third end f =
       makes_law rest end (front ++ code_table.Made ∷ []) ts (is_code ∙ sym (append_assoc front (code_table.Made ∷ []) ts)) (omega (arith, as_many, length-append front (code_table.Made ∷ []), length-append seen (x.text.items ∷ []))) declared.1 there f
       (subst (λ ns. Owed code heartbeat z (seeing act ns) fuel S [] more end f) (sym (append_assoc seen (x.text.items ∷ []) (map table_name ds))) post) in
-      computes code heartbeat z (seeing act seen) fuel expr_law S i [] st state h.shows a 0 instrs second end c stands
+      computes_bare code heartbeat z (seeing act seen) fuel expr_law S bare i [] st state h.shows a
+      0 instrs second end c stands
       (λ m. given b st (λ n. followed x ds cells st m n)) f
       (λ m in_m words beat at keeps is_m left.
       let one : machine.State = moved state words beat at in
       let making_one : Making i seen cells (Made x a b ∷ ds) st one = making_moved i seen cells (Made x a b ∷ ds) st state 0 words beat at h keeps in
-      computes code heartbeat z (seeing act seen) fuel expr_law S i [] st one making_one.shows b 1 second (instr.Make (length seen) 0 1 x.place ∷ third) end d left (λ n. followed x ds cells st m n) f
+      computes_bare code heartbeat z (seeing act seen) fuel expr_law S bare i [] st one
+      making_one.shows b 1 second (instr.Make (length seen) 0 1 x.place ∷ third) end d left
+      (λ n. followed x ds cells st m n) f
       (λ n in_n words2 beat2 at2 keeps2 is_n left2.
       at_make x a b ds seen 0 1 third end front ts is_code as_many f others cells i st (moved one words2 beat2 at2) (making_moved i seen cells (Made x a b ∷ ds) st one 1 words2 beat2 at2 making_one keeps2) left2 m n in_m in_n (keeps2.below 0 (omega arith) ∙ is_m) is_n))
   makes_law (made_kept_table {seen} {x} {a} {b} {ds} kept c d rest) end front [] is_code as_many declared there f post cells i st state h stands = absurd declared
@@ -425,7 +435,8 @@ module _ (code : Listing) (heartbeat z : ℕ) (act : Activation) (fuel : ℕ) (e
       let others : MakingOwes (seen ++ x.text.items ∷ []) ds third end f =
       makes_law rest end (front ++ code_table.Made ∷ []) ts (is_code ∙ sym (append_assoc front (code_table.Made ∷ []) ts)) (omega (arith, as_many, length-append front (code_table.Made ∷ []), length-append seen (x.text.items ∷ []))) declared.1 there f
       (subst (λ ns. Owed code heartbeat z (seeing act ns) fuel S [] more end f) (sym (append_assoc seen (x.text.items ∷ []) (map table_name ds))) post) in
-      computes code heartbeat z (seeing act seen) fuel expr_law S i [] st state h.shows a 0 instrs (store (kept_cell act 0) (value.Reg 0) ∷ second) end c stands
+      computes_bare code heartbeat z (seeing act seen) fuel expr_law S bare i [] st state h.shows a
+      0 instrs (store (kept_cell act 0) (value.Reg 0) ∷ second) end c stands
       (λ m. given b st (λ n. followed x ds cells st m n)) f
       (λ m in_m words beat at keeps is_m left.
       let one : machine.State = moved state words beat at in

@@ -1,6 +1,6 @@
 -- The laws of a write to a cell of a table.
 use Rattle.std.proofs.Common.{◌≡◌, ℕ, ◌+◌, ◌<◌, ◌≤◌, true, false, List, [], ◌∷◌, ◌++◌, length, Some}
-use Rattle.std.proofs.Common.{refl, sym, subst, ◌∙◌, arith}
+use Rattle.std.proofs.Common.{inl, refl, sym, subst, ◌∙◌, arith}
 use Rattle.std.specs.Prelude.{ℤ, pos, slice_set}
 use Rattle.std.proofs.lemmas.List.{length-set}
 use Rattle.slices.specs.Holding.{Holding}
@@ -38,14 +38,15 @@ use Rattle.expr_lower.proofs.Standing.{next, behind}
 use Rattle.handler_gen.proofs.Words.{word_same, word_other}
 use Rattle.block_lower.specs.Code as code_of
 use Rattle.block_lower.specs.Code.{Computes, IsTable, put_tested, store, load}
-use Rattle.block_lower.specs.Layout.{kept_cell, Activation}
+use Rattle.block_lower.specs.Layout.{kept_cell, value_cell, Activation}
 use Rattle.block_lower.proofs.Scenes.Cells.{write_shown, names_write, write_in_range}
 use Rattle.block_lower.proofs.Scenes.Moves.{traps}
 use Rattle.block_lower.proofs.Scenes.Regions.{HasCell, cell_shown}
+use Rattle.block_lower.proofs.Scenes.Registered.{above_apart}
 use Rattle.block_lower.proofs.Scenes.Results.{Result, noting, result, then}
-use Rattle.block_lower.proofs.Scenes.Scene.{Scene, ShowsIn, Owed}
-use Rattle.block_lower.proofs.Scenes.Showing.{shows_words, shows_new, shows_tables}
-use Rattle.block_lower.proofs.Forms.Simple.{stores_in, still_shows}
+use Rattle.block_lower.proofs.Scenes.Scene.{Scene, SeenIn, OwedSeen}
+use Rattle.block_lower.proofs.Scenes.Showing.{shows_low, shows_new, shows_stored, shows_tables}
+use Rattle.block_lower.proofs.Forms.Simple.{low_there, stores_in, still_seen, top_there}
 use Rattle.block_lower.proofs.Forms.TableSteps.{on_put}
 use Rattle.block_lower.proofs.Scenes.Values.{ExprLaw, computes, shown, holds_with}
 
@@ -63,14 +64,18 @@ put_in t i j n st is_so = rw (is_so, put_cell) refl
 
 module _ (code : Listing) (heartbeat z : ℕ) (act : Activation) (fuel : ℕ) (S : Scene code heartbeat z) (names : List (List ℕ)) (k : meaning.State → Result) where
   -- where the row, the column and the number are in registers, a task sets the cell or traps
-  puts : (t : Name) (table trap row col number test : ℕ) (more : List Instr) (end : Term) → IsTable code act names t.text.items table → AreAt code trap (trap_block trap Index t.place ∷ [])
-      → row < test → col < test → number < test → test < 24 → Owed code heartbeat z act fuel S names more end k
-      → (i : S.World) (st : meaning.State) (state : machine.State) → ShowsIn code heartbeat z act fuel S i names st state → (a b n : ℤ) → InRange n
+  puts : (t : Name) (table trap row col number test : ℕ) (more : List Instr) (end : Term)
+      → IsTable code act S.registers names t.text.items table
+      → AreAt code trap (trap_block trap Index t.place ∷ [])
+      → row < test → col < test → number < test → test < 24
+      → OwedSeen code heartbeat z act fuel S names more end k
+      → (i : S.World) (st : meaning.State) (state : machine.State)
+      → SeenIn code heartbeat z act fuel S i names st state → (a b n : ℤ) → InRange n
       → register state.registers row ≡ word.Int a → register state.registers col ≡ word.Int b → register state.registers number ≡ word.Int n
       → Remains code state.block state.at (put_tested table row col number test trap more) end → (S.owing i (then (result (put_cell t a b n st)) k)).Holds state
   puts t table trap row col number test more end is found row_low col_low number_low low post i st state shows a b n in_n row_in col_in number_in stands =
-      range_law code heartbeat K is.scope st.vars st.tables t is.inside trap found.0 state (instr.Put at_number row col number ∷ more) end row col test a b [] row_low col_low low row_in col_in
-      (holds_with code heartbeat z act fuel S i names st state shows is.scope is.sees [] tt)
+      range_law code heartbeat K is.scope st.vars st.tables t is.inside trap found.0 state (instr.Put at_number row col number ∷ more) end row col test a b [] (inl row_low) (inl col_low) low row_in col_in
+      (holds_with code heartbeat z act fuel S i names st state shows is.scope is.sees is.kept [] tt)
       (subst (λ (m : ℕ). Remains code state.block state.at (range_tests at_number row col test trap ++ instr.Put m row col number ∷ more) end) is.is
       (subst (λ (m : ℕ). Remains code state.block state.at (range_tests m row col test trap ++ instr.Put table row col number ∷ more) end) is.is stands))
       out_of_range in_range
@@ -90,7 +95,8 @@ module _ (code : Listing) (heartbeat z : ℕ) (act : Activation) (fuel : ℕ) (S
       in_range : has_cell (table_of st.tables t.text.items) a b ≡ true → Passed code heartbeat K test state (instr.Put at_number row col number ∷ more) end
       in_range is_so words beat at keeps left =
           let task : machine.State = moved state words beat at in
-          let shows_task : ShowsIn code heartbeat z act fuel S i names st task = still_shows code heartbeat z act fuel S i names st state test words beat at shows keeps in
+          let shows_task : SeenIn code heartbeat z act fuel S i names st task =
+          still_seen code heartbeat z act fuel S i names st state test words beat at shows keeps in
           subst (λ (r : Ran). (S.owing i (then (result r) k)).Holds task) (sym (put_in t a b n st is_so))
           (S.touches i (Writes t.text.items a b ∷ []) (k (put_state t a b n st)) task (tt, tt) (λ given_it.
           let covered : HasCell (S.region i t.text.items) a b = (S.covers i (noting (Writes t.text.items a b ∷ []) (k (put_state t a b n st))) given_it).0 in
@@ -106,71 +112,115 @@ module _ (code : Listing) (heartbeat z : ℕ) (act : Activation) (fuel : ℕ) (S
           (behind code state.block at _ more end left))))
 
 module _ (code : Listing) (heartbeat z : ℕ) (act : Activation) (set : Setting) (expr_law : ExprLaw code heartbeat) (S : Scene code heartbeat z) (names : List (List ℕ)) (lowest : S.lowest ≤ length names) (k : meaning.State → Result) where
-  pub put_law : (t : Name) (a b e : Expr) (table trap : ℕ) (instrs second third more : List Instr) (end : Term) → IsTable code act names t.text.items table
-      → Computes code act names a 0 instrs second → Computes code act names b 1 second third → Computes code act names e 2 third (put_tested table 0 1 2 3 trap more)
+  pub put_law : (t : Name) (a b e : Expr) (table trap : ℕ) (instrs second third more : List Instr)
+      (end : Term) → IsTable code act S.registers names t.text.items table
+      → Computes code act S.registers names a 0 instrs second
+      → Computes code act S.registers names b 1 second third
+      → Computes code act S.registers names e 2 third (put_tested table 0 1 2 3 trap more)
       → AreAt code trap (trap_block trap Index t.place ∷ [])
-      → Owed code heartbeat z act set.fuel S names more end k → Owed code heartbeat z act set.fuel S names instrs end (λ st. then (result (run set (Put t a b e) st)) k)
+      → OwedSeen code heartbeat z act set.fuel S names more end k
+      → OwedSeen code heartbeat z act set.fuel S names instrs end
+      (λ st. then (result (run set (Put t a b e) st)) k)
   put_law t a b e table trap instrs second third more end is c d f found post i st state shows stands =
       computes code heartbeat z act set.fuel expr_law S i names st state shows a 0 instrs second end c stands (λ m. given b st (λ j. given e st (λ n. put_cell t m j n st))) k
       (λ m in_m words beat at keeps is_m left.
       let one : machine.State = moved state words beat at in
-      let shows_one : ShowsIn code heartbeat z act set.fuel S i names st one = still_shows code heartbeat z act set.fuel S i names st state 0 words beat at shows keeps in
+      let shows_one : SeenIn code heartbeat z act set.fuel S i names st one =
+      still_seen code heartbeat z act set.fuel S i names st state 0 words beat at shows keeps in
       computes code heartbeat z act set.fuel expr_law S i names st one shows_one b 1 second third end d left (λ j. given e st (λ n. put_cell t m j n st)) k
       (λ j in_j words2 beat2 at2 keeps2 is_j left2.
       let two : machine.State = moved one words2 beat2 at2 in
-      let shows_two : ShowsIn code heartbeat z act set.fuel S i names st two = still_shows code heartbeat z act set.fuel S i names st one 1 words2 beat2 at2 shows_one keeps2 in
+      let shows_two : SeenIn code heartbeat z act set.fuel S i names st two =
+      still_seen code heartbeat z act set.fuel S i names st one 1 words2 beat2 at2 shows_one keeps2
+      in
       computes code heartbeat z act set.fuel expr_law S i names st two shows_two e 2 third (put_tested table 0 1 2 3 trap more) end f left2 (λ n. put_cell t m j n st) k
       (λ n in_n words3 beat3 at3 keeps3 is_n left3.
       let three : machine.State = moved two words3 beat3 at3 in
-      let shows_three : ShowsIn code heartbeat z act set.fuel S i names st three = still_shows code heartbeat z act set.fuel S i names st two 2 words3 beat3 at3 shows_two keeps3 in
+      let shows_three : SeenIn code heartbeat z act set.fuel S i names st three =
+      still_seen code heartbeat z act set.fuel S i names st two 2 words3 beat3 at3 shows_two keeps3
+      in
       puts code heartbeat z act set.fuel S names k t table trap 0 1 2 3 more end is found (omega arith) (omega arith) (omega arith) (omega arith) post i st three shows_three m j n in_n
       (keeps3.below 0 (omega arith) ∙ (keeps2.below 0 (omega arith) ∙ is_m)) (keeps3.below 1 (omega arith) ∙ is_j) is_n left3)))
 
   -- the row and the column are kept in two cells, and taken back behind the number
-  pub put_kept_law : (t : Name) (a b e : Expr) (table trap : ℕ) (instrs second third more : List Instr) (end : Term) → code_of.Keeps code act 2 → IsTable code act names t.text.items table
-      → Computes code act names a 0 instrs (store (kept_cell act 0) (value.Reg 0) ∷ second) → Computes code act names b 0 second (store (kept_cell act 1) (value.Reg 0) ∷ third)
-      → Computes code act names e 0 third (load 1 (kept_cell act 0) ∷ load 2 (kept_cell act 1) ∷ put_tested table 1 2 0 3 trap more)
+  pub put_kept_law : (t : Name) (a b e : Expr) (table trap : ℕ)
+      (instrs second third more : List Instr) (end : Term) → code_of.Keeps code act 2
+      → IsTable code act S.registers names t.text.items table
+      → Computes code act S.registers names a 0 instrs
+      (store (kept_cell act 0) (value.Reg 0) ∷ second) → Computes code act S.registers names b 0
+      second (store (kept_cell act 1) (value.Reg 0) ∷ third)
+      → Computes code act S.registers names e 0 third (load 1 (kept_cell act 0) ∷ load 2
+      (kept_cell act 1) ∷ put_tested table 1 2 0 3 trap more)
       → AreAt code trap (trap_block trap Index t.place ∷ [])
-      → Owed code heartbeat z act set.fuel S names more end k → Owed code heartbeat z act set.fuel S names instrs end (λ st. then (result (run set (Put t a b e) st)) k)
+      → OwedSeen code heartbeat z act set.fuel S names more end k
+      → OwedSeen code heartbeat z act set.fuel S names instrs end
+      (λ st. then (result (run set (Put t a b e) st)) k)
   put_kept_law t a b e table trap instrs second third more end kept is c d f found post i st state shows stands =
       computes code heartbeat z act set.fuel expr_law S i names st state shows a 0 instrs (store (kept_cell act 0) (value.Reg 0) ∷ second) end c stands (λ m. given b st (λ j. given e st (λ n. put_cell t m j n st))) k
       (λ m in_m words beat at keeps is_m left.
       let one : machine.State = moved state words beat at in
-      let shows_one : ShowsIn code heartbeat z act set.fuel S i names st one = still_shows code heartbeat z act set.fuel S i names st state 0 words beat at shows keeps in
+      let shows_one : SeenIn code heartbeat z act set.fuel S i names st one =
+      still_seen code heartbeat z act set.fuel S i names st state 0 words beat at shows keeps in
       keeps_value one shows_one 0 m (S.owing i (then (result (given b st (λ j. given e st (λ n. put_cell t m j n st)))) k)) second (omega arith) is_m left
       (λ shows_two cell_m left2.
       computes code heartbeat z act set.fuel expr_law S i names st (with_kept one 0 m) shows_two b 0 second (store (kept_cell act 1) (value.Reg 0) ∷ third) end d left2 (λ j. given e st (λ n. put_cell t m j n st)) k
       (λ j in_j words3 beat3 at3 keeps3 is_j left3.
       let three : machine.State = moved (with_kept one 0 m) words3 beat3 at3 in
-      let shows_three : ShowsIn code heartbeat z act set.fuel S i names st three = still_shows code heartbeat z act set.fuel S i names st (with_kept one 0 m) 0 words3 beat3 at3 shows_two keeps3 in
+      let shows_three : SeenIn code heartbeat z act set.fuel S i names st three =
+      still_seen code heartbeat z act set.fuel S i names st (with_kept one 0 m) 0 words3 beat3 at3
+      shows_two keeps3 in
       keeps_value three shows_three 1 j (S.owing i (then (result (given e st (λ n. put_cell t m j n st))) k)) third (omega arith) is_j left3
       (λ shows_four cell_j left4.
       let cell_i : word_at (with_kept three 1 j).stack (pos (z + kept_cell act 0)) ≡ Some (word.Int m) =
-      word_other three.stack (z + kept_cell act 1) (z + kept_cell act 0) (word.Int j) (omega (arith, shows_three.low)) (λ (q : z + kept_cell act 0 ≡ z + kept_cell act 1). absurd (omega (arith, q))) ∙ cell_m in
+      word_other three.stack (z + kept_cell act 1) (z + kept_cell act 0) (word.Int j)
+      (omega (arith, low_there code heartbeat z act set.fuel S i names st three shows_three))
+      (λ (q : z + kept_cell act 0 ≡ z + kept_cell act 1). absurd (omega (arith, q))) ∙ cell_m in
       computes code heartbeat z act set.fuel expr_law S i names st (with_kept three 1 j) shows_four e 0 third (load 1 (kept_cell act 0) ∷ load 2 (kept_cell act 1) ∷ put_tested table 1 2 0 3 trap more) end f left4 (λ n. put_cell t m j n st) k
       (λ n in_n words5 beat5 at5 keeps5 is_n left5.
       let five : machine.State = moved (with_kept three 1 j) words5 beat5 at5 in
-      let shows_five : ShowsIn code heartbeat z act set.fuel S i names st five = still_shows code heartbeat z act set.fuel S i names st (with_kept three 1 j) 0 words5 beat5 at5 shows_four keeps5 in
+      let shows_five : SeenIn code heartbeat z act set.fuel S i names st five =
+      still_seen code heartbeat z act set.fuel S i names st (with_kept three 1 j) 0 words5 beat5 at5
+      shows_four keeps5 in
       at_put m j n in_n five shows_five cell_i cell_j is_n left5)))))
     where
       with_kept : machine.State → ℕ → ℤ → machine.State
       with_kept task n m = effect.with_stack (advanced task) (with_word task.stack (pos (z + kept_cell act n)) (word.Int m))
 
       -- a value stored in a cell that is kept
-      keeps_value : (task : machine.State) → ShowsIn code heartbeat z act set.fuel S i names st task → (n : ℕ) (m : ℤ) (K : Back code heartbeat) (rest : List Instr) → n < 2 → register task.registers 0 ≡ word.Int m
+      keeps_value : (task : machine.State) → SeenIn code heartbeat z act set.fuel S i names st task
+          → (n : ℕ) (m : ℤ) (K : Back code heartbeat) (rest : List Instr) → n < 2
+          → register task.registers 0 ≡ word.Int m
           → Remains code task.block task.at (store (kept_cell act n) (value.Reg 0) ∷ rest) end
-          → (ShowsIn code heartbeat z act set.fuel S i names st (with_kept task n m) → word_at (with_kept task n m).stack (pos (z + kept_cell act n)) ≡ Some (word.Int m) → Remains code task.block (task.at + 1) rest end → K.Holds (with_kept task n m))
+          → (SeenIn code heartbeat z act set.fuel S i names st (with_kept task n m)
+          → word_at (with_kept task n m).stack (pos (z + kept_cell act n)) ≡ Some (word.Int m)
+          → Remains code task.block (task.at + 1) rest end → K.Holds (with_kept task n m))
           → K.Holds task
       keeps_value task shows_task n m K rest small is_m left go =
-          let inside : z + kept_cell act n < task.stack.base + length task.stack.cells = omega (arith, shows_task.top, kept, small) in
-          let from : task.stack.base ≤ z + kept_cell act n = omega (arith, shows_task.low) in
-          stores_in code heartbeat z act set.fuel K task (kept_cell act n) (value.Reg 0) rest end left shows_task.base shows_task.low inside
+          let low : task.stack.base ≤ z =
+          low_there code heartbeat z act set.fuel S i names st task shows_task in
+          let inside : z + kept_cell act n < task.stack.base + length task.stack.cells =
+          omega (
+            arith,
+            top_there code heartbeat z act set.fuel S i names st task shows_task,
+            kept,
+            small,
+          ) in
+          let from : task.stack.base ≤ z + kept_cell act n = omega (arith, low) in
+          let above : value_cell S.lowest ≤ kept_cell act n =
+          omega (arith, lowest, shows_task.few) in
+          stores_in code heartbeat z act set.fuel K task (kept_cell act n) (value.Reg 0) rest end
+          left shows_task.base low inside
           (subst (λ (w : Word). K.Holds (effect.with_stack (advanced task) (with_word task.stack (pos (z + kept_cell act n)) w))) (sym is_m)
-          (go (shows_new code heartbeat z act set.fuel S i shows_task (kept_cell act n) (word.Int m) (omega (arith, shows_task.few)) lowest)
+          (go (shows_stored code heartbeat z act set.fuel S i task.stack (kept_cell act n)
+          (word.Int m) low
+          (above_apart S.registers (kept_cell act n) (value_cell S.lowest) S.under above)
+          (shows_new code heartbeat z act set.fuel S i shows_task (kept_cell act n) (word.Int m)
+          (omega (arith, shows_task.few)) lowest))
           (word_same task.stack (z + kept_cell act n) (word.Int m) from inside)
           (behind code task.block task.at _ rest end left)))
 
-      at_put : (m j n : ℤ) → InRange n → (task : machine.State) → ShowsIn code heartbeat z act set.fuel S i names st task
+      at_put : (m j n : ℤ) → InRange n → (task : machine.State)
+          → SeenIn code heartbeat z act set.fuel S i names st task
           → word_at task.stack (pos (z + kept_cell act 0)) ≡ Some (word.Int m) → word_at task.stack (pos (z + kept_cell act 1)) ≡ Some (word.Int j) → register task.registers 0 ≡ word.Int n
           → Remains code task.block task.at (load 1 (kept_cell act 0) ∷ load 2 (kept_cell act 1) ∷ put_tested table 1 2 0 3 trap more) end → (S.owing i (then (result (put_cell t m j n st)) k)).Holds task
       at_put m j n in_n task shows_task cell_m cell_j is_n left =
@@ -180,11 +230,17 @@ module _ (code : Listing) (heartbeat z : ℕ) (act : Activation) (set : Setting)
           let words2 : List Word = slice_set words 2 (word.Int j) in
           let size : length words ≡ 32 = length-set task.registers 1 (word.Int m) ∙ shows_task.size in
           let base : register words 31 ≡ word.Int (pos z) = register_other task.registers 1 31 (word.Int m) (λ (q : 31 ≡ 1). absurd (omega (arith, q))) ∙ shows_task.base in
+          let high : (r : ℕ) → 24 ≤ r → register words2 r ≡ register task.registers r =
+          λ r from.
+          register_other words 2 r (word.Int j) (λ (q : r ≡ 2). absurd (omega (arith, q, from)))
+          ∙ register_other task.registers 1 r (word.Int m)
+          (λ (q : r ≡ 1). absurd (omega (arith, q, from))) in
           let left1 : Remains code task.block (task.at + 1) (load 2 (kept_cell act 1) ∷ put_tested table 1 2 0 3 trap more) end = behind code task.block task.at _ _ end left in
           on_load code heartbeat K task 1 31 (kept_cell act 0) (pos z) (word.Int m) (next code task _ _ end left) shows_task.base cell_m
           (on_load code heartbeat K one 2 31 (kept_cell act 1) (pos z) (word.Int j) (next code one _ _ end left1) base cell_j
           (puts code heartbeat z act set.fuel S names k t table trap 1 2 0 3 more end is found (omega arith) (omega arith) (omega arith) (omega arith) post i st (with_register (advanced one) 2 (word.Int j))
-          (shows_words code heartbeat z act set.fuel S i shows_task words2 (length-set words 2 (word.Int j) ∙ length-set task.registers 1 (word.Int m)) (register_other words 2 31 (word.Int j) (λ (q : 31 ≡ 2). absurd (omega (arith, q))) ∙ (base ∙ sym shows_task.base)))
+          (shows_low code heartbeat z act set.fuel S i task.stack shows_task words2
+          (length-set words 2 (word.Int j) ∙ length-set task.registers 1 (word.Int m)) high)
           m j n in_n
           (register_other words 2 1 (word.Int j) (λ (q : 1 ≡ 2). absurd (omega (arith, q))) ∙ register_set task.registers 1 (word.Int m) (omega (arith, shows_task.size)))
           (register_set words 2 (word.Int j) (omega (arith, size)))

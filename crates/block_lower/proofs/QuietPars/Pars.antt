@@ -49,7 +49,7 @@ use Rattle.block_lower.specs.Layout.{value_cell, bound_cell, Activation}
 use Rattle.block_lower.specs.Marked.{length_test}
 use Rattle.block_lower.proofs.Forms.Choices.{enters}
 use Rattle.block_lower.proofs.Forms.Gaps.{IsGap, gap_is, gap_none, gap_more}
-use Rattle.block_lower.proofs.Forms.Loops.{inside, bounds}
+use Rattle.block_lower.proofs.Forms.Loops.{inside, bounds_bare}
 use Rattle.block_lower.proofs.Scenes.Moves.{opened, calm, jumps, traps}
 use Rattle.block_lower.proofs.Scenes.Results.{Result, out, result, then}
 use Rattle.block_lower.proofs.Scenes.Scene.{Scene, ShowsIn, Owed}
@@ -265,8 +265,8 @@ module _ (code : Listing) (heartbeat z : ℕ) (act : Activation) (fuel : ℕ) (S
 -- ---- the begin of a `par`
 
 module _ (code : Listing) (heartbeat z : ℕ) (act : Activation) (set : Setting)
-    (expr_law : ExprLaw code heartbeat) (S : Scene code heartbeat z) (names : List (List ℕ))
-    (lowest : S.lowest ≤ length names) (room : length names < act.most)
+    (expr_law : ExprLaw code heartbeat) (S : Scene code heartbeat z)
+    (names : List (List ℕ)) (lowest : S.lowest ≤ length names) (room : length names < act.most)
     (k : meaning.State → Result) (l : ParLoop) where
   abbrev pub iterating : ℤ → ℤ → meaning.State → Ran
   iterating m j =
@@ -284,19 +284,22 @@ module _ (code : Listing) (heartbeat z : ℕ) (act : Activation) (set : Setting)
       → word_at task.stack (pos (z + bound_cell (length names))) ≡ Some (word.Int j)
       → (S.owing i (then (result (unless_wide (too_wide m j) l.place (iterating m j) st)) k)).Holds task
 
-  pub begins_par : (check exit : ℕ) (here second tests more : List Instr) (first end : Term)
-      → Computes code act names l.from 0 here
+  pub begins_par : S.registers ≡ [] → (check exit : ℕ) (here second tests more : List Instr)
+      (first end : Term)
+      → Computes code act [] names l.from 0 here
       (store (value_cell (length names)) (value.Reg 0) ∷ second)
-      → Computes code act names l.to 0 second
+      → Computes code act [] names l.to 0 second
       (store (bound_cell (length names)) (value.Reg 0) ∷ load 1 (value_cell (length names))
       ∷ instr.Calc 2 1 alu.Lt (value.Reg 0) ∷ instr.IfJump 2 check ∷ [])
       → Opens code check tests first → Opens code exit more end
       → Owed code heartbeat z act set.fuel S names more end k → Begun check
       → Owed code heartbeat z act set.fuel S names here (to exit)
       (λ st. then (result (run set (Par l) st)) k)
-  begins_par check exit here second tests more first end c d opens ends post begun i st state shows stands =
+  begins_par bare check exit here second tests more first end c d opens ends post begun i st state
+      shows stands =
       subst (λ (r : Ran). (S.owing i (then (result r) k)).Holds state) (sym (run_par set l st))
-      (bounds code heartbeat z act set.fuel expr_law S names lowest room k l.from l.to here second
+      (bounds_bare code heartbeat z act set.fuel expr_law S names lowest room bare k l.from l.to
+      here second
       (instr.Calc 2 1 alu.Lt (value.Reg 0) ∷ instr.IfJump 2 check ∷ []) (to exit) c d
       (λ m j. unless_wide (too_wide m j) l.place (iterating m j)) i st state shows stands at_test)
     where

@@ -30,10 +30,10 @@ use Rattle.frame_machine.specs.Iterating.{body_setting, iterations_in}
 use Rattle.frame_machine.specs.Joins.{names_of}
 use Rattle.frame_machine.specs.Lawful.{Lawful}
 use Rattle.handler_gen.specs.Halves.{KeepsPlace}
-use Rattle.handler_gen.specs.Sites.{back_label, first_label, none_label, over_label}
+use Rattle.handler_gen.specs.Sites.{back_label, first_label, none_label, over_label, side_label}
 use Rattle.handler_gen.proofs.Ready.{diverted_to, goes_in}
 use Rattle.join_gen.specs.LoopJoins.{JoinsLoop}
-use Rattle.block_lower.specs.Code.{to}
+use Rattle.block_lower.specs.Code.{Opens, to}
 use Rattle.block_lower.specs.Layout.{Activation}
 use Rattle.block_lower.specs.Marked.{side_test, unmark}
 use Rattle.block_lower.proofs.Cuts.AtHandlers.{MergesTo, place_kept}
@@ -62,9 +62,8 @@ use Rattle.block_lower.proofs.Scenes.Variables.{var_names}
 module _ (code : Listing) (heartbeat z : ℕ) (act : Activation) (q : ParAt code act)
     (S : Scene code heartbeat z) (lowest : S.lowest ≤ length q.names) (k : meaning.State → Result)
     (vs : List Variable) (named : var_names vs ≡ q.names) (fuel : ℕ) (p : Program) (room : ℕ)
-    (inner : List (List ℕ)) (inner_first : take (length q.names) inner ≡ q.names)
-    (b : TurnBlocks code act q S.dispatch)
-    (allows : AllowsCuts code heartbeat z act q S p room b.first)
+    (exit : ℕ) (over : Opens code (over_label q.site.label) (unmark q.site ∷ side_test q.site exit)
+    (to (side_label q.site.label))) (allows : AllowsCuts code heartbeat z act q S p room)
     (joins : JoinsLoop code heartbeat q.site) where
   abbrev P : Promise code heartbeat (Piece S.World)
   P = pieces code heartbeat z act q S lowest k
@@ -78,14 +77,6 @@ module _ (code : Listing) (heartbeat z : ℕ) (act : Activation) (q : ParAt code
   abbrev pub body : meaning.State → Ran
   body = run_list (body_setting p fuel room q.loop) q.loop.body.items
 
-  abbrev Turn : ℕ → Type 0
-  Turn n = Turns code heartbeat z act q S lowest k vs named fuel x body inner inner_first b n
-
-  abbrev Runs : List Instr → Term → Type 0
-  Runs instrs end =
-      RunsBody code heartbeat z act q S lowest k vs named fuel x body inner inner_first b.head
-      (over_label q.site.label) instrs end
-
   abbrev ran : ℕ → ℤ → meaning.State → Ran
   ran n m st = iterations_in p fuel room q.loop (Chance ∷ []) [] n m st
 
@@ -96,14 +87,23 @@ module _ (code : Listing) (heartbeat z : ℕ) (act : Activation) (q : ParAt code
       → ShowsIn code heartbeat z act fuel (Turning marked m j) i q.names st task
       → task.block ≡ over_label q.site.label → task.at ≡ 0 → (P.owing i (fin st)).Holds task
 
-  module _ (runs_first : Runs b.instrs b.last) (runs_again : Runs b.again b.half)
-      (over_owed : OverOwed) (m j : ℤ) (i : Piece S.World) (st : meaning.State)
+  module _ (over_owed : OverOwed) (m j : ℤ) (i : Piece S.World) (st : meaning.State)
       (other : machine.State)
-      (h : IsSplit code heartbeat z act q S lowest k vs named fuel p room b.first allows m j i st
-      other) (label : register other.registers 30 ≡ word.Label b.head)
-      (turns : (c : ℕ) → c ≤ h.n → Turn c) where
+      (h : IsSplit code heartbeat z act q S lowest k vs named fuel p room allows m j i st
+      other)
+      -- whoever goes back to the loop with so many iterations and one more owes them
+      (goes_back : (a : ℕ) → a ≤ h.n → (to_n : ℤ) → IsGap (suc a) m to_n → InRange to_n
+      → (o : Piece S.World) (u : machine.State) → GoesBack code other u
+      → ShowsIn code heartbeat z act fuel (Turning true m to_n) o q.names st u
+      → (P.owing o (result (ran (suc a) m st))).Holds u)
+      -- and so whoever begins it
+      (begins : (a : ℕ) → a ≤ h.n → (from_n : ℤ) → IsGap (suc a) from_n j → InRange from_n
+      → (o : Piece S.World) (begin : meaning.State) (u : machine.State)
+      → ShowsIn code heartbeat z act fuel (Turning true from_n j) o q.names begin u
+      → u.block ≡ first_label q.site.label → u.at ≡ 0
+      → (P.owing o (result (ran (suc a) from_n begin))).Holds u) where
     abbrev own : OwnCut
-    own = sides.own_cut code heartbeat z act q S lowest k vs named fuel p room b.first allows m j i
+    own = sides.own_cut code heartbeat z act q S lowest k vs named fuel p room allows m j i
         st other h
 
     abbrev middle : ℤ
@@ -115,17 +115,6 @@ module _ (code : Listing) (heartbeat z : ℕ) (act : Activation) (q : ParAt code
     rules : Lawful p q.modes (names_of st.vars) q.loop
     rules = subst (λ (names : List (List ℕ)). Lawful p q.modes names q.loop) (sym h.shows.named)
         allows.may.rules
-
-    ready : note_of (block_at code b.head) ≡ note.Ready S.dispatch
-    ready = ap note_of b.ready.found ∙ b.ready.noted
-
-    opens_head : Remains code b.head 0 (instr.Tick ∷ b.again) b.half
-    opens_head = record {
-      block = b.ready.block;
-      found = b.ready.found;
-      rest = b.ready.body;
-      ends = b.ready.ends;
-    }
 
     -- ---- the left
 
@@ -143,14 +132,14 @@ module _ (code : Listing) (heartbeat z : ℕ) (act : Activation) (q : ParAt code
         left_covered =
             covered p q.modes q.loop fuel room (Chance ∷ []) [] h.below m middle st
             (left_region st.vars middle q.loop.carries.items region) rules
-            (sides.left_holds code heartbeat z act q S lowest k vs named fuel p room b.first allows
+            (sides.left_holds code heartbeat z act q S lowest k vs named fuel p room allows
             m j
             i st other h) (tt, tt) tt (omega (arith, ints))
 
         shows_left : (marked : Bool) → has_iteration own ≡ marked
             → ShowsIn code heartbeat z act fuel (Turning marked m middle) lower q.names st left
         shows_left marked is =
-            sides.shows_left code heartbeat z act q S lowest k vs named fuel p room b.first allows m
+            sides.shows_left code heartbeat z act q S lowest k vs named fuel p room allows m
             j
             i st other h c words beat keeps marked is
 
@@ -159,7 +148,7 @@ module _ (code : Listing) (heartbeat z : ℕ) (act : Activation) (q : ParAt code
         unfolding iterate
         left_holds zero none =
             jumps code heartbeat (P.owing lower (fin st)) left (over_label q.site.label)
-            (unmark q.site ∷ side_test q.site b.exit) _ none_opens b.over
+            (unmark q.site ∷ side_test q.site exit) _ none_opens over
             (over_owed false m middle lower st _ (shows_left false no_iteration) refl refl)
           where
             no_iteration : has_iteration own ≡ false
@@ -173,11 +162,8 @@ module _ (code : Listing) (heartbeat z : ℕ) (act : Activation) (q : ParAt code
                 allows.blocks.none in
                 rw no_iteration opens
         left_holds (suc a) some =
-            backs.goes_back_to code heartbeat z act q S lowest k vs named fuel b.head ready
-            (P.owing lower (result (ran (suc a) m st))) other left label gone
-            (turns a (omega (arith, some, h.all)) m middle lower st (goes_in heartbeat b.head left)
-            (shows_left true an_iteration) gap h.in_m in_middle b.again b.half runs_again
-            opens_head)
+            goes_back a (omega (arith, some, h.all)) middle gap in_middle lower left gone
+            (shows_left true an_iteration)
           where
             gap : IsGap (suc a) m middle
             gap = omega (arith, ints, some)
@@ -211,15 +197,14 @@ module _ (code : Listing) (heartbeat z : ℕ) (act : Activation) (q : ParAt code
       upper = Apart (child_side q.loop c region middle st)
 
       abbrev begin : meaning.State
-      begin = sides.upper_state code heartbeat z act q S lowest k vs named fuel p room b.first
-          allows
+      begin = sides.upper_state code heartbeat z act q S lowest k vs named fuel p room allows
           m j i st other h
 
       child_rules : Lawful p q.modes (names_of begin.vars) q.loop
       child_rules =
           subst (λ (names : List (List ℕ)). Lawful p q.modes names q.loop)
-          (sym (sides.upper_round code heartbeat z act q S lowest k vs named fuel p room b.first
-          allows m j i st other h).names) rules
+          (sym (sides.upper_round code heartbeat z act q S lowest k vs named fuel p room allows m j
+          i st other h).names) rules
 
       child_covered : AllByRecursion
           (Covers (child_region st.vars middle q.loop.carries.items region))
@@ -227,19 +212,15 @@ module _ (code : Listing) (heartbeat z : ℕ) (act : Activation) (q : ParAt code
       child_covered =
           covered p q.modes q.loop fuel room (Chance ∷ []) [] (suc h.above) middle j begin
           (child_region st.vars middle q.loop.carries.items region) child_rules
-          (sides.child_holds code heartbeat z act q S lowest k vs named fuel p room b.first allows m
+          (sides.child_holds code heartbeat z act q S lowest k vs named fuel p room allows m
           j i st other h) (tt, tt) tt (omega (arith, ints, h.gap, h.all))
 
       child_holds : (P.owing upper (result (ran (suc h.above) middle begin))).Holds child
       child_holds =
-          jumps code heartbeat (P.owing upper (result (ran (suc h.above) middle begin))) child
-          b.first (instr.Tick ∷ b.instrs) b.last
-          (opened code (first_label q.site.label) [] (to b.first) allows.blocks.child) b.begins
-          (turns h.above (omega (arith, h.all)) middle j upper begin _
-          (sides.shows_child code heartbeat z act q S lowest k vs named fuel p room b.first allows m
-          j i st other h c words beat size base) (omega (arith, ints, h.gap, h.all))
-          (omega (arith, ints, h.in_m, h.in_j, h.gap, h.all)) h.in_j b.instrs b.last runs_first
-          (opened code b.first (instr.Tick ∷ b.instrs) b.last b.begins))
+          begins h.above (omega (arith, h.all)) middle (omega (arith, ints, h.gap, h.all))
+          (omega (arith, ints, h.in_m, h.in_j, h.gap, h.all)) upper begin child
+          (sides.shows_child code heartbeat z act q S lowest k vs named fuel p room allows m j i st
+          other h c words beat size base) refl refl
 
       child_owes : CanRun code child
           → Bound code heartbeat false 0 child (ending.At c Right (side_by q.is_site.scope q.loop
@@ -258,19 +239,19 @@ module _ (code : Listing) (heartbeat z : ℕ) (act : Activation) (q : ParAt code
           (result (ran h.below m st)).end;
       q = side_by q.is_site.scope q.loop (child_side q.loop c region middle st)
           (result (ran (suc h.above) middle
-          (sides.upper_state code heartbeat z act q S lowest k vs named fuel p room b.first allows m
+          (sides.upper_state code heartbeat z act q S lowest k vs named fuel p room allows m
           j i st other h))).end;
       so = true;
       left = λ words beat keeps can. left_owes c words beat keeps can;
       child = λ words beat size base can. child_owes c words beat size base can;
       merged = λ so belongs.
           subst (λ (n : ℕ). MergesTo code heartbeat (own_rest own c other)
-          (merging.low_end code heartbeat z act q S lowest k vs named fuel p room b.first allows m j
+          (merging.low_end code heartbeat z act q S lowest k vs named fuel p room allows m j
           i st other h joins c belongs)
-          (merging.up_end code heartbeat z act q S lowest k vs named fuel p room b.first allows m j
+          (merging.up_end code heartbeat z act q S lowest k vs named fuel p room allows m j
           i
           st other h joins c belongs) (P.ending i (result (ran n m st)))) h.all
-          (merging.merges code heartbeat z act q S lowest k vs named fuel p room b.first allows m j
+          (merging.merges code heartbeat z act q S lowest k vs named fuel p room allows m j
           i
           st other h joins c belongs
           (λ task shows at_label at_begin. over_owed false m j i _ task shows at_label at_begin)
@@ -285,9 +266,9 @@ module _ (code : Listing) (heartbeat z : ℕ) (act : Activation) (q : ParAt code
         P.turned_closes i (result (ran (suc h.n) m st)) other
         (λ given can.
         oldest_cut_owed code heartbeat
-        (sides.place code heartbeat z act q S lowest k vs named fuel p room b.first allows m j i st
+        (sides.place code heartbeat z act q S lowest k vs named fuel p room allows m j i st
         other h) other
-        (sides.at code heartbeat z act q S lowest k vs named fuel p room b.first allows m j i st
+        (sides.at code heartbeat z act q S lowest k vs named fuel p room allows m j i st
         other h) e
         (λ u gone uncut can_u.
         lesser code heartbeat false (P.least i (result (ran (suc h.n) m st))) 0 u e (omega arith)
@@ -295,60 +276,96 @@ module _ (code : Listing) (heartbeat z : ℕ) (act : Activation) (q : ParAt code
         (λ c free. forks_owed given c) can)
 
   -- where the own mark is the oldest
-  module _ (runs_first : Runs b.instrs b.last) (runs_again : Runs b.again b.half)
-      (over_owed : OverOwed) where
-    pub own_cut_owed : (n : ℕ)
-        → OwnCutOwed code heartbeat z act q S lowest k vs named fuel x body inner inner_first b n
-    own_cut_owed n m j i st state shows oldest beats gap in_m in_j short turns =
-        split_owed runs_first runs_again over_owed m j i st other split_here
-        (backs.label_there code heartbeat z act q S lowest k vs named fuel b.head ready m j i st r
-        state shows beats turn) turns
-        (backs.uncut_goes_on code heartbeat z act q S lowest k vs named fuel b.head ready m j i st r
-        state shows beats turn)
-      where
-        r : Result
-        r = result (ran (suc n) m st)
+  module _ (inner : List (List ℕ)) (inner_first : take (length q.names) inner ≡ q.names)
+      (b : TurnBlocks code act q S.dispatch) where
+    abbrev Turn : ℕ → Type 0
+    Turn n = Turns code heartbeat z act q S lowest k vs named fuel x body inner inner_first b n
 
-        other : machine.State
-        other = diverted_to heartbeat b.head S.dispatch state
+    abbrev Runs : List Instr → Term → Type 0
+    Runs instrs end =
+        RunsBody code heartbeat z act q S lowest k vs named fuel x body inner inner_first b.head
+        (over_label q.site.label) instrs end
 
-        ready : note_of (block_at code b.head) ≡ note.Ready S.dispatch
-        ready = ap note_of b.ready.found ∙ b.ready.noted
+    module _ (child : Opens code (first_label q.site.label) [] (to b.first))
+        (runs_first : Runs b.instrs b.last) (runs_again : Runs b.again b.half)
+        (over_owed : OverOwed) where
+      pub own_cut_owed : (n : ℕ)
+          → OwnCutOwed code heartbeat z act q S lowest k vs named fuel x body inner inner_first b n
+      own_cut_owed n m j i st state shows oldest beats gap in_m in_j short turns =
+          split_owed over_owed m j i st other split_here back_at_head begins_first
+          (backs.uncut_goes_on code heartbeat z act q S lowest k vs named fuel m j i st r other
+          turned)
+        where
+          r : Result
+          r = result (ran (suc n) m st)
 
-        opens_head : Remains code b.head 0 (instr.Tick ∷ b.again) b.half
-        opens_head = record {
-          block = b.ready.block;
-          found = b.ready.found;
-          rest = b.ready.body;
-          ends = b.ready.ends;
-        }
+          other : machine.State
+          other = diverted_to heartbeat b.head S.dispatch state
 
-        turn : (o : Piece S.World) (task : machine.State)
-            → ShowsIn code heartbeat z act fuel (Turning true m j) o q.names st task
-            → task.block ≡ b.head → task.at ≡ 0 → (P.owing o r).Holds task
-        turn o task shows_it at_label at_begin =
-            turns n (omega arith) m j o st task shows_it gap in_m in_j b.again b.half runs_again
-            (rw (at_label, at_begin) opens_head)
+          ready : note_of (block_at code b.head) ≡ note.Ready S.dispatch
+          ready = ap note_of b.ready.found ∙ b.ready.noted
 
-        half : Halved n m j
-        half = halved n m j gap
+          opens_head : Remains code b.head 0 (instr.Tick ∷ b.again) b.half
+          opens_head = record {
+            block = b.ready.block;
+            found = b.ready.found;
+            rest = b.ready.body;
+            ends = b.ready.ends;
+          }
 
-        split_here : IsSplit code heartbeat z act q S lowest k vs named fuel p room b.first allows m
-            j i st other
-        split_here = record {
-          shows = backs.shows_other code heartbeat z act q S lowest k vs named fuel b.head ready m j
-              i st r state shows beats turn;
-          turned = backs.is_turned code heartbeat z act q S lowest k vs named fuel b.head ready m j
-              i
-              st r state shows beats turn;
-          oldest = oldest;
-          n = n;
-          gap = gap;
-          short = short;
-          in_m = in_m;
-          in_j = in_j;
-          below = half.lower;
-          above = half.upper;
-          all = half.all;
-          cuts = half.cut ∙ ap Some (sym half.is);
-        }
+          turn : (o : Piece S.World) (task : machine.State)
+              → ShowsIn code heartbeat z act fuel (Turning true m j) o q.names st task
+              → task.block ≡ b.head → task.at ≡ 0 → (P.owing o r).Holds task
+          turn o task shows_it at_label at_begin =
+              turns n (omega arith) m j o st task shows_it gap in_m in_j b.again b.half runs_again
+              (rw (at_label, at_begin) opens_head)
+
+          turned : backs.IsTurned code heartbeat z act q S lowest k vs named fuel m j i st r other
+          turned =
+              backs.turned_at_head code heartbeat z act q S lowest k vs named fuel m j b.head ready
+              i st r state shows beats turn
+
+          back_at_head : (a : ℕ) → a ≤ n → (to_n : ℤ) → IsGap (suc a) m to_n → InRange to_n
+              → (o : Piece S.World) (u : machine.State) → GoesBack code other u
+              → ShowsIn code heartbeat z act fuel (Turning true m to_n) o q.names st u
+              → (P.owing o (result (ran (suc a) m st))).Holds u
+          back_at_head a few to_n gap_a in_n o u gone shows_u =
+              backs.goes_back_to code heartbeat b.head S.dispatch ready
+              (P.owing o (result (ran (suc a) m st))) other u
+              (backs.label_there code heartbeat z act q S lowest k vs named fuel m j b.head ready i
+              st r state shows beats turn) gone
+              (turns a few m to_n o st (goes_in heartbeat b.head u) shows_u gap_a in_m in_n b.again
+              b.half runs_again opens_head)
+
+          begins_first : (a : ℕ) → a ≤ n → (from_n : ℤ) → IsGap (suc a) from_n j → InRange from_n
+              → (o : Piece S.World) (begin : meaning.State) (u : machine.State)
+              → ShowsIn code heartbeat z act fuel (Turning true from_n j) o q.names begin u
+              → u.block ≡ first_label q.site.label → u.at ≡ 0
+              → (P.owing o (result (ran (suc a) from_n begin))).Holds u
+          begins_first a few from_n gap_a in_n o begin u shows_u at_label at_begin =
+              let here : Remains code (first_label q.site.label) 0 [] (to b.first) =
+              opened code (first_label q.site.label) [] (to b.first) child in
+              jumps code heartbeat (P.owing o (result (ran (suc a) from_n begin))) u b.first
+              (instr.Tick ∷ b.instrs) b.last (rw (at_label, at_begin) here) b.begins
+              (turns a few from_n j o begin _ shows_u gap_a in_n in_j b.instrs b.last runs_first
+              (opened code b.first (instr.Tick ∷ b.instrs) b.last b.begins))
+
+          half : Halved n m j
+          half = halved n m j gap
+
+          split_here : IsSplit code heartbeat z act q S lowest k vs named fuel p room allows m
+              j i st other
+          split_here = record {
+            shows = turned.shows;
+            turned = turned.turned;
+            oldest = oldest;
+            n = n;
+            gap = gap;
+            short = short;
+            in_m = in_m;
+            in_j = in_j;
+            below = half.lower;
+            above = half.upper;
+            all = half.all;
+            cuts = half.cut ∙ ap Some (sym half.is);
+          }

@@ -20,14 +20,15 @@ use Rattle.tpal_syntax.specs.Listing.{Listing}
 use Rattle.tpal_machine.specs.Reading.{block_at}
 use Rattle.expr_lower.specs.Bodies.{trap_block}
 use Rattle.expr_lower.specs.Standing.{AreAt}
-use Rattle.handler_gen.specs.Sites.{over_label, side_label, target_label}
+use Rattle.handler_gen.specs.Sites.{first_label, over_label, side_label, target_label}
 use Rattle.join_gen.specs.Blocks.{loads_from, side_block}
 use Rattle.join_gen.specs.LoopJoins.{JoinsLoop}
 use Rattle.join_gen.proofs.LoopJoining.{joins_loop}
 use Rattle.block_lower.specs.Code.{Computes, Opens, load, store, to}
 use Rattle.block_lower.specs.Layout.{Activation, bound_cell, value_cell}
 use Rattle.block_lower.specs.Marked.{length_test, marked_begin}
-use Rattle.block_lower.proofs.Scenes.Moves.{calm}
+use Rattle.block_lower.proofs.Scenes.Pieces.{Host}
+use Rattle.block_lower.proofs.Scenes.Moves.{calm, opened}
 use Rattle.block_lower.proofs.QuietPars.Pars.{begins_par}
 use Rattle.block_lower.proofs.QuietPars.QuietCuts.{OverOwed, body, own_cut_owed}
 use Rattle.block_lower.proofs.QuietPars.QuietEnds.{at_over}
@@ -46,7 +47,8 @@ module _ (code : Listing) (heartbeat z : ℕ) (act : Activation) (q : ParAt code
     (fuel : ℕ) (p : Program) (room : ℕ) (reduces : List Reduce)
     (expr_law : ExprLaw code heartbeat) (inner : List (List ℕ))
     (inner_first : take (length q.names) inner ≡ q.names) (b : TurnBlocks code act q S.dispatch)
-    (allows : AllowsCuts code heartbeat z act q S p room b.first) where
+    (allows : AllowsCuts code heartbeat z act q S p room)
+    (child : Opens code (first_label q.site.label) [] (to b.first)) where
   abbrev set : Setting
   set = record { reduces = reduces; fuel = fuel; call = call_at p.funcs.items fuel room }
 
@@ -59,13 +61,13 @@ module _ (code : Listing) (heartbeat z : ℕ) (act : Activation) (q : ParAt code
   abbrev pub Runs : (vs : List Variable) → var_names vs ≡ q.names → List Instr → Term → Type 0
   Runs vs named instrs end =
       RunsBody code heartbeat z act q S lowest k vs named fuel q.loop.var.text.items
-      (body code heartbeat z act q S lowest k vs named fuel p room inner inner_first b allows joins)
+      (body code heartbeat z act q S lowest k vs named fuel p room b.exit b.over allows joins)
       inner inner_first b.head (over_label q.site.label) instrs end
 
-  pub quiet_law : (check wide : ℕ) (here second more : List Instr) (end : Term)
-      → Computes code act q.names q.loop.from 0 here
+  pub quiet_law : S.registers ≡ [] → (check wide : ℕ) (here second more : List Instr) (end : Term)
+      → Computes code act [] q.names q.loop.from 0 here
       (store (value_cell (length q.names)) (value.Reg 0) ∷ second)
-      → Computes code act q.names q.loop.to 0 second
+      → Computes code act [] q.names q.loop.to 0 second
       (store (bound_cell (length q.names)) (value.Reg 0) ∷ load 1 (value_cell (length q.names))
       ∷ instr.Calc 2 1 alu.Lt (value.Reg 0) ∷ instr.IfJump 2 check ∷ [])
       → Opens code check (length_test wide (marked_begin q.site b.first)) (to wide)
@@ -75,30 +77,35 @@ module _ (code : Listing) (heartbeat z : ℕ) (act : Activation) (q : ParAt code
       → ((vs : List Variable) (named : var_names vs ≡ q.names) → Runs vs named b.again b.half)
       → Owed code heartbeat z act fuel S q.names here (to b.exit)
       (λ st. then (result (run set (Par q.loop) st)) k)
-  quiet_law check wide here second more end from_code to_code tests trap ends post runs_first
+  quiet_law none check wide here second more end from_code to_code tests trap ends post runs_first
       runs_again =
-      begins_par code heartbeat z act set expr_law S q.names lowest q.fits k q.loop check b.exit
-      here second (length_test wide (marked_begin q.site b.first)) more (to wide) end from_code
-      to_code tests ends post
-      (quiet_begins code heartbeat z act q S lowest k set expr_law inner inner_first b
-      allows.free_rec check wide tests trap owed (λ st named. runs_first st.vars named))
+      begins_par code heartbeat z act set expr_law S q.names lowest q.fits k q.loop none check
+      b.exit here second (length_test wide (marked_begin q.site b.first)) more (to wide) end
+      from_code to_code tests ends post
+      (quiet_begins code heartbeat z act q S lowest k set expr_law b.first
+      (calm code b.first (instr.Tick ∷ b.instrs) b.last b.begins) allows.free_rec check wide tests
+      trap owed)
     where
       over_owed : (vs : List Variable) (named : var_names vs ≡ q.names)
-          → OverOwed code heartbeat z act q S lowest k vs named fuel p room inner inner_first b
-          allows joins
+          → OverOwed code heartbeat z act q S lowest k vs named fuel p room b.exit b.over allows
+          joins
       over_owed vs named marked m j i st task shows at_label at_begin =
           at_over code heartbeat z act q S lowest k vs named fuel marked m j st task b.exit b.over
           more end ends post joins b.side_instrs b.side_end b.side i shows at_label at_begin
 
-      owed : FirstOwed code heartbeat z act q S lowest k set expr_law inner inner_first b
-      owed n short st named =
+      owed : FirstOwed code heartbeat z act q S lowest k set expr_law b.first
+          (calm code b.first (instr.Tick ∷ b.instrs) b.last b.begins)
+      owed n short m j gap in_m in_j i st named task shows at_label at_begin =
           all_turns code heartbeat z act q S lowest k st.vars named fuel q.loop.var.text.items
-          (body code heartbeat z act q S lowest k st.vars named fuel p room inner inner_first b
-          allows joins) inner inner_first b allows.opened allows.free_rec more end ends post joins
+          (body code heartbeat z act q S lowest k st.vars named fuel p room b.exit b.over allows
+          joins) inner inner_first b allows.opened allows.free_rec more end ends post joins
           (runs_again st.vars named)
-          (own_cut_owed code heartbeat z act q S lowest k st.vars named fuel p room inner
-          inner_first b allows joins (runs_first st.vars named) (runs_again st.vars named)
-          (over_owed st.vars named)) n short
+          (own_cut_owed code heartbeat z act q S lowest k st.vars named fuel p room b.exit b.over
+          allows joins inner inner_first b child (runs_first st.vars named)
+          (runs_again st.vars named) (over_owed st.vars named)) n short m j (Host i) st task shows
+          gap in_m in_j b.instrs b.last (runs_first st.vars named)
+          (rw (at_label, at_begin)
+          (opened code b.first (instr.Tick ∷ b.instrs) b.last b.begins))
 
 -- the block where a side ends
 pub side_opens : (code : Listing) (act : Activation) (q : ParAt code act)

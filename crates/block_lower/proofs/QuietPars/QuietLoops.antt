@@ -31,7 +31,7 @@ use Rattle.block_lower.specs.Marked.{side_test, unmark}
 use Rattle.block_lower.proofs.Forms.Gaps.{IsGap}
 use Rattle.block_lower.proofs.Scenes.Pieces.{Apart, Host, Piece}
 use Rattle.block_lower.proofs.Scenes.Promises.{Promise}
-use Rattle.block_lower.proofs.QuietPars.QuietBacks.{outer_handles}
+use Rattle.block_lower.proofs.QuietPars.QuietBacks.{outer_handles, turned_at_head}
 use Rattle.block_lower.proofs.QuietPars.QuietEnds.{at_over}
 use Rattle.block_lower.proofs.QuietPars.QuietTests.{compared, test_more, test_over}
 use Rattle.block_lower.proofs.Scenes.Results.{Result, result}
@@ -148,12 +148,14 @@ module _ (code : Listing) (heartbeat z : ℕ) (act : Activation) (q : ParAt code
             (ap (λ (ms : List Mark). ms ++ loop_mark q.site z ∷ []) none) beats gap in_m in_j short
             turns
         by_marks (o ∷ os) some =
-            outer_handles code heartbeat z act q S lowest k vs named fuel b.head ready m j opened
-            free_rec w (λ none. let wrong : [] ≡ o ∷ os = sym none ∙ some in cc) st
-            (result (first_turns n m st)) state shows beats
+            outer_handles code heartbeat z act q S lowest k vs named fuel m j opened free_rec w
+            (λ none. let wrong : [] ≡ o ∷ os = sym none ∙ some in cc) st
+            (result (first_turns n m st)) (diverted_to heartbeat b.head S.dispatch state)
+            (turned_at_head code heartbeat z act q S lowest k vs named fuel m j b.head ready
+            (Host w) st (result (first_turns n m st)) state shows beats
             (λ i task shows_it at_label at_begin.
             at_head n (turns n (omega arith)) m j gap in_m in_j i st task shows_it at_label
-            at_begin)
+            at_begin))
 
     at_test : (n : ℕ) → n ≤ MAX_PAR_LENGTH → ((c : ℕ) → c < n → Turns c) → Tests n
     at_test zero short turns m j i st state shows gap in_m in_j is_m stands =

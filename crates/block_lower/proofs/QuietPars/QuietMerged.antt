@@ -92,9 +92,9 @@ marks_gone (x ∷ y ∷ ys) own is = cc
 module _ (code : Listing) (heartbeat z : ℕ) (act : Activation) (q : ParAt code act)
     (S : Scene code heartbeat z) (lowest : S.lowest ≤ length q.names) (k : meaning.State → Result)
     (vs : List Variable) (named : var_names vs ≡ q.names) (fuel : ℕ) (p : Program)
-    (room first : ℕ) (allows : AllowsCuts code heartbeat z act q S p room first) (m j : ℤ)
+    (room : ℕ) (allows : AllowsCuts code heartbeat z act q S p room) (m j : ℤ)
     (i : Piece S.World) (st : meaning.State) (state : machine.State)
-    (h : IsSplit code heartbeat z act q S lowest k vs named fuel p room first allows m j i st state)
+    (h : IsSplit code heartbeat z act q S lowest k vs named fuel p room allows m j i st state)
     (joins : JoinsLoop code heartbeat q.site) (c : ℕ) where
   abbrev level : ℕ
   level = length q.names
@@ -106,15 +106,15 @@ module _ (code : Listing) (heartbeat z : ℕ) (act : Activation) (q : ParAt code
   Behind = T code heartbeat z act q S lowest k vs named false m j
 
   abbrev own : OwnCut
-  own = own_cut code heartbeat z act q S lowest k vs named fuel p room first allows m j i st state h
+  own = own_cut code heartbeat z act q S lowest k vs named fuel p room allows m j i st state h
 
   at_place : IsCutSite code act q.names q.depth (value_cell level) S.dispatch own
-  at_place = place code heartbeat z act q S lowest k vs named fuel p room first allows m j i st
+  at_place = place code heartbeat z act q S lowest k vs named fuel p room allows m j i st
       state
       h
 
   at_cut : IsOldestCut S.dispatch own [] state
-  at_cut = at code heartbeat z act q S lowest k vs named fuel p room first allows m j i st state h
+  at_cut = at code heartbeat z act q S lowest k vs named fuel p room allows m j i st state h
 
   abbrev region : Region
   region = region_of code heartbeat z act q S lowest i
@@ -174,7 +174,7 @@ module _ (code : Listing) (heartbeat z : ℕ) (act : Activation) (q : ParAt code
     there = λ t is.
         each_carried (HasTable q.is_site.scope) q.loop.carries.items t q.is_site.carried is;
     known = λ t is. each_carried (λ u. IsKnown (region u)) q.loop.carries.items t
-        (serves_here code heartbeat z act q S lowest k vs named fuel p room first allows m j i st
+        (serves_here code heartbeat z act q S lowest k vs named fuel p room allows m j i st
         state h).enough.known is;
     shown = rest_tables q.is_site.scope st.vars (m +ℤ pos h.below) q.loop.carries.items region
         state.tables st.tables listed (subst Distinct (sym h.shows.tabled) allows.may.distinct)
@@ -360,10 +360,10 @@ module _ (code : Listing) (heartbeat z : ℕ) (act : Activation) (q : ParAt code
           next = ap (λ o. word_at stack_there (pos (z + o))) (sym cursor_is) ∙ has.cursor;
           bound = ap (λ o. word_at stack_there (pos (z + o))) (sym bound_is) ∙ has.bound;
           fixed = round_fixed q.loop.reduces.items stack_there z vs whole.state.vars
-              (distinct code heartbeat z act q S lowest k vs named fuel p room first allows m j i st
+              (distinct code heartbeat z act q S lowest k vs named fuel p room allows m j i st
               state h)
               (round_on q.loop.reduces.items vs st.vars whole.state.vars
-              (round code heartbeat z act q S lowest k vs named fuel p room first allows m j i st
+              (round code heartbeat z act q S lowest k vs named fuel p room allows m j i st
               state h) same_round) has.vars;
           enough = h.shows.keeps.enough;
         };

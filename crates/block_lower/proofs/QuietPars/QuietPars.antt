@@ -1,6 +1,6 @@
 -- The begin of a `par` that is cut between two iterations alone.
 use Rattle.std.proofs.Common.{◌≡◌, ◌≢◌, ℕ, suc, ◌+◌, ◌<◌, ◌≤◌, Bool, true, false, List, [], ◌∷◌}
-use Rattle.std.proofs.Common.{◌++◌, length, take, Some, refl, sym, ap, subst, ◌∙◌, arith}
+use Rattle.std.proofs.Common.{◌++◌, length, Some, refl, sym, ap, subst, ◌∙◌, arith}
 use Rattle.std.specs.Prelude.{ℤ, pos, nat_lt, not}
 use Rattle.std.proofs.lemmas.Bool.Decides.{nat_tests}
 use Rattle.beat_count.specs.BeatState.{BeatState}
@@ -11,9 +11,10 @@ use Rattle.stack_marks.specs.Stacks.{StackValue, marked, with_word, word_at}
 use Rattle.tp_value.specs.declared.limits.TheConstants.{MAX_PAR_LENGTH}
 use Rattle.tp_value.specs.declared.TrapKind.TheVariants.{Wide}
 use Rattle.tp_value.specs.Number.{truth}
+use Rattle.loop_meaning.specs.InRange.{InRange}
 use Rattle.loop_meaning.specs.State as meaning
 use Rattle.loop_meaning.specs.State.{Chance, Ran}
-use Rattle.loop_meaning.specs.Statements.{Setting, run_list, too_wide, unless_wide}
+use Rattle.loop_meaning.specs.Statements.{Setting, iterate, run_list, too_wide, unless_wide}
 use Rattle.tpal_syntax.specs.declared.instructions.Instr.TheVariants as instr
 use Rattle.tpal_syntax.specs.declared.instructions.Term.{Term}
 use Rattle.tpal_syntax.specs.declared.instructions.Value.TheVariants as value
@@ -27,30 +28,29 @@ use Rattle.tpal_machine.specs.Effect.{is_marked_from}
 use Rattle.tpal_machine.specs.Reading.{note_of, register}
 use Rattle.tpal_machine.specs.State as machine
 use Rattle.tpal_machine.specs.Step.{advanced}
-use Rattle.tpal_machine.proofs.Kit.{Back, on_if, on_if_not, on_jump}
+use Rattle.tpal_machine.proofs.Kit.{Back, IsCalm, on_if, on_if_not, on_jump}
 use Rattle.expr_lower.specs.Bodies.{trap_block}
 use Rattle.expr_lower.specs.Leaving.{moved}
 use Rattle.expr_lower.specs.Standing.{AreAt, Remains}
 use Rattle.expr_lower.proofs.Standing.{at_end, behind, next}
 use Rattle.handler_gen.proofs.Marks.{on_prmpush}
 use Rattle.handler_gen.specs.LoopCuts.{loop_mark}
-use Rattle.handler_gen.specs.Sites.{over_label, split_label}
+use Rattle.handler_gen.specs.Sites.{split_label}
 use Rattle.expr_lower.specs.Registers.{base_register}
 use Rattle.handler_gen.proofs.Words.{word_other, word_same, words_as_many}
 use Rattle.block_lower.specs.Code.{Opens, to}
 use Rattle.block_lower.specs.Layout.{Activation, bound_cell, levels_cell, value_cell}
 use Rattle.block_lower.specs.Marked.{length_test, marked_begin}
+use Rattle.block_lower.proofs.Forms.Gaps.{IsGap}
 use Rattle.block_lower.proofs.Scenes.Activations.{clear_above}
 use Rattle.block_lower.proofs.Scenes.Fixed.{fixed_same, held_fixed}
-use Rattle.block_lower.proofs.Scenes.Moves.{calm, opened}
 use Rattle.block_lower.proofs.QuietPars.Pars.{Begun, iterating, measured, runs_narrow, stops_wide}
 use Rattle.block_lower.proofs.QuietPars.Pars.{traps_wide}
 use Rattle.block_lower.proofs.Scenes.Pieces.{Host}
-use Rattle.block_lower.proofs.QuietPars.QuietLoops.{TurnBlocks, Turns}
 use Rattle.block_lower.proofs.Scenes.Results.{Result, result, then}
 use Rattle.block_lower.proofs.Scenes.Scene.{Scene, ShowsIn}
 use Rattle.block_lower.proofs.Forms.Simple.{stores_in}
-use Rattle.block_lower.proofs.QuietPars.Turned.{RunsBody, T}
+use Rattle.block_lower.proofs.QuietPars.Turned.{T}
 use Rattle.block_lower.proofs.QuietPars.Turning.{ParAt, clear_of, mark_is, rec_is}
 use Rattle.block_lower.proofs.Scenes.Values.{ExprLaw}
 use Rattle.block_lower.proofs.Scenes.Variables.{held_same, var_names}
@@ -201,42 +201,38 @@ module _ (code : Listing) (heartbeat z : ℕ) (act : Activation) (q : ParAt code
 
 module _ (code : Listing) (heartbeat z : ℕ) (act : Activation) (q : ParAt code act)
     (S : Scene code heartbeat z) (lowest : S.lowest ≤ length q.names) (k : meaning.State → Result)
-    (set : Setting) (expr_law : ExprLaw code heartbeat) (inner : List (List ℕ))
-    (inner_first : take (length q.names) inner ≡ q.names) (b : TurnBlocks code act q S.dispatch)
+    (set : Setting) (expr_law : ExprLaw code heartbeat) (first : ℕ) (calm_first : IsCalm code first)
   where
     abbrev body : meaning.State → Ran
     body = run_list (record set { reduces = q.loop.reduces.items }) q.loop.body.items
 
-    -- a task at the first iteration of the whole loop owes all iterations
+    -- a task at the block where the whole loop begins owes all iterations
     abbrev pub FirstOwed : Type 0
     FirstOwed =
-        (n : ℕ) → suc n ≤ MAX_PAR_LENGTH → (st : meaning.State)
-        (named : var_names st.vars ≡ q.names)
-        → Turns code heartbeat z act q S lowest k st.vars named set.fuel q.loop.var.text.items body
-        inner inner_first b n
-
-    abbrev pub FirstBody : Type 0
-    FirstBody =
-        (st : meaning.State) (named : var_names st.vars ≡ q.names)
-        → RunsBody code heartbeat z act q S lowest k st.vars named set.fuel q.loop.var.text.items
-        body
-        inner inner_first b.head (over_label q.site.label) b.instrs b.last
+        (n : ℕ) → suc n ≤ MAX_PAR_LENGTH → (m j : ℤ) → IsGap (suc n) m j → InRange m → InRange j
+        → (i : S.World) (st : meaning.State) (named : var_names st.vars ≡ q.names)
+        (task : machine.State)
+        → ShowsIn code heartbeat z act set.fuel
+        (T code heartbeat z act q S lowest k st.vars named true m j) (Host i) q.names st task
+        → task.block ≡ first → task.at ≡ 0
+        → (S.owing i (then (result (iterate set.fuel q.loop.var.text.items body (Chance ∷ []) []
+        (suc n) m st)) k)).Holds task
 
     pub quiet_begins : (free_rec : S.may q.site.rec) (check wide : ℕ)
-        → Opens code check (length_test wide (marked_begin q.site b.first)) (to wide)
-        → AreAt code wide (trap_block wide Wide q.loop.place ∷ []) → FirstOwed → FirstBody
+        → Opens code check (length_test wide (marked_begin q.site first)) (to wide)
+        → AreAt code wide (trap_block wide Wide q.loop.place ∷ []) → FirstOwed
         → Begun code heartbeat z act set expr_law S q.names lowest q.fits k q.loop check
-    quiet_begins free_rec check wide tests trap owed runs n m j gap some in_m in_j i st task shows
+    quiet_begins free_rec check wide tests trap owed n m j gap some in_m in_j i st task shows
         at_label at_begin is_m is_j cell bound =
         measured code heartbeat z act set.fuel S i q.names st r check wide q.loop.place
-        (marked_begin q.site b.first) (suc n) m j in_m in_j gap tests trap task shows at_label
+        (marked_begin q.site first) (suc n) m j in_m in_j gap tests trap task shows at_label
         at_begin is_m is_j
         (stops_wide code heartbeat z act set expr_law S q.names lowest q.fits k q.loop
         (suc n) m j st
         some)
         (λ fits width words beat at shows_words is_fit is_first is_second left.
         begins_marked code heartbeat z act q S lowest k set.fuel i st task shows free_rec m j cell
-        bound (S.owing i r) b.first (to wide) words beat at shows_words.base left
+        bound (S.owing i r) first (to wide) words beat at shows_words.base left
         (by_fit fits width words beat at shows_words.size shows_words.base is_fit))
       where
         r : Result
@@ -252,30 +248,27 @@ module _ (code : Listing) (heartbeat z : ℕ) (act : Activation) (q : ParAt code
         by_fit : (fits : Bool) → nat_lt MAX_PAR_LENGTH (suc n) ≡ not fits → (words : List Word)
             (beat : BeatState) (at : ℕ) → length words ≡ 32 → register words 31 ≡ word.Int (pos z)
             → register words 3 ≡ word.Int (truth fits)
-            → Remains code task.block (at + 1 + 1) (instr.IfJump 3 b.first ∷ []) (to wide)
+            → Remains code task.block (at + 1 + 1) (instr.IfJump 3 first ∷ []) (to wide)
             → (S.owing i r).Holds (there words (counted (counted beat)) task.block (at + 1 + 1))
         by_fit true narrow words beat at size base is left =
             let here : machine.State = there words (counted (counted beat)) task.block
             (at + 1 + 1) in
             let short : suc n ≤ MAX_PAR_LENGTH = grind (arith, nat_tests) in
-            on_if code heartbeat (S.owing i r) here 3 b.first (pos 1)
+            on_if code heartbeat (S.owing i r) here 3 first (pos 1)
             (next code here _ [] (to wide) left) is refl
-            (calm code b.first (instr.Tick ∷ b.instrs) b.last b.begins)
+            calm_first
             (subst (λ (ran : Ran). (S.owing i (then (result ran) k)).Holds
-            (there words (counted (counted (counted beat))) b.first 0))
+            (there words (counted (counted (counted beat))) first 0))
             (sym (runs_narrow code heartbeat z act set expr_law S q.names lowest q.fits k q.loop
             (suc n) m j st some narrow))
-            (owed n short st shows.named m j (Host i) st _
+            (owed n short m j gap in_m in_j i st shows.named _
             (shows_begun code heartbeat z act q S lowest k set.fuel i st task shows free_rec m j
             cell
-            bound words (counted (counted (counted beat))) b.first 0 size base) gap in_m in_j
-            b.instrs
-            b.last (runs st shows.named)
-            (opened code b.first (instr.Tick ∷ b.instrs) b.last b.begins)))
+            bound words (counted (counted (counted beat))) first 0 size base) refl refl))
         by_fit false wide_it words beat at size base is left =
             let here : machine.State = there words (counted (counted beat)) task.block
             (at + 1 + 1) in
-            on_if_not code heartbeat (S.owing i r) here 3 b.first
+            on_if_not code heartbeat (S.owing i r) here 3 first
             (next code here _ [] (to wide) left) is
             (on_jump code heartbeat (S.owing i r) (advanced here) (value.Label wide) wide
             (at_end code (advanced here) (to wide)

@@ -20,6 +20,7 @@ use Rattle.tpal_syntax.specs.Listing.{Listing}
 use Rattle.tpal_machine.specs.Effect.{is_marked_from}
 use Rattle.tpal_machine.specs.Reading.{register}
 use Rattle.tpal_machine.specs.State as machine
+use Rattle.tpal_machine.proofs.Kit.{IsCalm}
 use Rattle.expr_lower.specs.Standing.{AreAt}
 use Rattle.frame_machine.specs.Joins.{SameRound, names_of, units_for, upper_start}
 use Rattle.frame_machine.specs.Lawful.{Distinct, Lawful}
@@ -73,18 +74,18 @@ pub record MayBeCut (code : Listing) (act : Activation) (p : Program) (room : �
 
 -- what stands in a code where beats go, and where the parts of a cut begin
 pub record CutBlocks (code : Listing) (act : Activation) (q : ParAt code act)
-    (dispatch first : ℕ) : Type 0 where
+    (dispatch : ℕ) : Type 0 where
   pub dispatches : AreAt code dispatch (dispatch_block dispatch ∷ [])
-  pub child : Opens code (first_label q.site.label) [] (to first)
+  pub child : IsCalm code (first_label q.site.label)
   pub none : Opens code (none_label q.site.label) [] (to (over_label q.site.label))
 
 -- What goes on round a `par` that may be cut, and the code round it: what a world holds of tables
 -- serves the iterations, and the cells of the record and of the variables that are reduced may
 -- change.
 pub record AllowsCuts (code : Listing) (heartbeat z : ℕ) (act : Activation) (q : ParAt code act)
-    (S : Scene code heartbeat z) (p : Program) (room first : ℕ) : Type 0 where
+    (S : Scene code heartbeat z) (p : Program) (room : ℕ) : Type 0 where
   pub may : MayBeCut code act p room q
-  pub blocks : CutBlocks code act q S.dispatch first
+  pub blocks : CutBlocks code act q S.dispatch
   pub opened : S.is_open ≡ true
   pub serves : (w : S.World) (s : StackValue) (vs : List Variable) → var_names vs ≡ q.names
       → S.kept w s → AreFixed q.loop.reduces.items s z 0 vs → (m j : ℤ)
@@ -95,7 +96,7 @@ pub record AllowsCuts (code : Listing) (heartbeat z : ℕ) (act : Activation) (q
 module _ (code : Listing) (heartbeat z : ℕ) (act : Activation) (q : ParAt code act)
     (S : Scene code heartbeat z) (lowest : S.lowest ≤ length q.names) (k : meaning.State → Result)
     (vs : List Variable) (named : var_names vs ≡ q.names) (fuel : ℕ) (p : Program)
-    (room first : ℕ) (allows : AllowsCuts code heartbeat z act q S p room first) where
+    (room : ℕ) (allows : AllowsCuts code heartbeat z act q S p room) where
   abbrev level : ℕ
   level = length q.names
 
@@ -152,7 +153,7 @@ module _ (code : Listing) (heartbeat z : ℕ) (act : Activation) (q : ParAt code
       is_site = q.is_site;
       scoped = refl;
       dispatches = allows.blocks.dispatches;
-      first = calm code _ [] (to first) allows.blocks.child;
+      first = allows.blocks.child;
       none = calm code _ [] (to (over_label q.site.label)) allows.blocks.none;
       rows = allows.may.rules.rows;
       named = h.shows.named;

@@ -40,6 +40,7 @@ use Rattle.block_lower.specs.Marked.{IsQuietSite}
 use Rattle.block_lower.specs.Names.{Sees}
 use Rattle.block_lower.specs.Round.{Round, par_round, unreduced}
 use Rattle.block_lower.specs.Sites.{accs_of}
+use Rattle.block_lower.proofs.Scenes.Moves.{calm}
 use Rattle.block_lower.proofs.Scenes.Admitting.{Admits}
 use Rattle.block_lower.proofs.Whole.Around.{modes_at}
 use Rattle.block_lower.proofs.Counts.Lists.{all_behind}
@@ -102,6 +103,7 @@ module _ (code : Listing) (heartbeat z room : ℕ) (act : Activation) (q : ParAt
   pub admits_turning : Admits code heartbeat z room turning
       (par_round round q.names q.loop.reduces.items) (q.names ++ q.loop.var.text.items ∷ [])
   admits_turning = record {
+    registers = refl;
     levels = admits.levels;
     lowest = omega (arith, length-append q.names (q.loop.var.text.items ∷ []));
     allows = λ y free. record {
@@ -175,10 +177,10 @@ module _ (code : Listing) (heartbeat z : ℕ) (act : Activation) (p : Program) (
         → Owed code heartbeat z act fuel C (names ++ l.var.text.items ∷ []) instrs end
         (λ st. then (result (run_list (body_setting p fuel room l) l.body.items st)) f)
 
-    pub quiet_statement : (here second instrs again more : List Instr) (last half end : Term) →
-        Computes code act names l.from 0 here (store (value_cell (length names))
-        (value.Reg 0) ∷ second)
-        → Computes code act names l.to 0 second
+    pub quiet_statement : S.registers ≡ [] → (here second instrs again more : List Instr)
+        (last half end : Term) → Computes code act [] names l.from 0 here (store
+        (value_cell (length names)) (value.Reg 0) ∷ second)
+        → Computes code act [] names l.to 0 second
         (store (bound_cell (length names)) (value.Reg 0) ∷ load 1 (value_cell (length names))
         ∷ instr.Calc 2 1 alu.Lt (value.Reg 0) ∷ instr.IfJump 2 check ∷ [])
         → IsQuietSite code act names l round.depth check start exit site
@@ -192,11 +194,11 @@ module _ (code : Listing) (heartbeat z : ℕ) (act : Activation) (p : Program) (
         (λ st. then (result (run
         (record { reduces = round.reduces; fuel = fuel; call = call_at p.funcs.items fuel room })
         (Par l) st)) k)
-    quiet_statement here second instrs again more last half end from_code to_code quiet_site begins
-        ready ends inner inner_first post first_owes again_owes =
+    quiet_statement none here second instrs again more last half end from_code to_code quiet_site
+        begins ready ends inner inner_first post first_owes again_owes =
         quiet_law code heartbeat z act q S admits.lowest k fuel p room round.reduces expr_law inner
-        inner_first blocks allows check quiet_site.wide here second more end from_code to_code
-        quiet_site.begins quiet_site.too_wide ends post
+        inner_first blocks allows quiet_site.child none check quiet_site.wide here second more end
+        from_code to_code quiet_site.begins quiet_site.too_wide ends post
         (λ vs named m j f after_it. first_owes
         (T code heartbeat z act q S admits.lowest k vs named true m j)
         (admits_turning code heartbeat z room act q S round refl admits k true vs named m j) f
@@ -244,7 +246,7 @@ module _ (code : Listing) (heartbeat z : ℕ) (act : Activation) (p : Program) (
         changes x cell is =
             subst (λ (c : ℕ). S.may c) (sym is.at_level) (admits.allows is.level is.free)
 
-        allows : AllowsCuts code heartbeat z act q S p room start
+        allows : AllowsCuts code heartbeat z act q S p room
         allows = record {
           may = record {
             calls = few;
@@ -257,7 +259,7 @@ module _ (code : Listing) (heartbeat z : ℕ) (act : Activation) (p : Program) (
           blocks = record {
             dispatches = subst (λ (label : ℕ). AreAt code label (dispatch_block label ∷ []))
                 (sym permits.diverts) dispatches;
-            child = quiet_site.child;
+            child = calm code _ [] (to start) quiet_site.child;
             none = quiet_site.none;
           };
           opened = permits.opened;

@@ -126,7 +126,7 @@ module _ (code : Listing) (heartbeat z : ℕ) (act : Activation) (q : ParAt code
   abbrev first_turns : ℕ → ℤ → meaning.State → Ran
   first_turns n m = iterate fuel x body (Chance ∷ []) [] (suc n) m
 
-  has_own : (i : Piece S.World)
+  pub has_own : (i : Piece S.World)
       → is_some (slice_get (marks_of code heartbeat z act q S lowest true i) 0) ≡ true
   has_own (Host w) = some_mark (S.marks w) _
   has_own (Apart p) = refl

@@ -72,7 +72,7 @@ module _ (code : Listing) (heartbeat z : ℕ) (act : Activation) (q : ParAt code
   abbrev pub T : Bool → ℤ → ℤ → Scene code heartbeat z
   T marked m j = turning code heartbeat z act q S lowest k marked vs named m j
 
-  enough_later : (m j : ℤ) (i : Piece S.World)
+  pub enough_later : (m j : ℤ) (i : Piece S.World)
       → enough_of code heartbeat z act q S lowest vs i m j
       → enough_of code heartbeat z act q S lowest vs i (m +ℤ pos 1) j
   enough_later m j (Host w) enough = tt

@@ -6,6 +6,7 @@ use Rattle.std.specs.List.{AllByRecursion}
 use Rattle.std.specs.Prelude.{nat_le}
 use Rattle.std.proofs.lemmas.Bool.{true≢false}
 use Rattle.std.proofs.lemmas.Bool.Decides.{nat_tests}
+use Rattle.std.proofs.lemmas.List.Elements.{All-nil}
 use Rattle.stack_marks.specs.declared.mark.Mark.{Mark}
 use Rattle.stack_marks.specs.Stacks.{StackValue, word_at}
 use Rattle.tp_value.specs.declared.limits.TheConstants.{MAX_PAR_NESTING}
@@ -318,6 +319,11 @@ module _ (code : Listing) (heartbeat z : ℕ) (act : Activation) (q : ParAt code
     };
     lowest = suc level;
     may = MayTurn;
+    registers = [];
+    high = tt;
+    unlike = tt;
+    under = All-nil (λ (c : ℕ). c < value_cell (suc level));
+    sized = All-nil (λ (c : ℕ). c < S.size);
     cut = cut_of_piece;
     stable = stable_of vs named m j;
     below = clear_of marked;

@@ -16,7 +16,7 @@ use Rattle.loop_rules.specs.declared.part.Part.TheVariants.{OfSize, OfFunc}
 use Rattle.loop_rules.specs.declared.rule.Rule.TheVariants.{Names, OuterVariables, Reductions}
 use Rattle.loop_rules.specs.declared.rule.Rule.TheVariants.{CarryLists, LoopVariables, Limits}
 use Rattle.loop_rules.specs.Declarations.{declared_list, table_of_decl}
-use Rattle.loop_rules.specs.Limits.{first_name, past, over_limits}
+use Rattle.loop_rules.specs.Limits.{past, over_limits}
 use Rattle.loop_rules.specs.Names.{texts, func_of}
 use Rattle.loop_rules.specs.Carries.{miscarried}
 use Rattle.loop_rules.specs.Reductions.{outer_set, misreduced}

@@ -1,7 +1,7 @@
 -- Statements fit where no rule is broken.
 use Rattle.std.proofs.Common.{◌≡◌, ◌≢◌, ℕ, suc, ◌+◌, ◌<◌, ◌≤◌, true, List, [], ◌∷◌, ◌++◌, length}
 use Rattle.std.proofs.Common.{sym, ◌∙◌, arith}
-use Rattle.std.specs.Prelude.{not}
+use Rattle.std.specs.Prelude.{◌||◌, not}
 use Rattle.std.specs.List.{AllByRecursion}
 use Rattle.std.proofs.lemmas.List.{length-append}
 use Rattle.loop_syntax.specs.declared.App.{App}
@@ -10,12 +10,12 @@ use Rattle.loop_syntax.specs.declared.Stmt.{Stmt, Row_of-Stmt, end_of-Stmt, more
 use Rattle.loop_syntax.specs.declared.Stmt.TheVariants.{Let, Set, Put, If', While', Loop', Par'}
 use Rattle.loop_syntax.specs.declared.Stmt.TheVariants.{Fold, Call, Both, Print, Emit}
 use Rattle.loop_rules.specs.Declarations.{declared_in, declared_all, declared_list}
-use Rattle.loop_rules.specs.Names.{is_in, texts}
-use Rattle.loop_rules.specs.Scopes.{at}
+use Rattle.loop_rules.specs.Names.{func_names, is_in, texts}
+use Rattle.loop_rules.specs.Scopes.{at, is_visible}
 use Rattle.loop_rules.specs.Sites.{Assigns, AssignsBoth, Folds, Spot, Site, site, in_whole, in_app}
 use Rattle.loop_rules.specs.Sites.{in_carries, in_stmt, in_all, in_list, spot_after, the_loop}
 use Rattle.loop_rules.specs.Sites.{in_loop, in_par}
-use Rattle.loop_check.proofs.Bools.{not_false}
+use Rattle.loop_check.proofs.Bools.{not_false, or_left}
 use Rattle.loop_check.proofs.Fine.{at_none}
 use Rattle.loop_check.proofs.Lists.{Each, each_left, each_right}
 use Rattle.block_lower.specs.Fitting.{level_of, IsFree, IsCall, Fits, FitInRow, AllFit, HasEntry}
@@ -111,6 +111,9 @@ module _ (functions : List Entry) (most : ℕ) where
           fits_row (in_par w x carries.items reduces.items) (par_round round w.scope reduces.items) body entries (around_par w round x carries.items reduces.items place carry_place k.0 around) (omega (arith, length-append w.scope (x.text.items ∷ [])))
               (each_right Keeps clauses (in_all within body) (each_right Keeps (in_whole w b) (clauses ++ in_all within body) behind)),
           can_be_cut functions most w round x carries.items reduces.items place carry_place around (omega arith) k.0 (each_left Keeps clauses (in_all within body) (each_right Keeps (in_whole w b) (clauses ++ in_all within body) behind)),
+          or_left (is_in w.scope x.text.items)
+              (is_in (texts w.tables) x.text.items || is_in (func_names w.funcs) x.text.items)
+              (at_none x (is_visible w x.text.items) k.1.0.names),
         )
     fits_stmt w round (Fold x e) entries around room k = (folded w round x around (omega arith) k.0, whole_visible w e k.1)
     fits_stmt w round (Call x f) entries around room k = (target w round x around (omega arith) k.0, call w f entries k.1)

@@ -21,6 +21,8 @@ module _ (code : Listing) (heartbeat z room : ℕ) where
     pub lowest : S.lowest ≤ length names
     -- each variable that isn't fixed may change
     pub allows : (x : ℕ) → AllByRecursion (λ j. j ≢ x) round.fixed → S.may (value_cell x)
+    -- registers stand for the cells that are told
+    pub registers : S.registers ≡ round.registers
     -- the cells of the `par` loops inside may change
     pub controls : (d : ℕ) → round.depth ≤ d → d < MAX_PAR_NESTING
         → S.may (cursor_cell d) × S.may (rec_cell d)
@@ -33,6 +35,7 @@ module _ (code : Listing) (heartbeat z room : ℕ) where
       levels = admits.levels;
       lowest = omega (arith, admits.lowest, longer);
       allows = admits.allows;
+      registers = admits.registers;
       controls = admits.controls;
     }
 
@@ -42,6 +45,7 @@ module _ (code : Listing) (heartbeat z room : ℕ) where
       levels = admits.levels;
       lowest = admits.lowest;
       allows = admits.allows;
+      registers = admits.registers;
       controls = admits.controls;
     }
 
@@ -81,5 +85,6 @@ module _ (code : Listing) (heartbeat z room : ℕ) where
         levels = admits.levels;
         lowest = deeper;
         allows = λ y free. other_cell y free.0 (admits.allows y free.1);
+        registers = admits.registers;
         controls = inner_controls;
       }

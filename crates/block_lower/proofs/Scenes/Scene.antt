@@ -1,5 +1,5 @@
 -- What a task owes at a place of a code, inside whatever goes on round it.
-use Rattle.std.proofs.Common.{◌≡◌, ◌≢◌, ℕ, ◌+◌, ◌<◌, ◌≤◌, Bool, true, false, List, [], ◌∷◌, ◌++◌}
+use Rattle.std.proofs.Common.{sym, subst, ◌≡◌, ◌≢◌, ℕ, ◌+◌, ◌<◌, ◌≤◌, Bool, true, false, List, [], ◌∷◌, ◌++◌}
 use Rattle.std.proofs.Common.{length, Option, None, Some, All}
 use Rattle.std.specs.Prelude.{ℤ, pos, ⊤}
 use Rattle.std.specs.List.{AllByRecursion}
@@ -29,10 +29,13 @@ use Rattle.loop_meaning.specs.InRange.{TableInRange}
 use Rattle.loop_meaning.specs.State as meaning
 use Rattle.loop_meaning.specs.State.{Writes, has_cell, table_of, write_cell}
 use Rattle.expr_lower.specs.Standing.{Remains}
+use Rattle.handler_gen.specs.LeafCuts.{with_registers}
+use Rattle.handler_gen.proofs.LeafStores.{cells_with}
 use Rattle.block_lower.specs.Layout.{cursor_cell, levels_cell, value_cell, Activation}
 use Rattle.block_lower.proofs.Scenes.Activations.{StandsFrom}
 use Rattle.block_lower.proofs.Scenes.Promises.{Promise}
 use Rattle.block_lower.proofs.Scenes.Regions.{Region, AreShown, Covers}
+use Rattle.block_lower.proofs.Scenes.Registered.{AreApart, AreHigh}
 use Rattle.block_lower.proofs.Scenes.Results.{Result, noting, out}
 use Rattle.block_lower.proofs.Scenes.Tables.{table_names}
 use Rattle.block_lower.proofs.Scenes.Variables.{AreHeld, var_names}
@@ -223,6 +226,12 @@ pub record Scene (code : Listing) (heartbeat z : ℕ) : Type 1 where
   -- from which level on nothing is kept, and which cells of the activation may change below
   pub lowest : ℕ
   pub may : ℕ → Type 0
+  -- the cells below that level for which registers stand, each with its register
+  pub registers : List (ℕ × ℕ)
+  pub high : AreHigh registers
+  pub unlike : AreApart registers
+  pub under : All (λ c. c < value_cell lowest) (cells_with registers)
+  pub sized : All (λ c. c < size) (cells_with registers)
   -- the world of the left part, where the oldest mark is cut under a record, and so much was
   -- printed
   pub cut : World → ℕ → List ℕ → World
@@ -305,3 +314,51 @@ module _ (code : Listing) (heartbeat z : ℕ) (act : Activation) (fuel : ℕ) wh
   Owed S names instrs end f =
       (i : S.World) (st : meaning.State) (state : machine.State) → ShowsIn S i names st state
       → Remains code state.block state.at instrs end → (S.owing i (f st)).Holds state
+
+  -- the stack of a task as it is where the registers that stand for cells are stored
+  abbrev pub seen : Scene code heartbeat z → List Word → StackValue → StackValue
+  seen S words stack = with_registers S.registers z words stack
+
+  -- a task shows a state in its cells and in the registers that stand for some of them
+  abbrev pub SeenIn : (S : Scene code heartbeat z) (i : S.World) → List (List ℕ) → meaning.State
+      → machine.State → Type 0
+  SeenIn S i names st state =
+      Shows S i names st state.registers (seen S state.registers state.stack) state.tables
+      state.fuel
+      state.output state.goal (state.pending, state.met)
+
+  -- the same as `Owed` of a task that shows a state so
+  abbrev pub OwedSeen : Scene code heartbeat z → List (List ℕ) → List Instr → Term
+      → (meaning.State → Result) → Type 0
+  OwedSeen S names instrs end f =
+      (i : S.World) (st : meaning.State) (state : machine.State) → SeenIn S i names st state
+      → Remains code state.block state.at instrs end → (S.owing i (f st)).Holds state
+
+  -- where no register stands for a cell both are the same
+  pub seen_bare : (S : Scene code heartbeat z) (i : S.World) (names : List (List ℕ))
+      (st : meaning.State) (state : machine.State) → S.registers ≡ []
+      → ShowsIn S i names st state → SeenIn S i names st state
+  seen_bare S i names st state bare shows =
+      subst (λ (ps : List (ℕ × ℕ)).
+      Shows S i names st state.registers (with_registers ps z state.registers state.stack)
+      state.tables state.fuel state.output state.goal (state.pending, state.met)) (sym bare) shows
+
+  pub shows_bare : (S : Scene code heartbeat z) (i : S.World) (names : List (List ℕ))
+      (st : meaning.State) (state : machine.State) → S.registers ≡ []
+      → SeenIn S i names st state → ShowsIn S i names st state
+  shows_bare S i names st state bare shows =
+      subst (λ (ps : List (ℕ × ℕ)).
+      Shows S i names st state.registers (with_registers ps z state.registers state.stack)
+      state.tables state.fuel state.output state.goal (state.pending, state.met)) bare shows
+
+  pub owed_bare : (S : Scene code heartbeat z) (names : List (List ℕ)) (instrs : List Instr)
+      (end : Term) (f : meaning.State → Result) → S.registers ≡ [] → OwedSeen S names instrs end f
+      → Owed S names instrs end f
+  owed_bare S names instrs end f bare owed i st state shows stands =
+      owed i st state (seen_bare S i names st state bare shows) stands
+
+  pub owed_seen : (S : Scene code heartbeat z) (names : List (List ℕ)) (instrs : List Instr)
+      (end : Term) (f : meaning.State → Result) → S.registers ≡ [] → Owed S names instrs end f
+      → OwedSeen S names instrs end f
+  owed_seen S names instrs end f bare owed i st state shows stands =
+      owed i st state (shows_bare S i names st state bare shows) stands

@@ -1,9 +1,10 @@
 -- What a task shows, after its registers, its stack, its ticks or its output changed.
-use Rattle.std.proofs.Common.{◌≡◌, ℕ, suc, ◌+◌, ◌<◌, ◌≤◌, true, List, [], ◌∷◌, ◌++◌, length, take}
-use Rattle.std.proofs.Common.{Option, Some, refl, sym, ap, ◌∙◌, arith, append_assoc, All}
-use Rattle.std.specs.Prelude.{ℤ, pos}
+use Rattle.std.proofs.Common.{◌≡◌, ◌≢◌, ℕ, suc, ◌+◌, ◌<◌, ◌≤◌, true, List, [], ◌∷◌, ◌++◌, length}
+use Rattle.std.proofs.Common.{take, Option, Some, refl, sym, ap, subst, ◌∙◌, arith, append_assoc}
+use Rattle.std.proofs.Common.{All}
+use Rattle.std.specs.Prelude.{ℤ, pos, slice_set}
 use Rattle.std.proofs.lemmas.Bool.Decides.{nat_tests}
-use Rattle.std.proofs.lemmas.List.{length-append, length-take}
+use Rattle.std.proofs.lemmas.List.{length-append, length-set, length-take}
 use Rattle.beat_count.specs.FuelState.{FuelState}
 use Rattle.beat_count.specs.Ticks.{is_tick_allowed, ticked}
 use Rattle.slices.specs.Holding.{Holding}
@@ -15,6 +16,9 @@ use Rattle.tpal_syntax.specs.Listing.{Listing}
 use Rattle.tpal_machine.specs.declared.ends.Goal.{Goal}
 use Rattle.tpal_machine.specs.declared.ends.Tie.{Tie}
 use Rattle.tpal_machine.specs.Reading.{register}
+use Rattle.expr_lower.proofs.Keeping.{register_other}
+use Rattle.handler_gen.proofs.LeafStores.{cells_with}
+use Rattle.block_lower.specs.Round.{register_for}
 use Rattle.loop_meaning.specs.declared.value.Variable.{Variable}
 use Rattle.loop_meaning.specs.InRange.{InRange, TableInRange}
 use Rattle.loop_meaning.specs.State as meaning
@@ -23,7 +27,8 @@ use Rattle.handler_gen.proofs.Words.{word_same, word_other, words_as_many}
 use Rattle.block_lower.specs.Code.{IsCell}
 use Rattle.block_lower.specs.Layout.{levels_cell, value_cell, Activation}
 use Rattle.block_lower.proofs.Scenes.Results.{left}
-use Rattle.block_lower.proofs.Scenes.Scene.{Scene, Shows}
+use Rattle.block_lower.proofs.Scenes.Registered.{other_store, register_store, same_registers}
+use Rattle.block_lower.proofs.Scenes.Scene.{Scene, Shows, seen}
 use Rattle.block_lower.proofs.Scenes.Regions.{AreShown}
 use Rattle.block_lower.proofs.Scenes.Tables.{table_names}
 use Rattle.block_lower.proofs.Scenes.Variables.{var_names, held_same, held_declare, held_assign}
@@ -71,6 +76,50 @@ module _ (code : Listing) (heartbeat z : ℕ) (act : Activation) (fuel : ℕ) (S
     vars = h.vars;
     keeps = h.keeps;
   }
+
+  -- other registers below 24
+  pub shows_low : {names : List (List ℕ)} {st : meaning.State} {words : List Word}
+      {holdings : List Holding} {spent : FuelState} {output : List ℕ} {goal : Goal}
+      {ties : Option Tie × Option Tie} → (stack : StackValue) → Shown names st words
+      (seen code heartbeat z act fuel S words stack) holdings spent output goal ties
+      → (other : List Word) → length other ≡ length words
+      → ((r : ℕ) → 24 ≤ r → register other r ≡ register words r) → Shown names st other
+      (seen code heartbeat z act fuel S other stack) holdings spent output goal ties
+  shows_low {names} {st} {words} {holdings} {spent} {output} {goal} {ties} stack h other size high =
+      subst (λ (t : StackValue). Shown names st other t holdings spent output goal ties)
+      (sym (same_registers S.registers z words other stack S.high (λ r low up. high r low)))
+      (shows_words h other size (high 31 (omega arith)))
+
+  -- a store to a cell for which no register stands
+  pub shows_stored : {names : List (List ℕ)} {st : meaning.State} {words : List Word}
+      {holdings : List Holding} {spent : FuelState} {output : List ℕ} {goal : Goal}
+      {ties : Option Tie × Option Tie} → (stack : StackValue) → (cell : ℕ) (w : Word)
+      → stack.base ≤ z → All (λ c. cell ≢ c) (cells_with S.registers)
+      → Shown names st words (with_word (seen code heartbeat z act fuel S words stack)
+      (pos (z + cell)) w) holdings spent output goal ties
+      → Shown names st words (seen code heartbeat z act fuel S words
+      (with_word stack (pos (z + cell)) w)) holdings spent output goal ties
+  shows_stored {names} {st} {words} {holdings} {spent} {output} {goal} {ties} stack cell w low apart
+      h =
+      subst (λ (t : StackValue). Shown names st words t holdings spent output goal ties)
+      (sym (other_store S.registers z cell words stack w low apart)) h
+
+  -- a register that stands for a cell is set
+  pub shows_held : {names : List (List ℕ)} {st : meaning.State} {words : List Word}
+      {holdings : List Holding} {spent : FuelState} {output : List ℕ} {goal : Goal}
+      {ties : Option Tie × Option Tie} → (stack : StackValue) → (cell held : ℕ) (w : Word)
+      → register_for S.registers cell ≡ Some held → stack.base ≤ z → held < length words → held ≢ 31
+      → Shown names st words (with_word (seen code heartbeat z act fuel S words stack)
+      (pos (z + cell)) w) holdings spent output goal ties
+      → Shown names st (slice_set words held w)
+      (seen code heartbeat z act fuel S (slice_set words held w) stack) holdings spent output goal
+      ties
+  shows_held {names} {st} {words} {holdings} {spent} {output} {goal} {ties} stack cell held w is low
+      inside other h =
+      subst (λ (t : StackValue). Shown names st (slice_set words held w) t holdings spent output
+      goal ties) (sym (register_store S.registers z cell held words stack w low inside S.unlike is))
+      (shows_words h (slice_set words held w) (length-set words held w)
+      (register_other words held 31 w (λ (q : 31 ≡ held). other (sym q))))
 
   -- a word in a cell above those of the variables
   pub shows_new : {names : List (List ℕ)} {st : meaning.State} {words : List Word} {stack : StackValue} {holdings : List Holding} {spent : FuelState} {output : List ℕ} {goal : Goal} {ties : Option Tie × Option Tie} → Shown names st words stack holdings spent output goal ties

@@ -38,10 +38,10 @@ use Rattle.block_lower.proofs.Whole.Around.{callable_in_call, in_call}
 use Rattle.block_lower.proofs.Whole.Law.{codes_law}
 use Rattle.block_lower.proofs.Whole.Permitting.{PermitsAll, PermitsCall}
 use Rattle.block_lower.proofs.Scenes.Results.{fin, result, then}
-use Rattle.block_lower.proofs.Scenes.Scene.{Scene, ShowsIn, Owed}
+use Rattle.block_lower.proofs.Scenes.Scene.{Scene, ShowsIn, Owed, owed_bare, owed_seen}
 use Rattle.block_lower.proofs.Scenes.Showing.{shows_words}
 use Rattle.block_lower.proofs.Forms.Simple.{still_shows}
-use Rattle.block_lower.proofs.Scenes.Values.{ExprLaw, computes}
+use Rattle.block_lower.proofs.Scenes.Values.{ExprLaw, computes_bare}
 
 module _ (code : Listing) (heartbeat z : ℕ) (act : Activation) (fuel : ℕ) (expr_law : ExprLaw code
     heartbeat) (C : Scene code heartbeat z) (returns : Returns code heartbeat fuel z act C) where
@@ -50,7 +50,8 @@ module _ (code : Listing) (heartbeat z : ℕ) (act : Activation) (fuel : ℕ) (e
       act fuel C (names_after_list (texts f.params.items) f.body.items) is.last (term.Jump
       (value.Reg 1)) (value_then f.result)
   gives_value f label is w st state shows stands =
-      computes code heartbeat z act fuel expr_law C w (names_after_list (texts f.params.items)
+      computes_bare code heartbeat z act fuel expr_law C returns.bare w
+      (names_after_list (texts f.params.items)
       f.body.items) st state shows f.result 0 is.last (load 1 return_cell ∷ []) (term.Jump
       (value.Reg 1)) is.value stands (λ n. done (with_value n st)) fin
       (λ n fits words beat at keeps is_n here.
@@ -86,9 +87,11 @@ module _ (code : Listing) (heartbeat fuel : ℕ) (expr_law : ExprLaw code heartb
       enters code heartbeat z act fuel C (texts f.func.params.items) entry.label f.is.instrs
       f.is.end (λ st. then (result (run_list (body_set p.funcs.items fuel room)
       f.func.body.items st)) (value_then f.func.result)) f.is.begins
+      (owed_bare code heartbeat z act fuel C _ _ _ _ returns.bare
       (codes_law code heartbeat z act p fuel room expr_law rules dispatches calls place
       f.is.statements C (record {
         levels = levels;
+        registers = returns.bare;
         lowest = omega (arith, lowest);
         allows = λ y
             free. may (value_cell y) (omega arith);
@@ -98,8 +101,10 @@ module _ (code : Listing) (heartbeat fuel : ℕ) (expr_law : ExprLaw code heartb
           may (rec_cell d) (omega arith),
         );
       }) (λ loud. permitted (permits loud))
-      (value_then f.func.result) (gives_value code heartbeat z act fuel expr_law C returns
-      f.func entry.label f.is))
+      (value_then f.func.result) (owed_seen code heartbeat z act fuel C _ _ _
+      (value_then f.func.result) returns.bare
+      (gives_value code heartbeat z act fuel expr_law C returns
+      f.func entry.label f.is))))
     where
       act : Activation
       act = record base { most = f.most; size = entry.size }

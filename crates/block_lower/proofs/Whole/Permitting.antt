@@ -8,9 +8,10 @@ use Rattle.loop_syntax.specs.declared.Func.{Func}
 use Rattle.loop_syntax.specs.declared.Name.{Name}
 use Rattle.loop_syntax.specs.declared.ParLoop.{ParLoop}
 use Rattle.loop_syntax.specs.declared.Program.{Program}
-use Rattle.loop_syntax.specs.declared.Stmt.{Stmt}
+use Rattle.loop_syntax.specs.declared.Stmt.{Stmt, Row_of-Stmt, end_of-Stmt, more_of-Stmt}
 use Rattle.loop_syntax.specs.declared.Stmt.TheBlock.{hidden-the_row-Stmt-0}
-use Rattle.loop_syntax.specs.declared.Stmt.TheVariants.{If, Loop, While}
+use Rattle.loop_syntax.specs.declared.Stmt.TheVariants.{Both, Call, Emit, Fold, If, If', Let, Loop}
+use Rattle.loop_syntax.specs.declared.Stmt.TheVariants.{Loop', Par', Print, Put, Set, While, While'}
 use Rattle.loop_rules.specs.Names.{func_of}
 use Rattle.tpal_syntax.specs.Listing.{Listing}
 use Rattle.frame_machine.specs.Lawful.{Callable}
@@ -129,6 +130,43 @@ loud_while calls e body loud = quiet_of_vec calls body ∙ loud
 pub loud_loop : (calls : Bool) (x : Name) (a b : Expr) (body : Vec Stmt Global)
     → list_is_quiet calls body.items ≡ false → is_quiet calls (Loop x a b body) ≡ false
 loud_loop calls x a b body loud = quiet_of_vec calls body ∙ loud
+
+-- what isn't quiet isn't where calls reach points either
+loud_either : (a b c d : Bool) → (a ≡ false → c ≡ false) → (b ≡ false → d ≡ false)
+    → (a && b) ≡ false → (c && d) ≡ false
+loud_either false b c d first second loud = first_loud c d (first refl)
+loud_either true b c d first second loud = second_loud c d (second loud)
+
+mutual
+  loud_one : (calls : Bool) (s : Stmt) → is_quiet calls s ≡ false → is_quiet false s ≡ false
+  loud_one calls (Let x e) loud = loud
+  loud_one calls (Set x e) loud = loud
+  loud_one calls (Put t a b e) loud = loud
+  loud_one calls (If' e p body q other) loud =
+      loud_either (all_is_quiet calls body) (all_is_quiet calls other) (all_is_quiet false body)
+      (all_is_quiet false other) (loud_row calls body) (loud_row calls other) loud
+  loud_one calls (While' e p body) loud = loud_row calls body loud
+  loud_one calls (Loop' x a b p body) loud = loud_row calls body loud
+  loud_one calls (Par' place x a b carry_place carries reduces p body) loud = loud
+  loud_one calls (Fold x e) loud = loud
+  loud_one calls (Call x f) loud = refl
+  loud_one calls (Both x f y g) loud = loud
+  loud_one calls (Print place e) loud = loud
+  loud_one calls (Emit place t) loud = loud
+
+  loud_row : {m : _} (calls : Bool) (row : Row_of-Stmt m) → all_is_quiet calls row ≡ false
+      → all_is_quiet false row ≡ false
+  loud_row calls end_of-Stmt loud = loud
+  loud_row calls (more_of-Stmt first rest) loud =
+      loud_either (is_quiet calls first) (all_is_quiet calls rest) (is_quiet false first)
+      (all_is_quiet false rest) (loud_one calls first) (loud_row calls rest) loud
+
+pub loud_list : (calls : Bool) (ss : List Stmt) → list_is_quiet calls ss ≡ false
+    → list_is_quiet false ss ≡ false
+loud_list calls [] loud = loud
+loud_list calls (s ∷ ss) loud =
+    loud_either (is_quiet calls s) (list_is_quiet calls ss) (is_quiet false s)
+    (list_is_quiet false ss) (loud_one calls s) (loud_list calls ss) loud
 
 -- a function that isn't quiet
 loud_function : (fs : List Func) (x : List ℕ) (f : Func) → func_of fs x ≡ Some f

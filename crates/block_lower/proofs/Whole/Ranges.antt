@@ -19,16 +19,19 @@ use Rattle.tpal_syntax.specs.Listing.{Listing}
 use Rattle.expr_lower.specs.Bodies.{literal}
 use Rattle.block_lower.specs.Code.{Arguments, Branch, Code, Codes, Operand, Other}
 use Rattle.block_lower.specs.Code.{both_code, branch, call_code, computed, deep_par_code, emit_code}
-use Rattle.block_lower.specs.Code.{fold_code, fold_nothing_code, if_code, let_code, loop_code}
-use Rattle.block_lower.specs.Code.{loop_to_code, no_argument, none, nothing, number, one_argument}
+use Rattle.block_lower.specs.Code.{fold_code, fold_nothing_code, if_code, leaf_par_code, let_code}
+use Rattle.block_lower.specs.Code.{loop_code, loop_to_code, no_argument, none, nothing, number}
+use Rattle.block_lower.specs.Code.{one_argument}
 use Rattle.block_lower.specs.Code.{one_more, print_code, put_code, put_kept_code, quiet_par_code}
-use Rattle.block_lower.specs.Code.{set_code, something, while_code}
+use Rattle.block_lower.specs.Code.{fold_register_code, set_code, set_register_code, something}
+use Rattle.block_lower.specs.Code.{standing, while_code}
 use Rattle.block_lower.specs.Layout.{Activation}
 use Rattle.block_lower.specs.Main.{IsFunction, Makes, input_table, made_kept_table, made_table}
 use Rattle.block_lower.specs.Main.{no_table}
 use Rattle.block_lower.specs.Programs.{AreWritten, activation_of}
 use Rattle.block_lower.specs.Sizes.{added_by_func}
 use Rattle.block_lower.specs.Round.{Round}
+use Rattle.block_lower.proofs.Scenes.Values.{variable_ranged}
 
 -- the statements of a body, as a row
 row_ranged : {m : _} (row : Row_of-Stmt m) → All StmtInRange (items-the_row-Stmt _ row)
@@ -57,9 +60,11 @@ literal_ranged (Neg' p a place) n is range = absurd (cc)
 literal_ranged (Bin' o place p a q b) n is range = absurd (cc)
 
 module _ (code : Listing) (act : Activation) where
-  operand_ranged : {names : List (List ℕ)} {e : Expr} {r : ℕ} {v : Value} {instrs more : List Instr}
-      → Operand code act names e r v instrs more → ExprInRange e
+  operand_ranged : {registers : List (ℕ × ℕ)} {names : List (List ℕ)} {e : Expr} {r : ℕ}
+      {v : Value} {instrs more : List Instr} → Operand code act registers names e r v instrs more
+      → ExprInRange e
   operand_ranged {e = e} (number {n} is range) = literal_ranged e n is range
+  operand_ranged {e = e} (standing {x} is_x c is_held) = variable_ranged e x is_x
   operand_ranged (computed c) = c.ranged
 
   arguments_ranged : {names : List (List ℕ)} {cell : ℕ → ℕ} {i : ℕ} {es : List Expr}
@@ -73,7 +78,8 @@ module _ (code : Listing) (act : Activation) where
     pub code_ranged : {round : Round} {names : List (List ℕ)} {s : Stmt} {instrs more : List Instr}
         {end last : Term} → Code code act round names s instrs end more last → StmtInRange s
     code_ranged (let_code room c) = operand_ranged c
-    code_ranged (set_code is c) = operand_ranged c
+    code_ranged (set_code is empty c) = operand_ranged c
+    code_ranged (set_register_code is is_held c) = operand_ranged c
     code_ranged (put_code is a b e traps) = (a.ranged, b.ranged, e.ranged)
     code_ranged (put_kept_code keeps is a b e traps) = (a.ranged, b.ranged, e.ranged)
     code_ranged (if_code body other c one two ends) =
@@ -84,16 +90,20 @@ module _ (code : Listing) (act : Activation) where
         (a.ranged, b.ranged, vec_ranged body (codes_ranged inner))
     code_ranged (loop_to_code {b = b} body {n} room is range a begins inner ends) =
         (a.ranged, literal_ranged b n is range, vec_ranged body (codes_ranged inner))
-    code_ranged (quiet_par_code l site shallow room quiet free a b is begins inner heads again
+    code_ranged (quiet_par_code l site empty shallow room quiet free a b is begins inner heads again
         ends) =
         (a.ranged, b.ranged, vec_ranged l.body (codes_ranged inner))
-    code_ranged (deep_par_code l site shallow room loud free a b is begins inner ends) =
+    code_ranged (leaf_par_code l site empty shallow room quiet free a b is heads again begins inner
+        ends) =
         (a.ranged, b.ranged, vec_ranged l.body (codes_ranged inner))
-    code_ranged (fold_code is_op is c) = operand_ranged c
+    code_ranged (deep_par_code l site empty shallow room loud free a b is begins inner ends) =
+        (a.ranged, b.ranged, vec_ranged l.body (codes_ranged inner))
+    code_ranged (fold_code is_op is empty c) = operand_ranged c
+    code_ranged (fold_register_code is_op is is_held c) = operand_ranged c
     code_ranged (fold_nothing_code is c) = c.ranged
-    code_ranged (call_code is_entry arity is args call) = arguments_ranged args
-    code_ranged (both_code first second site kept is_first arity_first is_second arity_second is_x
-        is_y few args others pair) =
+    code_ranged (call_code empty is_entry arity is args call) = arguments_ranged args
+    code_ranged (both_code first second site empty kept is_first arity_first is_second arity_second
+        is_x is_y few args others pair) =
         (arguments_ranged args, arguments_ranged others)
     code_ranged (print_code c) = c.ranged
     code_ranged (emit_code is) = tt

@@ -171,6 +171,11 @@ module _ (code : Listing) (heartbeat fuel dispatch : ℕ) where
     lowest = 0;
     may = λ x. ⊤;
     cut = λ i k printed. i;
+    registers = [];
+    high = tt;
+    unlike = tt;
+    under = λ i d below. absurd (omega (arith, below));
+    sized = λ i d below. absurd (omega (arith, below));
     stable = λ i level s t low same kept. tt;
     below = λ i. refl;
     stops =
@@ -251,7 +256,8 @@ module _ (code : Listing) (heartbeat fuel dispatch : ℕ) where
     inside : 0 + levels_cell < stack.base + length stack.cells
     inside = omega (arith, size_is, is.has_room.room)
 
-    making : Making code heartbeat 0 act fuel expr_law root (omega arith) (λ i. refl) (λ i. refl)
+    making : Making code heartbeat 0 act fuel expr_law root refl (omega arith) (λ i. refl)
+        (λ i. refl)
         (λ i ts. tt) given tt [] (input_cells ds given) ds whole.first_state with_levels
     unfolding with_levels first stack zeroth
     making = record {
@@ -319,6 +325,7 @@ module _ (code : Listing) (heartbeat fuel dispatch : ℕ) where
         (main_has_place act is.has_room) is.statements root
         (record {
           levels = refl;
+          registers = refl;
           lowest = omega arith;
           allows = λ x free. tt;
           controls = λ d from below. (tt, tt);
@@ -348,7 +355,8 @@ module _ (code : Listing) (heartbeat fuel dispatch : ℕ) where
         (omega (arith, is.has_room.fits))
         (stores_in code heartbeat 0 act fuel K first levels_cell (value.Int (pos MAX_CALL_DEPTH))
         is.makes is.end second refl (omega arith) inside
-        (makes_law code heartbeat 0 act fuel expr_law root (omega arith) (λ i. refl) (λ i. refl)
+        (makes_law code heartbeat 0 act fuel expr_law root refl (omega arith) (λ i. refl)
+        (λ i. refl)
         (λ i ts. tt) given is.made is.end [] code.tables refl refl is.declared there main_gives
         main_owed
         (input_cells ds given) tt whole.first_state with_levels making

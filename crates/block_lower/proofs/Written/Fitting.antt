@@ -1,9 +1,11 @@
 -- Statements that fit, as a row, as a list and one after another.
-use Rattle.std.proofs.Common.{◌≡◌, ℕ, List, [], ◌∷◌, ◌++◌, refl, subst, Vec}
+use Rattle.std.proofs.Common.{◌≡◌, ℕ, List, [], ◌∷◌, ◌++◌, length, refl, subst, Vec}
 use Rattle.std.specs.declared.alloc.Global.{Global}
 use Rattle.loop_syntax.specs.declared.Stmt.{Stmt, Row_of-Stmt, end_of-Stmt, more_of-Stmt}
 use Rattle.loop_syntax.specs.declared.Stmt.{items-the_row-Stmt, items_hidden-the_row-Stmt-0}
 use Rattle.loop_syntax.specs.declared.Stmt.TheBlock.{hidden-the_row-Stmt-0}
+use Rattle.loop_syntax.specs.declared.Stmt.TheVariants.{Let, Set, Put, If', While', Loop', Par'}
+use Rattle.loop_syntax.specs.declared.Stmt.TheVariants.{Fold, Call, Both, Print, Emit}
 use Rattle.tpal_syntax.specs.declared.instructions.Instr.{Instr}
 use Rattle.tpal_syntax.specs.declared.instructions.Term.{Term}
 use Rattle.tpal_syntax.specs.Listing.{Listing}
@@ -12,7 +14,7 @@ use Rattle.block_lower.specs.Fitting.{Fits, FitInRow, AllFit}
 use Rattle.block_lower.specs.Heights.{RowIsLow, AllAreLow}
 use Rattle.block_lower.specs.Layout.{Entry, Activation}
 use Rattle.block_lower.specs.Names.{names_after, names_after_list}
-use Rattle.block_lower.specs.Round.{Round}
+use Rattle.block_lower.specs.Round.{Round, loop_round}
 
 low_of_row : {m : _} (row : Row_of-Stmt m) → RowIsLow row → AllAreLow (items-the_row-Stmt _ row)
 low_of_row end_of-Stmt low = tt
@@ -33,6 +35,50 @@ module _ (tables : List (List ℕ)) (functions : List Entry) (most : ℕ) where
   pub fit_of_vec : (round : Round) (names : List (List ℕ)) (body : Vec Stmt Global) → FitInRow tables functions most round names (hidden-the_row-Stmt-0 body) → AllFit tables functions most round names body.items
   fit_of_vec round names body fit =
       subst (λ (ss : List Stmt). AllFit tables functions most round names ss) (items_hidden-the_row-Stmt-0 body) (fit_of_row round names (hidden-the_row-Stmt-0 body) fit)
+
+  -- the registers don't matter
+  mutual
+    fits_held : (round : Round) (registers : List (ℕ × ℕ)) (names : List (List ℕ)) (s : Stmt)
+        → Fits tables functions most round names s
+        → Fits tables functions most (record round { registers = registers }) names s
+    fits_held round registers names (Let x e) f = f
+    fits_held round registers names (Set x e) f = f
+    fits_held round registers names (Put t a b e) f = f
+    fits_held round registers names (If' e p body q other) f =
+        (f.0, row_held round registers names body f.1, row_held round registers names other f.2)
+    fits_held round registers names (While' e p body) f =
+        (f.0, row_held round registers names body f.1)
+    fits_held round registers names (Loop' x a b p body) f = (
+      f.0,
+      f.1,
+      f.2,
+      row_held (loop_round round (length names)) registers
+          (names ++ x.text.items ∷ []) body f.3,
+    )
+    fits_held round registers names (Par' place x a b carry_place carries reduces p body) f = f
+    fits_held round registers names (Fold x e) f = f
+    fits_held round registers names (Call x g) f = f
+    fits_held round registers names (Both x g y h) f = f
+    fits_held round registers names (Print place e) f = f
+    fits_held round registers names (Emit place t) f = f
+
+    row_held : {m : _} (round : Round) (registers : List (ℕ × ℕ)) (names : List (List ℕ))
+        (row : Row_of-Stmt m) → FitInRow tables functions most round names row
+        → FitInRow tables functions most (record round { registers = registers }) names row
+    row_held round registers names end_of-Stmt f = tt
+    row_held round registers names (more_of-Stmt s rest) f = (
+      fits_held round registers names s f.0,
+      row_held round registers (names_after names s) rest f.1,
+    )
+
+  pub all_held : (round : Round) (registers : List (ℕ × ℕ)) (names : List (List ℕ))
+      (ss : List Stmt) → AllFit tables functions most round names ss
+      → AllFit tables functions most (record round { registers = registers }) names ss
+  all_held round registers names [] f = tt
+  all_held round registers names (s ∷ ss) f = (
+    fits_held round registers names s f.0,
+    all_held round registers (names_after names s) ss f.1,
+  )
 
   pub fit_before : (round : Round) (names : List (List ℕ)) (ss : List Stmt) (s : Stmt) → AllFit tables functions most round names (ss ++ s ∷ []) → AllFit tables functions most round names ss
   fit_before round names [] s fit = tt

@@ -14,12 +14,11 @@ use Rattle.block_lower.proofs.Written.Seeing.{as_long}
 
 pub sees_declared : (old new : Scope) (c : Vec ℕ Global × ℕ) (x : List ℕ)
     → new.cells.items ≡ old.cells.items ++ c ∷ [] → c.0.items ≡ x
-    → c.1 ≡ value_cell (length old.cells.items) → new.regs ≡ old.regs → new.tables ≡ old.tables
+    → c.1 ≡ value_cell (length old.cells.items) → new.tables ≡ old.tables
     → SeesAfter (λ names. names ++ x ∷ []) old new
-sees_declared old new c x pushed is_named is same_regs same names tables sees =
+sees_declared old new c x pushed is_named is same names tables sees =
     let cell_name : Vec ℕ Global × ℕ → List ℕ = λ d. d.0.items in
     record {
-      bare = ap (λ (rs : Vec (Vec ℕ Global × ℕ) Global). rs.items) same_regs ∙ sees.bare;
       named = ap (λ (cs : List (Vec ℕ Global × ℕ)). map cell_name cs) pushed ∙ map-append cell_name old.cells.items (c ∷ []) ∙ ap (λ (ns : List (List ℕ)). ns ++ c.0.items ∷ []) sees.named
           ∙ ap (λ (y : List ℕ). names ++ y ∷ []) is_named;
       laid = subst (λ (cs : List (Vec ℕ Global × ℕ)). AreLaid 0 cs) (sym pushed) (laid_push 0 old.cells.items c (let e : 0 + length old.cells.items ≡ length old.cells.items = omega arith in rw e is) sees.laid);
@@ -27,11 +26,10 @@ sees_declared old new c x pushed is_named is same_regs same names tables sees =
     }
 
 pub sees_left : (old new : Scope) (n : ℕ) → new.cells.items ≡ take n old.cells.items
-    → new.regs ≡ old.regs → new.tables ≡ old.tables → SeesAfter (take n) old new
-sees_left old new n left same_regs same names tables sees =
+    → new.tables ≡ old.tables → SeesAfter (take n) old new
+sees_left old new n left same names tables sees =
     let cell_name : Vec ℕ Global × ℕ → List ℕ = λ d. d.0.items in
     record {
-      bare = ap (λ (rs : Vec (Vec ℕ Global × ℕ) Global). rs.items) same_regs ∙ sees.bare;
       named = ap (λ (cs : List (Vec ℕ Global × ℕ)). map cell_name cs) left ∙ names_take_cells n old.cells.items ∙ ap (λ (ns : List (List ℕ)). take n ns) sees.named;
       laid = subst (λ (cs : List (Vec ℕ Global × ℕ)). AreLaid 0 cs) (sym left) (laid_take n 0 old.cells.items sees.laid);
       listed = ap (λ (ts : Vec (Vec ℕ Global) Global). map (λ (t : Vec ℕ Global). t.items) ts.items) same ∙ sees.listed;

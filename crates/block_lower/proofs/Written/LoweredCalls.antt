@@ -33,6 +33,7 @@ use Rattle.block_lower.specs.Lowering.{WritesPassed, WritesCall, Lowers}
 use Rattle.block_lower.specs.Pairs.{call_given}
 use Rattle.block_lower.specs.Writing.{label, IsFresh, Pushes, Closes, Stands, Continues, Leads}
 use Rattle.block_lower.proofs.Written.Lowered.{cell_is}
+use Rattle.block_lower.proofs.Written.Standing.{sees_bare}
 use Rattle.block_lower.proofs.Written.Writing.{pushed, closed_block, fresh_opens}
 
 -- ---- arguments
@@ -48,17 +49,17 @@ visible_last tables names (d ∷ ds) e seen = visible_last tables names ds e see
 module _ (code : Listing) (act : Activation) (names : List (List ℕ)) where
   -- one argument more
   arguments_more : (cell : ℕ → ℕ) (i : ℕ) (es : List Expr) (e : Expr) (v : Value) (instrs middle more : List Instr)
-      → Arguments code act names cell i es instrs middle → Operand code act names e 0 v middle (store (cell (i + length es)) v ∷ more) → Arguments code act names cell i (es ++ e ∷ []) instrs more
+      → Arguments code act names cell i es instrs middle → Operand code act [] names e 0 v middle (store (cell (i + length es)) v ∷ more) → Arguments code act names cell i (es ++ e ∷ []) instrs more
   arguments_more cell i [] e v instrs middle more no_argument o =
-      one_argument (subst (λ (n : ℕ). Operand code act names e 0 v instrs (store (cell n) v ∷ more)) (omega arith) o) no_argument
+      one_argument (subst (λ (n : ℕ). Operand code act [] names e 0 v instrs (store (cell n) v ∷ more)) (omega arith) o) no_argument
   arguments_more cell i (d ∷ ds) e v instrs middle more (one_argument p others) o =
-      one_argument p (arguments_more cell (suc i) ds e v _ middle more others (subst (λ (n : ℕ). Operand code act names e 0 v middle (store (cell n) v ∷ more)) (omega arith) o))
+      one_argument p (arguments_more cell (suc i) ds e v _ middle more others (subst (λ (n : ℕ). Operand code act [] names e 0 v middle (store (cell n) v ∷ more)) (omega arith) o))
 
   -- the same cells, named in another way
   arguments_at : (cell other : ℕ → ℕ) → ((i : ℕ) → cell i ≡ other i) → (i : ℕ) (es : List Expr) (instrs more : List Instr) → Arguments code act names cell i es instrs more → Arguments code act names other i es instrs more
   arguments_at cell other same i [] instrs more no_argument = no_argument
   arguments_at cell other same i (e ∷ es) instrs more (one_argument {v = v} {second = second} p others) =
-      one_argument (subst (λ (n : ℕ). Operand code act names e 0 v instrs (store n v ∷ second)) (same i) p) (arguments_at cell other same (suc i) es second more others)
+      one_argument (subst (λ (n : ℕ). Operand code act [] names e 0 v instrs (store n v ∷ second)) (same i) p) (arguments_at cell other same (suc i) es second more others)
 
 pub none_stored : (scope : Scope) (cell : ℕ → ℕ) (old : Output) → WritesArguments scope [] cell old old
 none_stored scope cell old code act names more last sees visible c = record { instrs = more; end = last; continues = c; told = (refl, no_argument) }
@@ -67,8 +68,8 @@ pub more_stored : (scope : Scope) (es : List Expr) (e : Expr) (v : Value) (cell 
     → WritesArguments scope es cell old middle → WritesOperand scope e 0 v middle valued → Pushes (store (cell (length es)) v ∷ []) valued new → WritesArguments scope (es ++ e ∷ []) cell old new
 more_stored scope es e v cell old middle valued new all one push code act names more last sees visible c =
     let own : Instr = store (cell (length es)) v in
-    let w : Leads code middle (λ instrs end. (end ≡ last) × Operand code act names e 0 v instrs (own ∷ more)) =
-    one code act names (own ∷ more) last sees (visible_last act.tables names es e visible) (pushed code valued new (own ∷ []) more last push c) in
+    let w : Leads code middle (λ instrs end. (end ≡ last) × Operand code act [] names e 0 v instrs (own ∷ more)) =
+    one code act names [] (own ∷ more) last sees (visible_last act.tables names es e visible) (pushed code valued new (own ∷ []) more last push c) in
     let u : Leads code old (λ instrs end. (end ≡ w.end) × Arguments code act names cell 0 es instrs w.instrs) =
     all code act names w.instrs w.end sees (visible_before act.tables names es e visible) w.continues in
     record {
@@ -78,7 +79,7 @@ more_stored scope es e v cell old middle valued new all one push code act names 
       told = (
         u.told.0 ∙ w.told.0,
         arguments_more code act names cell 0 es e v u.instrs w.instrs more u.told.1
-            (subst (λ (n : ℕ). Operand code act names e 0 v w.instrs (store (cell n) v ∷ more)) (omega arith) w.told.1),
+            (subst (λ (n : ℕ). Operand code act [] names e 0 v w.instrs (store (cell n) v ∷ more)) (omega arith) w.told.1),
       );
     }
 
@@ -187,20 +188,20 @@ module _ (on : Body) (as_told : told.Round) (scope : Scope) where
     pub at_is : (entry : Entry) → entry_of (entries on.callees.items) x ≡ Some entry → at ≡ entry.label
     pub size_is : (entry : Entry) → entry_of (entries on.callees.items) x ≡ Some entry → size ≡ entry.size
 
-  pub call_statement_written : (x : Name) (f : App) (at size first : ℕ) (old allocs stored called new : Output) → IsTarget f.callee.text.items at size → first ≡ on.size + value_cell 0
+  pub call_statement_written : (x : Name) (f : App) (at size first : ℕ) (old allocs stored called new : Output) → scope.regs.items ≡ [] → IsTarget f.callee.text.items at size → first ≡ on.size + value_cell 0
       → Pushes (instr.Salloc size ∷ []) old allocs → WritesArguments scope f.args.items (λ i. first + i * 2) allocs stored → WritesCall on f.callee.place at size stored called
       → Pushes (store (offset_of scope x.text.items) (value.Reg 0) ∷ []) called new → Lowers on as_told scope (Call x f) old new
-  call_statement_written x f at size first old allocs stored called new target first_is alloc arguments call push code tables names round more last same sees fits c =
+  call_statement_written x f at size first old allocs stored called new none target first_is alloc arguments call push code tables names round more last same sees fits c =
       let act : Activation = activation on tables in
       let own : Instr = store (offset_of scope x.text.items) (value.Reg 0) in
       let w : Leads code stored (λ instrs end. Calls code act f.callee.place fits.1.entry instrs end (own ∷ more) last) =
       call code tables fits.1.entry (own ∷ more) last (sym (target.at_is fits.1.entry fits.1.is_entry)) (sym (target.size_is fits.1.entry fits.1.is_entry)) (pushed code called new (own ∷ []) more last push c) in
       let v : Leads code allocs (λ instrs end. (end ≡ w.end) × Arguments code act names (λ i. first + i * 2) 0 f.args.items instrs w.instrs) =
-      arguments code act names w.instrs w.end sees fits.1.seen w.continues in
+      arguments code act names w.instrs w.end (sees_bare none sees.sees) fits.1.seen w.continues in
       let stored_at : Arguments code act names (parameter_cell code act) 0 f.args.items v.instrs w.instrs =
       arguments_at code act names (λ i. first + i * 2) (parameter_cell code act) (λ i. omega (arith, first_is)) 0 f.args.items v.instrs w.instrs v.told.1 in
       let is : Code code act round names (Call x f) (instr.Salloc fits.1.entry.size ∷ v.instrs) w.end more last =
-      call_code fits.1.is_entry fits.1.arity (cell_is on as_told scope tables names round.fixed x.text.items code sees fits.0) stored_at w.told in
+      call_code (sees.stand.bare none) fits.1.is_entry fits.1.arity (cell_is on as_told scope tables names round.fixed x.text.items code sees.sees fits.0) stored_at w.told in
       record {
         instrs = instr.Salloc size ∷ v.instrs;
         end = v.end;

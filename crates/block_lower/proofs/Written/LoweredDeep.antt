@@ -48,6 +48,7 @@ use Rattle.block_lower.proofs.Written.Fitting.{fit_of_vec}
 use Rattle.block_lower.proofs.Written.LoweredLoops.{Bodied, bodied, par_is_round}
 use Rattle.block_lower.proofs.Written.LoweredPars.{readied, reduced_free_cells, site_there}
 use Rattle.block_lower.proofs.Written.Seeing.{as_long}
+use Rattle.block_lower.proofs.Written.Standing.{sees_bare, stand_bare}
 use Rattle.block_lower.proofs.Written.Writing.{appended, closed_block, empty_opens, fresh_opens}
 use Rattle.block_lower.proofs.Written.Writing.{pushed}
 
@@ -179,7 +180,7 @@ deep_begun on as_told scope l site check head exit old tested stores begun new i
     starts code (activation on tables) names begin (to wide) sees fits.2 fits.3
     (pushed code tested stores (store site.cursor (value.Reg 1) ∷ []) (marked_begin site first)
     (to wide) push b.0) in
-    let long : length scope.cells.items ≡ length names = as_long scope names tables sees in
+    let long : length scope.cells.items ≡ length names = as_long scope names tables sees.sees in
     let here : site ≡ loop_site scope l on.size round.depth (length names) (cursor_cell round.depth)
     site.label =
     is ∙ ap (λ (d : ℕ). loop_site scope l on.size d (length scope.cells.items) (cursor_cell d)
@@ -199,7 +200,7 @@ deep_begun on as_told scope l site check head exit old tested stores begun new i
           check = check;
           bounds = w.leads.told.1;
           is_site = record {
-            is_site = site_there on as_told scope tables names sees code l round
+            is_site = site_there on as_told scope tables names sees.sees code l round
                 (cursor_cell round.depth) site fits.5 here right s.1.handler s.1.join s.1.rows;
             wide = wide;
             begins = subst (λ (k : ℕ). Opens code check (length_test k begin) (to wide))
@@ -220,12 +221,13 @@ deep_begun on as_told scope l site check head exit old tested stores begun new i
 
 pub deep_written : (on : Body) (as_told inside : told.Round) (scope : Scope) (l : ParLoop)
     (head exit : ℕ) (old start inner new : Output)
-    → list_is_quiet on.quiet_calls l.body.items ≡ false → inside.reduces.now ≡ l.reduces.items
+    → list_is_quiet on.quiet_calls l.body.items ≡ false → scope.regs.items ≡ []
+    → inside.reduces.now ≡ l.reduces.items
     → inside.depth ≡ as_told.depth + 1 → BeginsDeep on as_told scope l head exit old start
     → IsFresh start → head + 2 ≡ label start
     → LowersBody on inside scope l.var.text.items l.body.items start inner
     → Closes (to head) inner new → exit ≡ label new → Lowers on as_told scope (Par l) old new
-deep_written on as_told inside scope l head exit old start inner new deep reduces depth begins
+deep_written on as_told inside scope l head exit old start inner new deep none reduces depth begins
     fresh_start turn_is lowers close exit_is code tables names round more last same sees fits c =
     let within : Round = par_round round names l.reduces.items in
     let behind : ℕ → List Instr = λ n. [] in
@@ -236,13 +238,14 @@ deep_written on as_told inside scope l head exit old start inner new deep reduce
     behind refl fresh_start.plain lowers turns code tables names within l.body =
     bodied on inside scope l.var l.body.items level (to head) note.Plain start inner new behind refl
     fresh_start.plain lowers turns code tables names within l.body
-    (par_is_round round as_told inside names l reduces depth same) refl sees
+    (par_is_round round as_told inside names l reduces depth same) refl sees.sees
+    (stand_bare (names ++ l.var.text.items ∷ []) scope.regs.items none)
     (fit_of_vec tables (entries on.callees.items) on.most within (names ++ l.var.text.items ∷ [])
     l.body fits.4) c.closed in
     let act : Activation = activation on tables in
     let w : Leads code old (λ instrs end. (end ≡ to exit)
     × IsDeepBegun code act on.dispatch names l round.depth head exit instrs) =
-    begins code tables names round same sees fits one.before in
+    begins code tables names round same (sees_bare none sees.sees) fits one.before in
     let b : IsDeepBegun code act on.dispatch names l round.depth head exit w.instrs = w.told.1 in
     record {
       instrs = w.instrs;
@@ -250,8 +253,8 @@ deep_written on as_told inside scope l head exit old start inner new deep reduce
       continues = w.continues;
       told = subst (λ (e : Term). Code code act round names (Par l) w.instrs e more last)
           (sym w.told.0)
-          (deep_par_code l b.site fits.0 fits.1 deep
-          (reduced_free_cells on as_told scope tables names sees code round.fixed l.reduces.items
+          (deep_par_code l b.site (sees.stand.bare none) fits.0 fits.1 deep
+          (reduced_free_cells on as_told scope tables names sees.sees code round.fixed l.reduces.items
           fits.5.reduced) b.bounds.from b.bounds.to b.is_site
           (subst (λ (k : ℕ). Opens code k (instr.Tick ∷ one.instrs) one.first) (sym turn_is)
           one.begins) one.codes

@@ -33,39 +33,40 @@ use Rattle.block_lower.specs.Lowering.{IsRound, WritesValue, WritesBelow, Writes
 use Rattle.block_lower.specs.Lowering.{WritesBounds}
 use Rattle.block_lower.specs.Lowering.{WritesBoundedStart, BeginsLoop, turn, WritesSome}
 use Rattle.block_lower.specs.Lowering.{Lowers, WithBody, IsBodyAt, LowersBody}
-use Rattle.block_lower.specs.Names.{Sees}
+use Rattle.block_lower.specs.Names.{Sees, SeesAs, StandFor}
 use Rattle.block_lower.specs.Round.{Round, loop_round, par_round}
 use Rattle.block_lower.specs.Writing.{label, IsFresh, Pushes, Closes, Stands, Continues, Leads}
 use Rattle.block_lower.proofs.Written.Fitting.{fit_of_vec}
 use Rattle.block_lower.proofs.Written.Seeing.{as_long}
+use Rattle.block_lower.proofs.Written.Standing.{stand_more}
 use Rattle.block_lower.proofs.Written.Writing.{pushed, closed_block, fresh_opens}
 
 -- ---- before the body
 
 pub start_written : (scope : Scope) (a : Expr) (n : ℤ) (again exit : ℕ) (old valued stores new : Output)
     → WritesValue scope a 0 old valued → Pushes (store (value_cell (length scope.cells.items)) (value.Reg 0) ∷ []) valued stores → WritesBelow 0 (value.Int n) again exit stores new → WritesStart scope a n again exit old new
-start_written scope a n again exit old valued stores new writes push test code act names sees visible stands =
+start_written scope a n again exit old valued stores new writes push test code act names registers sees visible stands =
     let behind : ℕ → List Instr = λ l. store (value_cell l) (value.Reg 0) ∷ below_test 0 (value.Int n) again in
-    let w : Leads code old (λ instrs end. (end ≡ to exit) × Computes code act names a 0 instrs (behind (length scope.cells.items))) =
-    writes code act names (behind (length scope.cells.items)) (to exit) sees visible
+    let w : Leads code old (λ instrs end. (end ≡ to exit) × Computes code act registers names a 0 instrs (behind (length scope.cells.items))) =
+    writes code act names registers (behind (length scope.cells.items)) (to exit) sees visible
     (pushed code valued stores (store (value_cell (length scope.cells.items)) (value.Reg 0) ∷ []) (below_test 0 (value.Int n) again) (to exit) push (test code stands)) in
-    subst (λ (l : ℕ). Leads code old (λ instrs end. (end ≡ to exit) × Computes code act names a 0 instrs (behind l))) (as_long scope names act.tables sees) w
+    subst (λ (l : ℕ). Leads code old (λ instrs end. (end ≡ to exit) × Computes code act registers names a 0 instrs (behind l))) (as_long scope names act.tables sees.sees) w
 
 pub bounds_written : (scope : Scope) (a b : Expr) (old first stores second bounds new : Output)
     → WritesValue scope a 0 old first → Pushes (store (value_cell (length scope.cells.items)) (value.Reg 0) ∷ []) first stores
     → WritesValue scope b 0 stores second → Pushes (store (bound_cell (length scope.cells.items)) (value.Reg 0) ∷ []) second bounds
     → Pushes (load 1 (value_cell (length scope.cells.items)) ∷ []) bounds new → WritesBounds scope a b old new
-bounds_written scope a b old first stores second bounds new one push two push_bound push_load code act names more last sees visible_a visible_b c =
+bounds_written scope a b old first stores second bounds new one push two push_bound push_load code act names registers more last sees visible_a visible_b c =
     let behind : ℕ → List Instr = λ l. store (bound_cell l) (value.Reg 0) ∷ load 1 (value_cell l) ∷ more in
     let level : ℕ = length scope.cells.items in
-    let v : Leads code stores (λ instrs end. (end ≡ last) × Computes code act names b 0 instrs (behind level)) =
-    two code act names (behind level) last sees visible_b
+    let v : Leads code stores (λ instrs end. (end ≡ last) × Computes code act registers names b 0 instrs (behind level)) =
+    two code act names registers (behind level) last sees visible_b
     (pushed code second bounds (store (bound_cell level) (value.Reg 0) ∷ []) (load 1 (value_cell level) ∷ more) last push_bound
     (pushed code bounds new (load 1 (value_cell level) ∷ []) more last push_load c)) in
-    let w : Leads code old (λ instrs end. (end ≡ v.end) × Computes code act names a 0 instrs (store (value_cell level) (value.Reg 0) ∷ v.instrs)) =
-    one code act names (store (value_cell level) (value.Reg 0) ∷ v.instrs) v.end sees visible_a
+    let w : Leads code old (λ instrs end. (end ≡ v.end) × Computes code act registers names a 0 instrs (store (value_cell level) (value.Reg 0) ∷ v.instrs)) =
+    one code act names registers (store (value_cell level) (value.Reg 0) ∷ v.instrs) v.end sees visible_a
     (pushed code first stores (store (value_cell level) (value.Reg 0) ∷ []) v.instrs v.end push v.continues) in
-    let many : level ≡ length names = as_long scope names act.tables sees in
+    let many : level ≡ length names = as_long scope names act.tables sees.sees in
     record {
       instrs = w.instrs;
       end = w.end;
@@ -74,16 +75,16 @@ bounds_written scope a b old first stores second bounds new one push two push_bo
         w.told.0 ∙ v.told.0,
         record {
           second = v.instrs;
-          from = subst (λ (l : ℕ). Computes code act names a 0 w.instrs (store (value_cell l) (value.Reg 0) ∷ v.instrs)) many w.told.1;
-          to = subst (λ (l : ℕ). Computes code act names b 0 v.instrs (behind l)) many v.told.1;
+          from = subst (λ (l : ℕ). Computes code act registers names a 0 w.instrs (store (value_cell l) (value.Reg 0) ∷ v.instrs)) many w.told.1;
+          to = subst (λ (l : ℕ). Computes code act registers names b 0 v.instrs (behind l)) many v.told.1;
         },
       );
     }
 
 pub bounded_start_written : (scope : Scope) (a b : Expr) (again exit : ℕ) (old bounds new : Output)
     → WritesBounds scope a b old bounds → WritesBelow 1 (value.Reg 0) again exit bounds new → WritesBoundedStart scope a b again exit old new
-bounded_start_written scope a b again exit old bounds new starts test code act names sees visible_a visible_b stands =
-    starts code act names (below_test 1 (value.Reg 0) again) (to exit) sees visible_a visible_b (test code stands)
+bounded_start_written scope a b again exit old bounds new starts test code act names registers sees visible_a visible_b stands =
+    starts code act names registers (below_test 1 (value.Reg 0) again) (to exit) sees visible_a visible_b (test code stands)
 
 -- ---- what stands round a body
 
@@ -109,11 +110,12 @@ module _ (on : Body) (as_told : told.Round) (scope : Scope) (x : Name) (body : L
     pub codes : Codes code (activation on tables) round (names ++ x.text.items ∷ []) v.items instrs first (behind (length names)) half
 
   pub bodied : (code : Listing) (tables names : List (List ℕ)) (round : Round) (v : Vec Stmt Global) → IsRound round as_told → v.items ≡ body → Sees scope names tables
+      → StandFor (names ++ x.text.items ∷ []) scope.regs.items round.registers
       → AllFit tables (entries on.callees.items) on.most round (names ++ x.text.items ∷ []) v.items → Stands code new → Bodied code tables names round v
-  bodied code tables names round v same is sees fits stands =
+  bodied code tables names round v same is sees stand fits stands =
       let deeper : List (List ℕ) = names ++ x.text.items ∷ [] in
       let b : IsBodyAt code (activation on tables) round deeper body start (behind level) half =
-      lowers code tables names round (behind level) half same sees (subst (λ (ss : List Stmt). AllFit tables (entries on.callees.items) on.most round deeper ss) is fits) (turn code stands) in
+      lowers code tables names round (behind level) half same sees stand (subst (λ (ss : List Stmt). AllFit tables (entries on.callees.items) on.most round deeper ss) is fits) (turn code stands) in
       let with_vec : Codes code (activation on tables) round deeper v.items b.instrs b.end (behind level) half =
       subst (λ (ss : List Stmt). Codes code (activation on tables) round deeper ss b.instrs b.end (behind level) half) (sym is) b.codes in
       record {
@@ -136,11 +138,11 @@ module _ (on : Body) (as_told : told.Round) (scope : Scope) (x : Name) (body : L
     codes : Codes code (activation on tables) round (names ++ x.text.items ∷ []) v.items instrs half (behind (length names)) (to exit)
     ends : Opens code exit more last
 
-  looped : (code : Listing) (tables names : List (List ℕ)) (round : Round) (v : Vec Stmt Global) (more : List Instr) (last : Term) → IsRound round as_told → v.items ≡ body → Sees scope names tables
+  looped : (code : Listing) (tables names : List (List ℕ)) (round : Round) (v : Vec Stmt Global) (more : List Instr) (last : Term) → IsRound round as_told → v.items ≡ body → SeesAs scope names tables round.registers
       → AllFit tables (entries on.callees.items) on.most round (names ++ x.text.items ∷ []) v.items → Continues code new more last → Looped code tables names round v more last
   looped code tables names round v more last same is sees fits c =
       let b : Bodied on as_told scope x body level (to exit) note.Plain start inner new behind long fresh_start.plain lowers turn code tables names round v =
-      bodied on as_told scope x body level (to exit) note.Plain start inner new behind long fresh_start.plain lowers turn code tables names round v same is sees fits c.closed in
+      bodied on as_told scope x body level (to exit) note.Plain start inner new behind long fresh_start.plain lowers turn code tables names round v same is sees.sees (stand_more sees.stand x.text.items) fits c.closed in
       record {
         before = b.before;
         instrs = b.instrs;
@@ -157,8 +159,8 @@ loop_to_written on as_told scope x a b n body level again exit old start inner n
     let behind : ℕ → List Instr = λ l. step_up 0 l (below_test 0 (value.Int n) again) in
     let q : Looped on as_told scope x body level again exit start inner new behind long fresh_start again_is lowers turn fresh exit_is code tables names (loop_round round (length names)) v more last =
     looped on as_told scope x body level again exit start inner new behind long fresh_start again_is lowers turn fresh exit_is code tables names (loop_round round (length names)) v more last (loop_is_round round as_told (length names) same) is sees (fit_of_vec tables (entries on.callees.items) on.most (loop_round round (length names)) (names ++ x.text.items ∷ []) v fits.3) c in
-    let w : Leads code old (λ instrs end. (end ≡ to exit) × Computes code (activation on tables) names a 0 instrs (store (value_cell (length names)) (value.Reg 0) ∷ below_test 0 (value.Int n) again)) =
-    starts code (activation on tables) names sees fits.1 q.before in
+    let w : Leads code old (λ instrs end. (end ≡ to exit) × Computes code (activation on tables) round.registers names a 0 instrs (store (value_cell (length names)) (value.Reg 0) ∷ below_test 0 (value.Int n) again)) =
+    starts code (activation on tables) names round.registers sees fits.1 q.before in
     record {
       instrs = w.instrs;
       end = w.end;
@@ -173,8 +175,8 @@ loop_bounded_written on as_told scope x a b body level again exit old start inne
     let behind : ℕ → List Instr = λ l. step_up 1 l (load 0 (bound_cell l) ∷ below_test 1 (value.Reg 0) again) in
     let q : Looped on as_told scope x body level again exit start inner new behind long fresh_start again_is lowers turn fresh exit_is code tables names (loop_round round (length names)) v more last =
     looped on as_told scope x body level again exit start inner new behind long fresh_start again_is lowers turn fresh exit_is code tables names (loop_round round (length names)) v more last (loop_is_round round as_told (length names) same) is sees (fit_of_vec tables (entries on.callees.items) on.most (loop_round round (length names)) (names ++ x.text.items ∷ []) v fits.3) c in
-    let w : Leads code old (λ instrs end. (end ≡ to exit) × AreBounds code (activation on tables) names a b instrs (below_test 1 (value.Reg 0) again)) =
-    starts code (activation on tables) names sees fits.1 fits.2 q.before in
+    let w : Leads code old (λ instrs end. (end ≡ to exit) × AreBounds code (activation on tables) round.registers names a b instrs (below_test 1 (value.Reg 0) again)) =
+    starts code (activation on tables) names round.registers sees fits.1 fits.2 q.before in
     record {
       instrs = w.instrs;
       end = w.end;

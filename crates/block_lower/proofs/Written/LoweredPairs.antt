@@ -44,6 +44,7 @@ use Rattle.block_lower.specs.Writing.{Stands, Continues, Leads}
 use Rattle.block_lower.proofs.Written.Lowered.{cell_is}
 use Rattle.block_lower.proofs.Written.LoweredCalls.{IsTarget}
 use Rattle.block_lower.proofs.Written.Sited.{no_pairs}
+use Rattle.block_lower.proofs.Written.Standing.{sees_bare}
 use Rattle.block_lower.proofs.Written.Writing.{reopened_as, pushed, closed_block, empty_opens}
 use Rattle.block_lower.proofs.Written.Writing.{fresh_opens}
 use Rattle.block_lower.proofs.Written.Writing.{appended}
@@ -301,6 +302,7 @@ pair_written on place many first second site old entered handled joined child be
 module _ (on : Body) (as_told : told.Round) (scope : Scope) where
   pub both_written : (x y : Name) (f g : App) (first second : Target)
       (old allocs stored paired new : Output)
+      → scope.regs.items ≡ []
       → IsTarget on as_told scope f.callee.text.items first.label first.size
       → IsTarget on as_told scope g.callee.text.items second.label second.size
       → HasRoomFor on kept_by_both → length g.args.items ≤ MAX_PARAMETERS
@@ -311,7 +313,7 @@ module _ (on : Body) (as_told : told.Round) (scope : Scope) where
       ∷ store (offset_of scope x.text.items) (value.Reg 1)
       ∷ store (offset_of scope y.text.items) (value.Reg 0) ∷ []) paired new
       → Lowers on as_told scope (Both x f y g) old new
-  both_written x y f g first second old allocs stored paired new is_first is_second room few alloc
+  both_written x y f g first second old allocs stored paired new none is_first is_second room few alloc
       arguments pair values code tables names round more last same sees fits c =
       let act : Activation = activation on tables in
       let many : ℕ = length g.args.items in
@@ -336,13 +338,13 @@ module _ (on : Body) (as_told : told.Round) (scope : Scope) where
       (pushed code paired new own more last values c) in
       let v : Leads code allocs (λ instrs end. (end ≡ w.end)
       × AreBothArguments code act names f.args.items g.args.items instrs w.instrs) =
-      arguments code tables names w.instrs w.end sees fits.2.seen fits.3.seen w.continues in
+      arguments code tables names w.instrs w.end (sees_bare none sees.sees) fits.2.seen fits.3.seen w.continues in
       let is : Code code act round names (Both x f y g) (instr.Salloc one.size ∷ v.instrs) w.end
       more
       last =
-      both_code one two site room.room fits.2.is_entry fits.2.arity fits.3.is_entry fits.3.arity
-      (cell_is on as_told scope tables names round.fixed x.text.items code sees fits.0)
-      (cell_is on as_told scope tables names round.fixed y.text.items code sees fits.1) few
+      both_code one two site (sees.stand.bare none) room.room fits.2.is_entry fits.2.arity fits.3.is_entry fits.3.arity
+      (cell_is on as_told scope tables names round.fixed x.text.items code sees.sees fits.0)
+      (cell_is on as_told scope tables names round.fixed y.text.items code sees.sees fits.1) few
       v.told.1.first v.told.1.second w.told in
       record {
         instrs = instr.Salloc first.size ∷ v.instrs;

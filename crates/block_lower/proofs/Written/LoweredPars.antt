@@ -50,7 +50,7 @@ use Rattle.block_lower.specs.Lowering.{IsQuietBegun, BeginsQuiet, EndsLoop, turn
 use Rattle.block_lower.specs.Lowering.{LowersBody}
 use Rattle.block_lower.specs.Marked.{length_test, marked_begin, unmark, side_test, IsSite}
 use Rattle.block_lower.specs.Marked.{IsQuietSite}
-use Rattle.block_lower.specs.Names.{Sees, SeesAfter}
+use Rattle.block_lower.specs.Names.{Sees, SeesAfter, StandFor}
 use Rattle.block_lower.specs.Quiet.{list_is_quiet}
 use Rattle.block_lower.specs.Round.{Round, par_round}
 use Rattle.block_lower.specs.Sites.{carried_table, carries_from, loop_site, rows_from}
@@ -61,6 +61,7 @@ use Rattle.block_lower.proofs.Written.Fitting.{fit_of_vec}
 use Rattle.block_lower.proofs.Written.Lowered.{cell_is}
 use Rattle.block_lower.proofs.Written.LoweredLoops.{Bodied, bodied, par_is_round}
 use Rattle.block_lower.proofs.Written.Seeing.{as_long, seen_table, seen_variable}
+use Rattle.block_lower.proofs.Written.Standing.{sees_bare, stand_bare}
 use Rattle.block_lower.proofs.Written.Writing.{reopened, pushed, trapped, closed_block, fresh_opens}
 use Rattle.block_lower.proofs.Written.Writing.{appended}
 
@@ -202,7 +203,7 @@ site_written scope l site first exit old handled child over none new here append
 
 -- ---- the whole begin
 
-any_rows : (scope : Scope) (before : ℕ) (cs : List Carry)
+pub any_rows : (scope : Scope) (before : ℕ) (cs : List Carry)
     → list_any is_of_cells (carries_from scope before cs) ≡ list_any has_row cs
 any_rows scope before [] = refl
 any_rows scope before (carry.Rows t i ∷ cs) = any_rows scope (suc before) cs
@@ -291,7 +292,7 @@ par_begun scope l check exit old bounds start tested starts some fresh check_is 
     let t : Continues code start (length_test (next_label start) more) last =
     measures code more last c in
     record {
-      leads = starts code act names test (to exit) sees from below (some code t.closed);
+      leads = starts code act names [] test (to exit) sees from below (some code t.closed);
       tests = subst (λ (k : ℕ). Opens code check (length_test k more) last) wide_is
           (subst (λ (k : ℕ). Opens code k (length_test (next_label start) more) last)
           (sym check_is)
@@ -322,7 +323,7 @@ quiet_begun on as_told scope l site turns check first exit old tested begun new 
     is ∙ ap (λ (d : ℕ). loop_site scope l on.size d (length scope.cells.items)
     (value_cell (length scope.cells.items)) site.label) (sym same.depth)
     ∙ ap (λ (n : ℕ). loop_site scope l on.size round.depth n (value_cell n) site.label)
-    (as_long scope names tables sees) in
+    (as_long scope names tables sees.sees) in
     record {
       instrs = w.leads.instrs;
       end = w.leads.end;
@@ -335,7 +336,7 @@ quiet_begun on as_told scope l site turns check first exit old tested begun new 
           bounds = w.leads.told.1;
           is_site = subst (λ (k : ℕ). IsQuietSite code (activation on tables) names l round.depth
               check k exit site) first_is (record {
-                is_site = site_there on as_told scope tables names sees code l round
+                is_site = site_there on as_told scope tables names sees.sees code l round
                     (value_cell (length names)) site fits.5 here right s.1.handler s.1.join s.1.rows;
                 wide = wide;
                 begins = subst (λ (k : ℕ). Opens code check
@@ -354,10 +355,13 @@ quiet_begun on as_told scope l site turns check first exit old tested begun new 
 
 -- the same body, where the same variables and tables are seen
 pub body_same : (on : Body) (as_told : told.Round) (scope later : Scope) (x : List ℕ)
-    (body : List Stmt) (old new : Output) → SeesAfter (λ names. names) scope later
+    (body : List Stmt) (old new : Output) → later.regs ≡ scope.regs
+    → SeesAfter (λ names. names) scope later
     → LowersBody on as_told later x body old new → LowersBody on as_told scope x body old new
-body_same on as_told scope later x body old new keeps lowers code tables names round more last same
-    sees fits c = lowers code tables names round more last same (keeps names tables sees) fits c
+body_same on as_told scope later x body old new same_regs keeps lowers code tables names round more
+    last same sees stand fits c =
+    lowers code tables names round more last same (keeps names tables sees)
+    (subst (λ rs. StandFor (names ++ x ∷ []) rs.items round.registers) (sym same_regs) stand) fits c
 
 pub readied : (code : Listing) (dispatch : ℕ) (old new : Output) → Readies dispatch old new
     → Stands code new → Stands code old
@@ -366,7 +370,8 @@ readied code dispatch old new r stands = subst (λ (bs : List Block). AreAt code
 
 pub quiet_written : (on : Body) (as_told inside : told.Round) (scope : Scope) (l : ParLoop)
     (turns : Turns) (exit : ℕ) (old start middle closed ready inner new : Output)
-    → list_is_quiet on.quiet_calls l.body.items ≡ true → inside.reduces.now ≡ l.reduces.items
+    → list_is_quiet on.quiet_calls l.body.items ≡ true → scope.regs.items ≡ []
+    → inside.reduces.now ≡ l.reduces.items
     → inside.depth ≡ as_told.depth + 1
     → turns.level ≡ length scope.cells.items → turns.bound ≡ bound.Cell → turns.again ≡ label closed
     → exit ≡ label new
@@ -377,10 +382,13 @@ pub quiet_written : (on : Body) (as_told inside : told.Round) (scope : Scope) (l
     → EndsLoop turns inner new → IsFresh new
     → Lowers on as_told scope (Par l) old new
 quiet_written on as_told inside scope l turns exit old start middle closed ready inner new quiet
-    reduces depth long by_cell again_is exit_is begins fresh_start first ends_first readies second
+    none reduces depth long by_cell again_is exit_is begins fresh_start first ends_first readies second
     ends_second fresh code tables names round more last same sees fits c =
     let within : Round = par_round round names l.reduces.items in
     let behind : ℕ → List Instr = λ n. turn n turns.bound turns.again in
+    let bare : round.registers ≡ [] = sees.stand.bare none in
+    let stand : StandFor (names ++ l.var.text.items ∷ []) scope.regs.items [] =
+    stand_bare (names ++ l.var.text.items ∷ []) scope.regs.items none in
     let same_within = par_is_round round as_told inside names l reduces depth same in
     let fits_within = fit_of_vec tables (entries on.callees.items) on.most within
     (names ++ l.var.text.items ∷ []) l.body fits.4 in
@@ -389,18 +397,18 @@ quiet_written on as_told inside scope l turns exit old start middle closed ready
     tables names within l.body =
     bodied on inside scope l.var l.body.items turns.level (to turns.exit) (note.Ready on.dispatch)
     ready inner new behind long readies.noted second ends_second code tables names within l.body
-    same_within refl sees fits_within c.closed in
+    same_within refl sees.sees stand fits_within c.closed in
     let one : Bodied on inside scope l.var l.body.items turns.level (to turns.exit) note.Plain start
     middle closed behind long fresh_start.plain first ends_first code tables names within l.body
     =
     bodied on inside scope l.var l.body.items turns.level (to turns.exit) note.Plain start middle
     closed behind long fresh_start.plain first ends_first code tables names within l.body
-    same_within refl sees fits_within
+    same_within refl sees.sees stand fits_within
     (readied code on.dispatch closed ready readies two.before) in
     let act : Activation = activation on tables in
     let w : Leads code old (λ instrs end. (end ≡ to exit)
     × IsQuietBegun code act names l round.depth (label start) exit turns instrs) = begins code
-    tables names round same sees fits one.before in
+    tables names round same (sees_bare none sees.sees) fits one.before in
     let b : IsQuietBegun code act names l round.depth (label start) exit turns w.instrs = w.told.1
     in
     let turns_are : behind (length names) ≡ next_turn (length names) turns.again = ap
@@ -423,8 +431,8 @@ quiet_written on as_told inside scope l turns exit old start middle closed ready
       continues = w.continues;
       told = subst (λ (e : Term). Code code act round names (Par l) w.instrs e more last)
           (sym w.told.0)
-          (quiet_par_code l b.site fits.0 fits.1 quiet
-          (reduced_free_cells on as_told scope tables names sees code round.fixed
+          (quiet_par_code l b.site bare fits.0 fits.1 quiet
+          (reduced_free_cells on as_told scope tables names sees.sees code round.fixed
           l.reduces.items fits.5.reduced) b.bounds.from b.bounds.to b.is_site one.begins
           (as_said one.instrs one.first one.codes)
           (subst (λ (k : ℕ). OpensAs code (note.Ready on.dispatch) k (instr.Tick ∷ two.instrs)

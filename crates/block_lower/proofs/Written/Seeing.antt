@@ -1,7 +1,7 @@
 -- What a scope sees, told by the names alone.
 use Rattle.std.proofs.Common.{◌≡◌, ℕ, suc, ◌+◌, Bool, true, false, cond, List, [], ◌∷◌, length, map}
 use Rattle.std.proofs.Common.{bytes_eq, Vec, refl, sym, ap, ◌∙◌, arith}
-use Rattle.std.specs.Prelude.{◌||◌, IsTrue}
+use Rattle.std.specs.Prelude.{◌||◌, IsTrue, slice_index_or}
 use Rattle.std.specs.declared.alloc.Global.{Global}
 use Rattle.std.proofs.lemmas.List.{length-map}
 use Rattle.loop_syntax.specs.declared.Expr.{Expr}
@@ -9,9 +9,11 @@ use Rattle.loop_syntax.specs.declared.Expr.TheVariants.{Int, Var, Cell', Rows, C
 use Rattle.loop_rules.specs.Names.{is_in}
 use Rattle.expr_lower.specs.declared.scope.Scope.{Scope}
 use Rattle.expr_lower.specs.Scopes.{IsIn, HasCell, HasTable, has_cell_in, has_table_in, cell_in}
+use Rattle.expr_lower.specs.Scopes.{offset_of}
 use Rattle.block_lower.specs.Fitting.{IsVisible, level_of}
 use Rattle.block_lower.specs.Layout.{value_cell}
 use Rattle.block_lower.specs.Names.{Sees, AreLaid}
+use Rattle.block_lower.proofs.Rules.UnbrokenSpots.{at_level}
 
 pub has_cell : (cs : List (Vec ℕ Global × ℕ)) (x : List ℕ) → has_cell_in cs x ≡ is_in (map (λ (c : Vec ℕ Global × ℕ). c.0.items) cs) x
 has_cell [] x = refl
@@ -68,3 +70,16 @@ cell_of_level scope names tables sees x seen =
     let is : cell_in scope.cells.items x ≡ value_cell (0 + level_of (map (λ (c : Vec ℕ Global × ℕ). c.0.items) scope.cells.items) x) = cell_from scope.cells.items 0 x sees.laid (seen_variable scope names tables sees x seen) in
     let same : level_of (map (λ (c : Vec ℕ Global × ℕ). c.0.items) scope.cells.items) x ≡ level_of names x = ap (λ (ns : List (List ℕ)). level_of ns x) sees.named in
     omega arith
+
+-- two variables with one cell are one
+pub one_cell : (scope : Scope) (names tables : List (List ℕ)) → Sees scope names tables
+    → (x y : List ℕ) → is_in names x ≡ true → is_in names y ≡ true
+    → offset_of scope x ≡ offset_of scope y → x ≡ y
+one_cell scope names tables sees x y seen also same =
+    let here : offset_of scope x ≡ value_cell (level_of names x) =
+    cell_of_level scope names tables sees x seen in
+    let there : offset_of scope y ≡ value_cell (level_of names y) =
+    cell_of_level scope names tables sees y also in
+    let level : level_of names x ≡ level_of names y = omega (arith, here, there, same) in
+    sym (at_level names x seen).1 ∙ ap (λ i. slice_index_or names i []) level
+    ∙ (at_level names y also).1

@@ -2,7 +2,7 @@
 use Rattle.std.proofs.Common.{◌≡◌, ◌≢◌, ℕ, suc, ◌+◌, ◌<◌, ◌≤◌, Bool, true, false, cond, List, []}
 use Rattle.std.proofs.Common.{◌∷◌, length, map, bytes_eq, None, Some, Vec, refl, sym, ap, subst}
 use Rattle.std.proofs.Common.{◌∙◌, arith}
-use Rattle.std.specs.Prelude.{◌||◌, IsTrue, All, AllPairs, slice_index_or}
+use Rattle.std.specs.Prelude.{◌||◌, IsTrue, All, AllPairs}
 use Rattle.std.specs.List.{AllByRecursion}
 use Rattle.std.specs.declared.alloc.Global.{Global}
 use Rattle.std.proofs.lemmas.Bool.{true≢false}
@@ -28,13 +28,13 @@ use Rattle.handler_gen.specs.Sites.{IsLoopSite, IsLowCarry, IsNoRow, at_of}
 use Rattle.block_lower.specs.declared.body.Body.{Body}
 use Rattle.block_lower.specs.declared.round.Round as told
 use Rattle.block_lower.specs.Bodies.{HasRoomFor, entries}
-use Rattle.block_lower.specs.Fitting.{CanBeCut, level_of}
+use Rattle.block_lower.specs.Fitting.{CanBeCut}
 use Rattle.block_lower.specs.Layout.{bound_cell, cursor_cell, rec_cell, value_cell, Entry}
 use Rattle.block_lower.specs.Lowering.{FitsIn}
 use Rattle.block_lower.specs.Names.{Sees}
 use Rattle.block_lower.specs.Sites.{accs_of, carried_table, carries_from, carry_at, loop_site}
 use Rattle.block_lower.proofs.Written.LoweredPars.{targets_seen}
-use Rattle.block_lower.proofs.Written.Seeing.{as_long, cell_of_level, seen_table}
+use Rattle.block_lower.proofs.Written.Seeing.{as_long, cell_of_level, one_cell, seen_table}
 use Rattle.block_lower.proofs.Rules.UnbrokenSpots.{at_level}
 
 pub no_pairs : {X : Type 0} (R : X → X → Type 0) → AllPairs R []
@@ -43,18 +43,6 @@ no_pairs R i j d less below = absurd (omega (arith, below))
 -- ---- variables
 
 module _ (scope : Scope) (names tables : List (List ℕ)) (sees : Sees scope names tables) where
-  -- two variables with one cell are one
-  one_cell : (x y : List ℕ) → is_in names x ≡ true → is_in names y ≡ true
-      → offset_of scope x ≡ offset_of scope y → x ≡ y
-  one_cell x y seen also same =
-      let here : offset_of scope x ≡ value_cell (level_of names x) =
-      cell_of_level scope names tables sees x seen in
-      let there : offset_of scope y ≡ value_cell (level_of names y) =
-      cell_of_level scope names tables sees y also in
-      let level : level_of names x ≡ level_of names y = omega (arith, here, there, same) in
-      sym (at_level names x seen).1 ∙ ap (λ i. slice_index_or names i []) level
-      ∙ (at_level names y also).1
-
   -- what holds of the cells of all variables holds of those that are reduced
   all_reduced : (P : ℕ → Type 0)
       → ((x : List ℕ) → is_in names x ≡ true → P (offset_of scope x))
@@ -88,7 +76,7 @@ module _ (scope : Scope) (names tables : List (List ℕ)) (sees : Sees scope nam
           (map (λ (a : ℕ × Op). a.0) (accs_of scope rs))
           (λ same.
           let one : x ≡ r.target.text.items =
-          one_cell x r.target.text.items seen all.0 same in
+          one_cell scope names tables sees x r.target.text.items seen all.0 same in
           absurd (true≢false (sym (eq_self x) ∙ (subst (λ y. bytes_eq y x ≡ false) (sym one) e))))
           (behind is)
 

@@ -23,6 +23,7 @@ use Rattle.block_lower.specs.Lowering.{WritesValue}
 use Rattle.block_lower.specs.Writing.{label, next_label, IsEmpty, IsFresh, Pushes, Traps, Closes}
 use Rattle.block_lower.specs.Writing.{Appends, Stands, Continues}
 use Rattle.block_lower.proofs.Written.Seeing.{visible_inside}
+use Rattle.block_lower.proofs.Written.Standing.{stand_of}
 
 -- the same block, named and put together in another way
 pub reopened_as : (code : Listing) (a b : Note) (l m : ℕ) (xs ys : List Instr) (end : Term) → a ≡ b → l ≡ m → xs ≡ ys → OpensAs code a l xs end → OpensAs code b m ys end
@@ -82,7 +83,7 @@ appended code old new more a stands =
 -- the code of an expression, with its trap blocks
 pub value_written : (scope : Scope) (e : Expr) (r : ℕ) (old new : Output) → new.blocks.items ≡ old.blocks.items → new.body.items ≡ old.body.items ++ body_of scope (next_label old) e r → new.traps.items ≡ old.traps.items ++ traps_of (next_label old) e
     → new.note ≡ old.note → r + height e ≤ 24 → ExprInRange e → WritesValue scope e r old new
-value_written scope e r old new blocks body traps noted low ranged code act names more last sees visible c =
+value_written scope e r old new blocks body traps noted low ranged code act names registers more last sees visible c =
     let instrs : List Instr = body_of scope (next_label old) e r in
     let own : List Block = traps_of (next_label old) e in
     let all : AreAt code (label old + 1) (old.traps.items ++ own) =
@@ -102,8 +103,9 @@ value_written scope e r old new blocks body traps noted low ranged code act name
         refl,
         record {
           scope = scope;
-          sees = sees;
-          inside = visible_inside scope names act.tables sees e visible;
+          sees = sees.sees;
+          kept = stand_of sees;
+          inside = visible_inside scope names act.tables sees.sees e visible;
           low = low;
           ranged = ranged;
           first = next_label old;

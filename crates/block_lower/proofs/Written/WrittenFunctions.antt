@@ -26,7 +26,7 @@ use Rattle.block_lower.specs.Fitting.{AllFit}
 use Rattle.block_lower.specs.Layout.{return_cell, Entry, Activation}
 use Rattle.block_lower.specs.Lowering.{IsRound, WritesValue, LowersAll}
 use Rattle.block_lower.specs.Main.{HasRoom, IsFunction}
-use Rattle.block_lower.specs.Names.{Sees, SeesAfter, names_after_list}
+use Rattle.block_lower.specs.Names.{Sees, SeesAfter, SeesBare, names_after_list}
 use Rattle.block_lower.specs.Programs.{most_of, size_of, entry_at, entries_from, added_by_funcs}
 use Rattle.block_lower.specs.Programs.{FuncIsSmall, FuncFitsIn, LowersFunc, activation_of}
 use Rattle.block_lower.specs.Programs.{AreWritten, LowersFuncs}
@@ -35,6 +35,7 @@ use Rattle.block_lower.specs.Sizes.{added_by_func, kept_by_list}
 use Rattle.block_lower.specs.Writing.{label, next_label, IsFresh, Pushes, Closes, Stands, Continues}
 use Rattle.block_lower.specs.Writing.{Leads}
 use Rattle.block_lower.proofs.Counts.Planning.{func_fits}
+use Rattle.block_lower.proofs.Written.Standing.{sees_bare}
 use Rattle.block_lower.proofs.Written.Writing.{pushed, closed_block, fresh_opens}
 
 -- ---- lists
@@ -86,12 +87,15 @@ sees_no_parameter scope names tables sees = subst (λ (ns : List (List ℕ)). Se
 -- a scope with no variable sees what another one with the same tables does
 pub sees_tables : (first scope : Scope) → first.cells.items ≡ [] → scope.cells.items ≡ []
     → scope.regs ≡ first.regs → scope.tables ≡ first.tables → (tables : List (List ℕ))
-    → Sees first [] tables → Sees scope [] tables
+    → SeesBare first [] tables → SeesBare scope [] tables
 sees_tables first scope empty none same_regs same tables sees = record {
+  sees = record {
+    named = ap (λ (cs : List (Vec ℕ Global × ℕ)). map (λ (c : Vec ℕ Global × ℕ). c.0.items) cs) none;
+    laid = rw none tt;
+    listed = ap (λ (ts : Vec (Vec ℕ Global) Global). map (λ (t : Vec ℕ Global). t.items) ts.items) same
+        ∙ sees.sees.listed;
+  };
   bare = ap (λ (rs : Vec (Vec ℕ Global × ℕ) Global). rs.items) same_regs ∙ sees.bare;
-  named = ap (λ (cs : List (Vec ℕ Global × ℕ)). map (λ (c : Vec ℕ Global × ℕ). c.0.items) cs) none;
-  laid = rw none tt;
-  listed = ap (λ (ts : Vec (Vec ℕ Global) Global). map (λ (t : Vec ℕ Global). t.items) ts.items) same ∙ sees.listed;
 }
 
 -- ---- a function
@@ -104,18 +108,22 @@ pub func_room : (on : Body) (f : Func) → FuncIsSmall f → on.most ≡ most_of
 func_room on f small most size = record { few = rw most small.few; room = rw (most, size) (omega arith); fits = rw size (func_fits f small.few) }
 
 pub func_written : (on : Body) (as_told : told.Round) (scope declared after : Scope) (f : Func) (kept : ℕ) (old inner valued new : Output) → IsRound outermost as_told → HasRoomFor on kept → length f.params.items ≤ on.most → IsFresh old
-    → SeesAfter (λ names. names ++ texts f.params.items) scope declared → LowersAll on as_told declared f.body.items old inner → SeesAfter (λ names. names_after_list names f.body.items) declared after
+    → declared.regs ≡ scope.regs
+    → SeesAfter (λ names. names ++ texts f.params.items) scope declared → LowersAll on as_told declared f.body.items old inner
+    → after.regs ≡ declared.regs → SeesAfter (λ names. names_after_list names f.body.items) declared after
     → WritesValue after f.result 0 inner valued
     → ((code : Listing) → Stands code new → Continues code valued (load 1 return_cell ∷ []) (term.Jump (value.Reg 1)))
     → LowersFunc on scope f old new
-func_written on as_told scope declared after f kept old inner valued new is_round room params fresh declares all keeps writes returns code tables sees fits visible stands =
+func_written on as_told scope declared after f kept old inner valued new is_round room params fresh same_declared declares all same_after keeps writes returns code tables sees fits visible stands =
     let names : List (List ℕ) = texts f.params.items in
     let act : Activation = activation on tables in
-    let inside : Sees declared names tables = declares [] tables sees in
+    let regs : Vec (Vec ℕ Global × ℕ) Global → List (Vec ℕ Global × ℕ) = λ rs. rs.items in
+    let bare : declared.regs.items ≡ [] = ap regs same_declared ∙ sees.bare in
+    let inside : Sees declared names tables = declares [] tables sees.sees in
     let tail : List Instr = load 1 return_cell ∷ [] in
-    let v : Leads code inner (λ instrs end. (end ≡ term.Jump (value.Reg 1)) × Computes code act (names_after_list names f.body.items) f.result 0 instrs tail) =
-    writes code act (names_after_list names f.body.items) tail (term.Jump (value.Reg 1)) (keeps names tables inside) visible (returns code stands) in
-    let b : Leads code old (λ instrs end. Codes code act outermost names f.body.items instrs end v.instrs v.end) = all code tables names outermost v.instrs v.end is_round inside fits v.continues in (
+    let v : Leads code inner (λ instrs end. (end ≡ term.Jump (value.Reg 1)) × Computes code act [] (names_after_list names f.body.items) f.result 0 instrs tail) =
+    writes code act (names_after_list names f.body.items) [] tail (term.Jump (value.Reg 1)) (sees_bare (ap regs same_after ∙ bare) (keeps names tables inside)) visible (returns code stands) in
+    let b : Leads code old (λ instrs end. Codes code act outermost names f.body.items instrs end v.instrs v.end) = all code tables names outermost v.instrs v.end is_round (sees_bare bare inside) fits v.continues in (
       b.continues.closed,
       record {
         has_room = room_of on kept tables room;

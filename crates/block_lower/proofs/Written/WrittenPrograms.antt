@@ -35,7 +35,7 @@ use Rattle.block_lower.specs.Heights.{FuncIsLow}
 use Rattle.block_lower.specs.Layout.{levels_cell, value_cell, Entry, entry_of, Activation}
 use Rattle.block_lower.specs.Lowering.{IsRound, FitsIn, LowersAll}
 use Rattle.block_lower.specs.Main.{IsFunction, AreFunctions, IsProgram, Makes, table_name}
-use Rattle.block_lower.specs.Names.{Sees, SeesAfter, names_after_list}
+use Rattle.block_lower.specs.Names.{Sees, SeesAfter, SeesBare, names_after_list}
 use Rattle.block_lower.specs.Owing.{IsDeclared, AreDeclared, OwesMeaning}
 use Rattle.block_lower.specs.Programs.{most_of, entries_from, quiet_calls, dispatch_of}
 use Rattle.block_lower.specs.Programs.{added_by_main, added_by_funcs, FuncFitsIn, FuncsFitNow}
@@ -53,6 +53,7 @@ use Rattle.block_lower.proofs.Whole.Found.{program_rules}
 use Rattle.block_lower.proofs.Whole.Ranges.{codes_ranged, functions_ranged, makes_ranged}
 use Rattle.block_lower.proofs.Whole.Root.{as_many_held, owes_promoted}
 use Rattle.loop_check.specs.Unbroken.{NoneBroken}
+use Rattle.block_lower.proofs.Written.Standing.{sees_bare}
 use Rattle.block_lower.proofs.Written.Writing.{reopened, pushed, closed_block, fresh_opens}
 use Rattle.block_lower.proofs.Written.WrittenFunctions.{room_of, fresh_label}
 use Rattle.block_lower.proofs.Written.WrittenTables.{names_of_tables}
@@ -68,12 +69,14 @@ declared_more (e ∷ es) (u ∷ us) d t all one = (all.0, declared_more es us d 
 -- ---- main
 
 sees_nothing : (scope : Scope) → scope.cells.items ≡ [] → scope.regs.items ≡ []
-    → scope.tables.items ≡ [] → Sees scope [] []
+    → scope.tables.items ≡ [] → SeesBare scope [] []
 sees_nothing scope cells regs tables = record {
+  sees = record {
+    named = ap (λ (cs : List (Vec ℕ Global × ℕ)). map (λ (c : Vec ℕ Global × ℕ). c.0.items) cs) cells;
+    laid = rw cells tt;
+    listed = ap (λ (ts : List (Vec ℕ Global)). map (λ (t : Vec ℕ Global). t.items) ts) tables;
+  };
   bare = regs;
-  named = ap (λ (cs : List (Vec ℕ Global × ℕ)). map (λ (c : Vec ℕ Global × ℕ). c.0.items) cs) cells;
-  laid = rw cells tt;
-  listed = ap (λ (ts : List (Vec ℕ Global)). map (λ (t : Vec ℕ Global). t.items) ts) tables;
 }
 
 abbrev head : ℕ → List Instr
@@ -88,8 +91,9 @@ main_written on as_told p scope seen old begins made inner new is_round fit cell
     makes keeps all close code fits stands =
     let tables : List (List ℕ) = map table_name p.tables.items in
     let act : Activation = activation on tables in
-    let nothing : Sees scope [] [] = sees_nothing scope cells bare none in
-    let w : Leads code made (λ instrs end. Codes code act outermost [] p.main.items instrs end [] term.Halt) = all code tables [] outermost [] term.Halt is_round (keeps [] [] nothing) fits (closed_block code inner new term.Halt close stands) in
+    let nothing : SeesBare scope [] [] = sees_nothing scope cells bare none in
+    let made_bare : SeesBare seen [] tables = keeps [] [] nothing in
+    let w : Leads code made (λ instrs end. Codes code act outermost [] p.main.items instrs end [] term.Halt) = all code tables [] outermost [] term.Halt is_round (sees_bare made_bare.bare made_bare.sees) fits (closed_block code inner new term.Halt close stands) in
     let v : Leads code begins (λ instrs end. (end ≡ w.end) × Makes code act [] p.tables.items instrs w.instrs) = makes code tables [] w.instrs w.end nothing fit w.continues in
     record {
       makes = v.instrs;
@@ -108,12 +112,19 @@ take_none (x ∷ xs) = refl
 pub sees_after_main : (p : Program) (scope seen after new : Scope) → scope.cells.items ≡ []
     → scope.regs.items ≡ [] → scope.tables.items ≡ []
     → SeesTables (λ tables. tables ++ map table_name p.tables.items) scope seen
-    → SeesAfter (λ names. names_after_list names p.main.items) seen after → SeesAfter (take 0) after new → Sees new [] (map table_name p.tables.items)
-sees_after_main p scope seen after new cells bare none keeps runs leaves =
+    → after.regs ≡ seen.regs → SeesAfter (λ names. names_after_list names p.main.items) seen after
+    → new.regs ≡ after.regs → SeesAfter (take 0) after new
+    → SeesBare new [] (map table_name p.tables.items)
+sees_after_main p scope seen after new cells bare none keeps same_after runs same_new leaves =
     let tables : List (List ℕ) = map table_name p.tables.items in
-    subst (λ (ns : List (List ℕ)). Sees new ns tables) (take_none (names_after_list [] p.main.items))
-    (leaves (names_after_list [] p.main.items) tables
-    (runs [] tables (keeps [] [] (sees_nothing scope cells bare none))))
+    let regs : Vec (Vec ℕ Global × ℕ) Global → List (Vec ℕ Global × ℕ) = λ rs. rs.items in
+    let made : SeesBare seen [] tables = keeps [] [] (sees_nothing scope cells bare none) in
+    record {
+      sees = subst (λ (ns : List (List ℕ)). Sees new ns tables)
+          (take_none (names_after_list [] p.main.items))
+          (leaves (names_after_list [] p.main.items) tables (runs [] tables made.sees));
+      bare = ap regs same_new ∙ ap regs same_after ∙ made.bare;
+    }
 
 -- ---- functions
 
@@ -161,7 +172,7 @@ funcs_low p (f ∷ fs) all = (all.0.low, funcs_low p fs all.1)
 
 -- they fit in a body that stands on the functions of the program
 pub funcs_fit_now : (p : Program) (on : Body) (scope : Scope) → ProgramFits p → entries on.callees.items ≡ entries_from (quiet_calls p) (added_by_main p) p.funcs.items
-    → Sees scope [] (map table_name p.tables.items) → FuncsFitNow on scope p.funcs.items
+    → SeesBare scope [] (map table_name p.tables.items) → FuncsFitNow on scope p.funcs.items
 funcs_fit_now p on scope fits same sees = record {
   tables = map table_name p.tables.items;
   sees = sees;
@@ -180,18 +191,22 @@ pub main_fits_now : (p : Program) (on : Body) (as_told : told.Round) (scope seen
     → IsRound outermost as_told → scope.cells.items ≡ [] → scope.regs.items ≡ []
     → scope.tables.items ≡ [] → SeesTables (λ tables. tables ++ map table_name p.tables.items) scope
     seen → FitsIn on seen as_told p.main.items
-main_fits_now p on as_told scope seen fits same most is_round cells bare none keeps = record {
-  tables = map table_name p.tables.items;
-  names = [];
-  round = outermost;
-  is_round = is_round;
-  sees = keeps [] [] (sees_nothing scope cells bare none);
-  fits = rw (same, most) (main_fits_in p fits);
-}
+main_fits_now p on as_told scope seen fits same most is_round cells bare none keeps =
+    let made : SeesBare seen [] (map table_name p.tables.items) =
+    keeps [] [] (sees_nothing scope cells bare none) in
+    record {
+      tables = map table_name p.tables.items;
+      names = [];
+      round = outermost;
+      is_round = is_round;
+      sees = made.sees;
+      fits = rw (same, most) (main_fits_in p fits);
+      still = λ loud. made.bare;
+    }
 
 -- the blocks of main, those of the functions, and the one to which each beat goes are the code of the program
 pub program_written : (p : Program) (on : Body) (kept : ℕ) (scope : Scope) (old main new : Output) → ProgramFits p → entries on.callees.items ≡ entries_from (quiet_calls p) (added_by_main p) p.funcs.items → on.most ≡ declared_by_list p.main.items
-    → on.quiet_calls ≡ quiet_calls p → on.dispatch ≡ dispatch_of p → HasRoomFor on kept → old.blocks.items ≡ [] → IsFresh old → LowersMain on p old main → IsFresh main → next_label main ≡ next_label old + added_by_main p → Sees scope [] (map table_name p.tables.items)
+    → on.quiet_calls ≡ quiet_calls p → on.dispatch ≡ dispatch_of p → HasRoomFor on kept → old.blocks.items ≡ [] → IsFresh old → LowersMain on p old main → IsFresh main → next_label main ≡ next_label old + added_by_main p → SeesBare scope [] (map table_name p.tables.items)
     → LowersFuncs on scope p.funcs.items main new → length new.blocks.items ≡ dispatch_of p
     → (code : Listing) → AreDeclared p.tables.items code.tables → AreAt code 0 (new.blocks.items ++ dispatch_block on.dispatch ∷ []) → IsProgram code p
 program_written p on kept scope old main new fits same most calls beat room empty fresh lowers fresh_main labels sees functions many code declared all_stand =

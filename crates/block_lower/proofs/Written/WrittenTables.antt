@@ -28,11 +28,12 @@ use Rattle.block_lower.specs.Layout.{value_cell, Activation}
 use Rattle.block_lower.specs.Lowering.{WritesValue}
 use Rattle.block_lower.specs.Main.{Makes, no_table, input_table, made_table, made_kept_table}
 use Rattle.block_lower.specs.Main.{table_name}
-use Rattle.block_lower.specs.Names.{Sees}
+use Rattle.block_lower.specs.Names.{Sees, SeesAs, SeesBare}
 use Rattle.block_lower.specs.Programs.{SeesTables, WritesMakes}
 use Rattle.block_lower.specs.Sizes.{kept_by_decl, kept_by_decls}
 use Rattle.block_lower.specs.Writing.{Pushes, Leads}
 use Rattle.block_lower.proofs.Forms.Stepping.{room_within}
+use Rattle.block_lower.proofs.Written.Standing.{sees_bare}
 use Rattle.block_lower.proofs.Written.Writing.{pushed}
 
 -- ---- names of tables
@@ -62,15 +63,16 @@ module _ (on : Body) (scope : Scope) where
   made_written x a b table old rows cols new number first second push code tables seen more last sees fits c =
       let act : Activation = record (activation on tables) { tables = seen } in
       let make : ℕ → Instr = λ n. instr.Make n 0 1 x.place in
-      let count : table ≡ length seen = number ∙ as_many_tables scope [] seen sees in
-      let w : Leads code rows (λ instrs end. (end ≡ last) × Computes code act [] b 1 instrs (make table ∷ more)) =
-      second code act [] (make table ∷ more) last sees fits.0.1 (pushed code cols new (make table ∷ []) more last push c) in
-      let v : Leads code old (λ instrs end. (end ≡ w.end) × Computes code act [] a 0 instrs w.instrs) = first code act [] w.instrs w.end sees fits.0.0 w.continues in
+      let count : table ≡ length seen = number ∙ as_many_tables scope [] seen sees.sees in
+      let bare : SeesAs scope [] seen [] = sees_bare sees.bare sees.sees in
+      let w : Leads code rows (λ instrs end. (end ≡ last) × Computes code act [] [] b 1 instrs (make table ∷ more)) =
+      second code act [] [] (make table ∷ more) last bare fits.0.1 (pushed code cols new (make table ∷ []) more last push c) in
+      let v : Leads code old (λ instrs end. (end ≡ w.end) × Computes code act [] [] a 0 instrs w.instrs) = first code act [] [] w.instrs w.end bare fits.0.0 w.continues in
       record {
         instrs = v.instrs;
         end = v.end;
         continues = v.continues;
-        told = (v.told.0 ∙ w.told.0, made_table v.told.1 (subst (λ (n : ℕ). Computes code act [] b 1 w.instrs (make n ∷ more)) count w.told.1) no_table);
+        told = (v.told.0 ∙ w.told.0, made_table v.told.1 (subst (λ (n : ℕ). Computes code act [] [] b 1 w.instrs (make n ∷ more)) count w.told.1) no_table);
       }
 
   pub made_kept_written : (x : Name) (a b : Expr) (table : ℕ) (old rows keeps cols loads new : Output) → table ≡ length scope.tables.items → HasRoomFor on 1 → WritesValue scope a 0 old rows → Pushes (store (value_cell on.most + 0) (value.Reg 0) ∷ []) rows keeps
@@ -80,17 +82,18 @@ module _ (on : Body) (scope : Scope) where
       let make : ℕ → Instr = λ n. instr.Make n 1 0 x.place in
       let kept : Instr = store (value_cell on.most + 0) (value.Reg 0) in
       let loaded : Instr = load 1 (value_cell on.most + 0) in
-      let count : table ≡ length seen = number ∙ as_many_tables scope [] seen sees in
-      let w : Leads code keeps (λ instrs end. (end ≡ last) × Computes code act [] b 0 instrs (loaded ∷ make table ∷ more)) =
-      second code act [] (loaded ∷ make table ∷ more) last sees fits.0.1
+      let count : table ≡ length seen = number ∙ as_many_tables scope [] seen sees.sees in
+      let bare : SeesAs scope [] seen [] = sees_bare sees.bare sees.sees in
+      let w : Leads code keeps (λ instrs end. (end ≡ last) × Computes code act [] [] b 0 instrs (loaded ∷ make table ∷ more)) =
+      second code act [] [] (loaded ∷ make table ∷ more) last bare fits.0.1
       (pushed code cols loads (loaded ∷ []) _ last loading (pushed code loads new (make table ∷ []) more last push c)) in
-      let v : Leads code old (λ instrs end. (end ≡ w.end) × Computes code act [] a 0 instrs (kept ∷ w.instrs)) =
-      first code act [] (kept ∷ w.instrs) w.end sees fits.0.0 (pushed code rows keeps (kept ∷ []) w.instrs w.end keep w.continues) in
+      let v : Leads code old (λ instrs end. (end ≡ w.end) × Computes code act [] [] a 0 instrs (kept ∷ w.instrs)) =
+      first code act [] [] (kept ∷ w.instrs) w.end bare fits.0.0 (pushed code rows keeps (kept ∷ []) w.instrs w.end keep w.continues) in
       record {
         instrs = v.instrs;
         end = v.end;
         continues = v.continues;
-        told = (v.told.0 ∙ w.told.0, made_kept_table {instrs = v.instrs} room.room v.told.1 (subst (λ (n : ℕ). Computes code act [] b 0 w.instrs (loaded ∷ make n ∷ more)) count w.told.1) no_table);
+        told = (v.told.0 ∙ w.told.0, made_kept_table {instrs = v.instrs} room.room v.told.1 (subst (λ (n : ℕ). Computes code act [] [] b 0 w.instrs (loaded ∷ make n ∷ more)) count w.told.1) no_table);
       }
 
 -- ---- tables in order
@@ -135,11 +138,11 @@ names_more [] d = refl
 names_more (e ∷ es) d = ap (λ (xs : List (List ℕ)). table_name e ∷ xs) (names_more es d)
 
 pub sees_no_table : (scope : Scope) → SeesTables (λ tables. tables ++ map table_name []) scope scope
-sees_no_table scope names tables sees = subst (λ (ts : List (List ℕ)). Sees scope names ts) (sym (append-nil tables)) sees
+sees_no_table scope names tables sees = subst (λ (ts : List (List ℕ)). SeesBare scope names ts) (sym (append-nil tables)) sees
 
 pub sees_next_table : (ds : List TableDecl) (d : TableDecl) (first middle new : Scope) → SeesTables (λ tables. tables ++ map table_name ds) first middle → SeesTables (λ tables. tables ++ table_name d ∷ []) middle new → SeesTables (λ tables. tables ++ map table_name (ds ++ d ∷ [])) first new
 sees_next_table ds d first middle new all one names tables sees =
-    subst (λ (ts : List (List ℕ)). Sees new names ts)
+    subst (λ (ts : List (List ℕ)). SeesBare new names ts)
     (append_assoc tables (map table_name ds) (table_name d ∷ []) ∙ ap (λ (xs : List (List ℕ)). tables ++ xs) (sym (names_more ds d)))
     (one names (tables ++ map table_name ds) (all names tables sees))
 

@@ -15,4 +15,4 @@ returns-clause-sees c =
     })
     (c.in_ok-copy.copy, c.value_cell-cell.result) c.args.name.now
     c.in_ok-push.ensures.items c.in_ok-copy.ensures.items
-    (c.value_cell-cell.ensures ∙ ap value_cell long) refl refl
+    (c.value_cell-cell.ensures ∙ ap value_cell long) refl

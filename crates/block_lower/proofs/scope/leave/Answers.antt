@@ -10,4 +10,4 @@ returns-clause-sees c =
       tables = c.args.scope.now.tables;
       next_label = c.args.scope.now.next_label;
     }) c.args.n
-    c.truncate.ensures.items refl refl
+    c.truncate.ensures.items refl

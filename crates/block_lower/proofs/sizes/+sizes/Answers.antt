@@ -20,4 +20,4 @@ added-returns-in-Loop t c =
 
 pub added-returns-in-Par : goal.added-returns-in-Par
 added-returns-in-Par t c =
-    rw c.in-Par.is (omega (arith, par_of_vec c.args.calls c.in-Par.l.carries.items c.in-Par.l.body, c.added_by_par.ensures))
+    rw c.in-Par.is (omega (arith, par_of_vec c.args.calls c.in-Par.l.carries.items c.in-Par.l.reduces.items c.in-Par.l.body, c.added_by_par.ensures))

@@ -1,4 +1,4 @@
-use Rattle.std.proofs.Common.{◌≡◌, ◌+◌, ◌≤◌, true, false, List, length, take, take_all, refl, ap}
+use Rattle.std.proofs.Common.{◌≡◌, ◌+◌, ◌≤◌, true, List, length, take, take_all, refl, ap}
 use Rattle.std.proofs.Common.{sym, subst, ◌∙◌, arith}
 use Rattle.std.specs.List.{sum_by}
 use Rattle.std.proofs.lemmas.List.{length-append}
@@ -6,6 +6,7 @@ use Rattle.std.proofs.lemmas.List.Sums.{sum_by_more, sum_by_more_le}
 use Rattle.loop_rules.specs.Declarations.{declared_all}
 use Rattle.loop_syntax.specs.declared.Stmt.{Stmt}
 use Rattle.loop_syntax.specs.declared.Stmt.TheBlock.{hidden-the_row-Stmt-0}
+use Rattle.expr_lower.specs.declared.scope.Scope.{Scope}
 use Rattle.block_lower.specs.Heights.{AreLow}
 use Rattle.block_lower.specs.Count.{blocks}
 use Rattle.block_lower.specs.Lowering.{LowersAll, LowersOther}
@@ -21,12 +22,14 @@ use Rattle.block_lower.proofs.Written.Lowered.{other_written, no_other_written, 
 use Rattle.block_lower.proofs.Written.Lowered.{while_written, body_written}
 use Rattle.block_lower.proofs.Written.FittingNow.{fits_declared, fits_first, fits_later, fits_loop}
 use Rattle.block_lower.proofs.Written.FittingNow.{fits_next, fits_par, fits_second, fits_while}
-use Rattle.block_lower.proofs.Written.FittingNow.{inside_later}
+use Rattle.block_lower.proofs.Written.FittingNow.{fits_held, inside_later}
 use Rattle.block_lower.proofs.Written.LoweredDeep.{deep_written}
+use Rattle.block_lower.proofs.Written.LoweredLeaves.{leaf_written, sees_turn, turn_same}
+use Rattle.block_lower.proofs.Written.LoweredLeaves.{turn_written}
 use Rattle.block_lower.proofs.Written.LoweredLoops.{loop_written}
 use Rattle.block_lower.proofs.Written.LoweredPars.{body_same, quiet_written}
 use Rattle.block_lower.proofs.Written.Writing.{fresh_empty}
-use Rattle.block_lower.specs.Quiet.{list_is_quiet}
+use Rattle.block_lower.specs.Quiet.{is_leaf}
 use Rattle.block_lower.proofs.Forms.Stepping.{on_ok, low_at, kept_at, room_within, first_more}
 use Rattle.block_lower.proofs.Forms.Stepping.{no_items}
 use Rattle.block_lower.proofs.lowering.Lowering.+lower.Goals as goal
@@ -61,7 +64,7 @@ pub lower_body-returns-clause-code : goal.lower_body-returns-clause-code
 lower_body-returns-clause-code t c =
     rw c.leave.ensures.out
     (body_written c.args.self.now.on c.args.round c.args.self.now.scope c.declare.new.self.scope c.args.x.now.text.items c.args.body.now c.args.self.now.out c.push.new.self.out c.lower_list.new.self.out
-    c.requires.empty c.in_ok-declare.ensures.sees (rw c.in_ok-declare.ensures.out at c.in_ok-push.ensures.pushed)
+    c.requires.empty c.in_ok-declare.ensures.regs c.in_ok-declare.ensures.sees (rw c.in_ok-declare.ensures.out at c.in_ok-push.ensures.pushed)
     (rw (c.in_ok-push.ensures.on, c.in_ok-declare.ensures.on, c.in_ok-push.ensures.scope) at c.in_ok-lower_list.ensures.code))
 
 -- ---- what the calls inside need
@@ -85,7 +88,7 @@ lower_body-lower_list-requires t c =
               c.requires.room,
               (
                 omega (arith, declared.cells, c.requires.cells),
-                fits_declared self.on self.scope c.args.round c.args.x.now.text.items c.declare.new.self.scope c.args.body.now declared.sees c.requires.fits,
+                fits_declared self.on self.scope c.args.round c.args.x.now.text.items c.declare.new.self.scope c.args.body.now declared.regs declared.sees c.requires.fits,
               ),
             ),
           ),
@@ -133,6 +136,7 @@ lower_if-lower_other-requires t c =
     let labels = rw test.on at one.labels in
     let cells = rw test.scope at one.cells in
     let sees = rw test.scope at one.sees in
+    let regs = rw test.scope at one.regs in
     let measure : sum_by blocks c.args.body.now + sum_by blocks c.args.other.now + 4 ≡ t = c.decreases in (
       omega (arith, measure),
       rw on (
@@ -145,7 +149,7 @@ lower_if-lower_other-requires t c =
               c.requires.room.1,
               (
                 omega (arith, cells, c.requires.cells),
-                (one.fresh, fits_later self.on self.scope c.args.round c.lower_branch.new.self.scope c.args.other.now sees c.requires.fits.1),
+                (one.fresh, fits_later self.on self.scope c.args.round c.lower_branch.new.self.scope c.args.other.now regs sees c.requires.fits.1),
               ),
             ),
           ),
@@ -225,6 +229,7 @@ lower_quiet-lower_body-requires-2 t c =
     let labels = rw (c.deref.ensures.value, begun.on) at first.labels in
     let cells = rw begun.scope at first.cells in
     let sees = rw begun.scope at first.sees in
+    let regs = rw begun.scope at first.regs in
     let measure : sum_by blocks l.body.items + 3 ≡ t = c.decreases in (
       rw c.deref-2.ensures.value (omega (arith, measure)),
       rw (on, scope, c.deref-2.ensures.value) (
@@ -239,7 +244,7 @@ lower_quiet-lower_body-requires-2 t c =
                 omega (arith, cells, c.requires.cells),
                 (
                   record { body = ready.ready.body; traps = ready.ready.traps },
-                  inside_later self.on self.scope inside.result c.lower_body.new.self.scope l.var.text.items l.body.items sees
+                  inside_later self.on self.scope inside.result c.lower_body.new.self.scope l.var.text.items l.body.items regs sees
                       (fits_par self.on self.scope c.args.round inside.result l inside.ensures.reduces inside.ensures.depth c.requires.fits),
                 ),
               ),
@@ -285,7 +290,7 @@ lower_list-lower_stmt-requires t c =
               room_within self.on _ _ (subst (λ (d : Stmt). kept d ≤ kept_by_list body) (sym c.s-item.is) (kept_at body i s c.loop-s-test.true)) c.requires.room,
               (
                 omega (arith, more_cells, c.requires.cells, was.cells),
-                fits_next self.on self.scope c.args.round c.loop-s.self.scope body i s c.loop-s-test.true c.s-item.is was.sees c.requires.fits,
+                fits_next self.on self.scope c.args.round c.loop-s.self.scope body i s c.loop-s-test.true c.s-item.is was.regs was.sees c.requires.fits,
               ),
             ),
           ),
@@ -313,7 +318,7 @@ lower_list-loop-s-preserved t c =
       sees = subst (λ (ss : List Stmt). SeesAfter (λ names. names_after_list names ss) self.scope c.lower_stmt.new.self.scope) (sym step)
           (sees_more self.scope c.loop-s.self.scope c.lower_stmt.new.self.scope (take i body) s was.sees new.sees);
       code = subst (λ (ss : List Stmt). LowersAll self.on c.args.round self.scope ss self.out c.lower_stmt.new.self.out) (sym step)
-          (more_written self.on c.args.round self.scope c.loop-s.self.scope (take i body) s self.out c.loop-s.self.out c.lower_stmt.new.self.out was.code was.sees (rw was.on at new.code));
+          (more_written self.on c.args.round self.scope c.loop-s.self.scope (take i body) s self.out c.loop-s.self.out c.lower_stmt.new.self.out was.code was.regs was.sees (rw was.on at new.code));
       on = new.on ∙ was.on;
     }
 
@@ -336,6 +341,7 @@ lower_while-returns-clause-code t c =
     let scope = c.in_ok-push.ensures.scope ∙ c.in_ok-test.ensures.scope in
     let on = c.in_ok-push.ensures.on ∙ c.in_ok-test.ensures.on in
     let listed = c.in_ok-lower_list.ensures in
+    let regs = c.leave.ensures.regs ∙ (rw scope at listed.regs) in
     let keeps : SeesAfter (λ names. names) c.args.self.now.scope c.leave.new.self.scope =
     sees_block c.args.self.now.scope c.lower_list.new.self.scope c.leave.new.self.scope c.level-level.result c.args.body.now c.level-level.ensures (rw scope at listed.sees) c.leave.ensures.sees in
     let first = c.in_ok-test.ensures in
@@ -344,7 +350,7 @@ lower_while-returns-clause-code t c =
     let inner = rw on at listed.labels in
     while_written c.args.self.now.on c.args.round c.args.self.now.scope c.leave.new.self.scope c.args.e.now c.args.body.now again exit c.args.self.now.out c.test.new.self.out c.push.new.self.out c.lower_list.new.self.out c.test-2.new.self.out
     first.code first.fresh (omega (arith, first.labels, ap length first.fresh.traps))
-    c.in_ok-push.ensures.pushed (rw (on, scope) at listed.code) keeps (rw c.leave.ensures.out at second.code) second.fresh
+    c.in_ok-push.ensures.pushed (rw (on, scope) at listed.code) regs keeps (rw c.leave.ensures.out at second.code) second.fresh
     (omega (arith, first.labels, c.in_ok-push.ensures.labels, inner, closed, ap length second.fresh.traps))
 
 pub lower_deep-returns-clause-code : goal.lower_deep-returns-clause-code
@@ -358,7 +364,7 @@ lower_deep-returns-clause-code t c =
     let last = c.in_ok-close.ensures in
     let labels = rw (c.deref.ensures.value, begun.on) at body.labels in
     deep_written self.on c.args.round inside.result self.scope l head _ self.out c.begin_deep.new.self.out c.lower_body.new.self.out c.close.new.self.out
-    c.requires.deep inside.ensures.reduces inside.ensures.depth begun.code begun.fresh begun.head
+    c.requires.deep (c.requires.fits.still refl) inside.ensures.reduces inside.ensures.depth begun.code begun.fresh begun.head
     (rw (c.deref.ensures.value, begun.on, begun.scope) at body.code) (rw c.jump.ensures at last.closed)
     (omega (arith, begun.head, labels, last.labels, ap length begun.fresh.traps, ap length last.closed.fresh.traps))
 
@@ -380,37 +386,182 @@ lower_quiet-returns-clause-code t c =
     let one = rw (c.deref.ensures.value, begun.on) at first.labels in
     let two = rw (c.deref-2.ensures.value, on2) at second.labels in
     let sees = rw begun.scope at first.sees in
+    let regs = rw begun.scope at first.regs in
     let body = rw (c.deref-2.ensures.value, on2, scope) at second.code in
     quiet_written self.on c.args.round inside.result self.scope l turns _ self.out c.begin_quiet.new.self.out c.lower_body.new.self.out c.end_loop.new.self.out c.make_ready.new.self.out c.lower_body-2.new.self.out c.end_loop-2.new.self.out
-    c.requires.quiet inside.ensures.reduces inside.ensures.depth begun.turns.0 begun.turns.1
+    c.requires.quiet (c.requires.fits.still refl) inside.ensures.reduces inside.ensures.depth begun.turns.0 begun.turns.1
     (omega (arith, begun.turns.2, one, ended.labels, ap length begun.fresh.traps, ap length ended.fresh.traps))
     (omega (arith, begun.turns.2, one, two, ended.labels, ready.labels, last.labels, ap length begun.fresh.traps, ap length last.fresh.traps))
     begun.code begun.fresh (rw (c.deref.ensures.value, begun.on, begun.scope) at first.code) ended.code (rw on1 at ready.ready)
-    (body_same self.on inside.result self.scope c.lower_body.new.self.scope l.var.text.items l.body.items c.make_ready.new.self.out c.lower_body-2.new.self.out sees body) last.code last.fresh
+    (body_same self.on inside.result self.scope c.lower_body.new.self.scope l.var.text.items l.body.items c.make_ready.new.self.out c.lower_body-2.new.self.out regs sees body) last.code last.fresh
 
-pub lower_par-lower_quiet-requires : goal.lower_par-lower_quiet-requires
-lower_par-lower_quiet-requires t c =
-    let quiet : list_is_quiet c.args.self.now.on.quiet_calls c.args.l.now.body.items ≡ true = sym (rw c.deref.ensures.value at c.if-list_is_quiet.ensures) in
-    let labels = rw quiet at c.requires.labels in
-    let measure : sum_by blocks c.args.l.now.body.items + 4 ≡ t = c.decreases in
-    (omega (arith, measure), (c.requires.few_tables, (c.requires.low, (labels, (c.requires.room, (c.requires.cells, (c.requires.fits, quiet)))))))
+-- ---- leaf loops
 
-pub lower_par-lower_deep-requires : goal.lower_par-lower_deep-requires
-lower_par-lower_deep-requires t c =
-    let deep : list_is_quiet c.args.self.now.on.quiet_calls c.args.l.now.body.items ≡ false = sym (rw c.deref.ensures.value at c.if-list_is_quiet.ensures) in
-    let labels = rw deep at c.requires.labels in
-    let measure : sum_by blocks c.args.l.now.body.items + 4 ≡ t = c.decreases in
-    (omega (arith, measure), (c.requires.few_tables, (c.requires.low, (labels, (c.requires.room, (c.requires.cells, (c.requires.fits, deep)))))))
+pub leaf_turn-lower_body-requires : goal.leaf_turn-lower_body-requires
+leaf_turn-lower_body-requires t c =
+    let self = c.args.self.now in
+    let l = c.args.l.now in
+    let measure : sum_by blocks l.body.items + 3 ≡ t = c.decreases in (
+      rw c.deref.ensures.value (omega (arith, measure)),
+      rw c.deref.ensures.value (
+        c.requires.few_tables,
+        (
+          c.requires.low,
+          (
+            omega (arith, c.requires.labels),
+            (
+              c.requires.room,
+              (
+                c.requires.cells,
+                (
+                  c.requires.empty,
+                  fits_held self.on self.scope c.args.round
+                      (record {
+                        cells = self.scope.cells;
+                        regs = c.replace-before.new.dest;
+                        tables = self.scope.tables;
+                        next_label = self.scope.next_label;
+                      }) l refl refl c.requires.leaf c.requires.fits,
+                ),
+              ),
+            ),
+          ),
+        ),
+      ),
+    )
 
-pub lower_par-returns-then-list_is_quiet-clause-labels : goal.lower_par-returns-then-list_is_quiet-clause-labels
-lower_par-returns-then-list_is_quiet-clause-labels t c =
-    let quiet : list_is_quiet c.args.self.now.on.quiet_calls c.args.l.now.body.items ≡ true = sym (rw c.deref.ensures.value at c.if-list_is_quiet.ensures) in
-    on_ok c.lower_quiet.result (λ h. rw quiet h) c.lower_quiet.ensures.labels
+pub leaf_turn-returns-clause-sees : goal.leaf_turn-returns-clause-sees
+leaf_turn-returns-clause-sees t c =
+    let self = c.args.self.now in
+    let body = c.in_ok-lower_body.ensures in
+    let end = c.in_ok-end_leaf.ensures in
+    sees_turn self.scope
+    (record {
+      cells = self.scope.cells;
+      regs = c.replace-before.new.dest;
+      tables = self.scope.tables;
+      next_label = self.scope.next_label;
+    }) c.lower_body.new.self.scope c.end_leaf.new.self.scope refl refl body.sees
+    (ap (λ (s : Scope). s.cells) end.scope) (ap (λ (s : Scope). s.tables) end.scope)
 
-pub lower_par-returns-else-list_is_quiet-clause-labels : goal.lower_par-returns-else-list_is_quiet-clause-labels
-lower_par-returns-else-list_is_quiet-clause-labels t c =
-    let deep : list_is_quiet c.args.self.now.on.quiet_calls c.args.l.now.body.items ≡ false = sym (rw c.deref.ensures.value at c.if-list_is_quiet.ensures) in
-    on_ok c.lower_deep.result (λ h. rw deep h) c.lower_deep.ensures.labels
+pub leaf_turn-returns-clause-code : goal.leaf_turn-returns-clause-code
+leaf_turn-returns-clause-code t c =
+    let self = c.args.self.now in
+    let l = c.args.l.now in
+    let body = c.in_ok-lower_body.ensures in
+    turn_written self.on c.args.round self.scope
+    (record {
+      cells = self.scope.cells;
+      regs = c.replace-before.new.dest;
+      tables = self.scope.tables;
+      next_label = self.scope.next_label;
+    }) l c.args.site.now self.out c.lower_body.new.self.out c.end_leaf.new.self.out refl refl
+    (rw c.replace-before.ensures.after c.in_ok-regs.ensures)
+    (rw c.deref.ensures.value at body.code) c.in_ok-end_leaf.ensures.code
+
+pub lower_leaf-leaf_turn-requires : goal.lower_leaf-leaf_turn-requires
+lower_leaf-leaf_turn-requires t c =
+    let self = c.args.self.now in
+    let l = c.args.l.now in
+    let inside = c.round_inside-inside in
+    let begun = c.in_ok-site.ensures in
+    let ready = c.make_ready.ensures in
+    let measure : sum_by blocks l.body.items + 4 ≡ t = c.decreases in (
+      omega (arith, measure),
+      rw (ready.on, begun.on, ready.scope, begun.scope) (
+        c.requires.few_tables,
+        (
+          c.requires.low.2,
+          (
+            omega (arith, begun.labels, ready.labels, c.requires.labels),
+            (
+              c.requires.room,
+              (
+                c.requires.cells,
+                (
+                  record { body = ready.ready.body; traps = ready.ready.traps },
+                  (
+                    fits_par self.on self.scope c.args.round inside.result l inside.ensures.reduces inside.ensures.depth c.requires.fits,
+                    (c.requires.leaf, begun.site.0),
+                  ),
+                ),
+              ),
+            ),
+          ),
+        ),
+      ),
+    )
+
+pub lower_leaf-leaf_turn-requires-2 : goal.lower_leaf-leaf_turn-requires-2
+lower_leaf-leaf_turn-requires-2 t c =
+    let self = c.args.self.now in
+    let l = c.args.l.now in
+    let inside = c.round_inside-inside in
+    let begun = c.in_ok-site.ensures in
+    let ready = c.make_ready.ensures in
+    let first = c.in_ok-leaf_turn.ensures in
+    let on = ready.on ∙ begun.on in
+    let scope = ready.scope ∙ begun.scope in
+    let labels = rw on at first.labels in
+    let cells = rw scope at first.cells in
+    let sees = rw scope at first.sees in
+    let regs = rw scope at first.regs in
+    let tables = rw scope at first.tables in
+    let measure : sum_by blocks l.body.items + 4 ≡ t = c.decreases in (
+      omega (arith, measure),
+      rw (first.on ∙ on) (
+        rw tables c.requires.few_tables,
+        (
+          c.requires.low.2,
+          (
+            omega (arith, begun.labels, ready.labels, labels, c.requires.labels),
+            (
+              c.requires.room,
+              (
+                omega (arith, cells, c.requires.cells),
+                (
+                  fresh_empty c.leaf_turn.new.self.out first.fresh,
+                  (
+                    inside_later self.on self.scope inside.result c.leaf_turn.new.self.scope l.var.text.items l.body.items regs sees
+                        (fits_par self.on self.scope c.args.round inside.result l inside.ensures.reduces inside.ensures.depth c.requires.fits),
+                    (c.requires.leaf, begun.site.0),
+                  ),
+                ),
+              ),
+            ),
+          ),
+        ),
+      ),
+    )
+
+pub lower_leaf-returns-clause-code : goal.lower_leaf-returns-clause-code
+lower_leaf-returns-clause-code t c =
+    let self = c.args.self.now in
+    let l = c.args.l.now in
+    let inside = c.round_inside-inside in
+    let begun = c.in_ok-site.ensures in
+    let ready = c.make_ready.ensures in
+    let first = c.in_ok-leaf_turn.ensures in
+    let second = c.in_ok-leaf_turn-2.ensures in
+    let on = ready.on ∙ begun.on in
+    let scope = ready.scope ∙ begun.scope in
+    let one = rw on at first.labels in
+    let two = rw (first.on ∙ on) at second.labels in
+    let sees = rw scope at first.sees in
+    leaf_written self.on c.args.round inside.result self.scope l c.in_ok-site.site _ _ self.out c.begin_leaf.new.self.out c.make_ready.new.self.out c.leaf_turn.new.self.out c.leaf_turn-2.new.self.out
+    c.requires.leaf (c.requires.fits.still refl) inside.ensures.reduces inside.ensures.depth begun.site.2 begun.site.1
+    (omega (arith, ready.labels, one, ap length begun.fresh.traps, ap length first.fresh.traps))
+    (omega (arith, ready.labels, one, two, ap length begun.fresh.traps, ap length second.fresh.traps))
+    begun.code ready.ready (rw (on, scope) at first.code) first.fresh
+    (turn_same self.on inside.result self.scope c.leaf_turn.new.self.scope l c.in_ok-site.site c.leaf_turn.new.self.out c.leaf_turn-2.new.self.out sees (rw (first.on ∙ on) at second.code))
+    second.fresh
+
+pub lower_par-lower_leaf-requires : goal.lower_par-lower_leaf-requires
+lower_par-lower_leaf-requires t c =
+    let leaf : is_leaf c.args.l.now.body.items c.args.l.now.reduces.items ≡ true = sym (rw (c.deref.ensures.value, c.deref-2.ensures.value) at c.if-is_leaf.ensures) in
+    let labels = rw leaf at c.requires.labels in
+    let measure : sum_by blocks c.args.l.now.body.items + 5 ≡ t = c.decreases in
+    (omega (arith, measure), (c.requires.few_tables, (c.requires.low, (labels, (c.requires.room, (c.requires.cells, (c.requires.fits, leaf)))))))
 
 pub lower_if-returns-clause-code : goal.lower_if-returns-clause-code
 lower_if-returns-clause-code t c =
@@ -424,7 +575,7 @@ lower_if-returns-clause-code t c =
     let first_labels = rw test.on at one.labels in
     let second_labels = rw on at two.labels in
     if_written c.args.self.now.on c.args.round c.args.self.now.scope c.lower_branch.new.self.scope c.args.e.now c.args.body.now c.args.other.now first second exit c.args.self.now.out c.test.new.self.out c.lower_branch.new.self.out c.lower_other.new.self.out
-    test.code (rw (test.on, test.scope) at one.code) (rw on at two.code) (rw test.scope at one.sees) two.fresh
+    test.code (rw (test.on, test.scope) at one.code) (rw on at two.code) (rw test.scope at one.regs) (rw test.scope at one.sees) two.fresh
     (omega (arith, test.labels, ap length test.fresh.traps))
     (omega (arith, test.labels, first_labels, c.added_by_body.ensures, ap length one.fresh.traps))
     (omega (arith, test.labels, first_labels, second_labels, c.added_by_body.ensures, c.added_by_second.ensures, ap length two.fresh.traps))
@@ -528,6 +679,14 @@ lower_stmt-lower_body-requires t c =
       ),
     )
 
+pub lower_stmt-lower_call-requires-clause-bare : goal.lower_stmt-lower_call-requires-clause-bare
+lower_stmt-lower_call-requires-clause-bare t c =
+    (rw c.in-Call.is at c.requires.fits.still) refl
+
+pub lower_stmt-lower_both-requires-clause-bare : goal.lower_stmt-lower_both-requires-clause-bare
+lower_stmt-lower_both-requires-clause-bare t c =
+    (rw c.in-Both.is at c.requires.fits.still) refl
+
 pub lower_stmt-lower_par-requires : goal.lower_stmt-lower_par-requires
 lower_stmt-lower_par-requires t c =
     let l = c.in-Par.l in
@@ -542,7 +701,7 @@ lower_stmt-lower_par-requires t c =
         c.requires.few_tables,
         (
           (low.0, low.1, low_of_vec l.body low.2),
-          (omega (arith, par_of_vec c.args.self.now.on.quiet_calls l.carries.items l.body, labels), (room_within c.args.self.now.on _ _ (omega (arith, kept_of_vec l.body)) room, (omega (arith, declared_of_vec l.body, cells), rw c.in-Par.is at c.requires.fits))),
+          (omega (arith, par_of_vec c.args.self.now.on.quiet_calls l.carries.items l.reduces.items l.body, labels), (room_within c.args.self.now.on _ _ (omega (arith, kept_of_vec l.body)) room, (omega (arith, declared_of_vec l.body, cells), rw c.in-Par.is at c.requires.fits))),
         ),
       ),
     )
@@ -596,7 +755,7 @@ lower_stmt-returns-in-While-clause-labels t c =
 
 pub lower_stmt-returns-in-Par-clause-labels : goal.lower_stmt-returns-in-Par-clause-labels
 lower_stmt-returns-in-Par-clause-labels t c =
-    on_ok c.lower_par.result (λ h. rw c.in-Par.is (omega (arith, par_of_vec c.args.self.now.on.quiet_calls c.in-Par.l.carries.items c.in-Par.l.body, h))) c.lower_par.ensures.labels
+    on_ok c.lower_par.result (λ h. rw c.in-Par.is (omega (arith, par_of_vec c.args.self.now.on.quiet_calls c.in-Par.l.carries.items c.in-Par.l.reduces.items c.in-Par.l.body, h))) c.lower_par.ensures.labels
 
 pub lower_stmt-returns-in_ok-end_loop-in-Loop-clause-labels : goal.lower_stmt-returns-in_ok-end_loop-in-Loop-clause-labels
 lower_stmt-returns-in_ok-end_loop-in-Loop-clause-labels t c =

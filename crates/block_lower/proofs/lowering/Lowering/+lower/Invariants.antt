@@ -50,4 +50,10 @@ abbrev pub decreases-lower_deep : goal.decreases-lower_deep
 decreases-lower_deep l = sum_by blocks l.l.now.body.items + 3
 
 abbrev pub decreases-lower_par : goal.decreases-lower_par
-decreases-lower_par l = sum_by blocks l.l.now.body.items + 4
+decreases-lower_par l = sum_by blocks l.l.now.body.items + 5
+
+abbrev pub decreases-lower_leaf : goal.decreases-lower_leaf
+decreases-lower_leaf l = sum_by blocks l.l.now.body.items + 4
+
+abbrev pub decreases-leaf_turn : goal.decreases-leaf_turn
+decreases-leaf_turn l = sum_by blocks l.l.now.body.items + 3

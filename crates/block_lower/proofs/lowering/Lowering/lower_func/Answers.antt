@@ -9,7 +9,7 @@ lower_list-requires-clause-fits c =
     rw (c.deref-2.ensures.value, declared.on)
     (fits_func c.args.self.now.on c.args.self.now.scope c.outermost.result c.args.f.now
     c.declare_all.new.self.scope (is_outermost c.outermost.result c.outermost.ensures.reduces c.outermost.ensures.depth)
-    c.requires.most (rw c.deref.ensures.value at declared.sees) c.requires.fits)
+    c.requires.most declared.regs (rw c.deref.ensures.value at declared.sees) c.requires.fits)
 
 pub returns-clause-code : goal.returns-clause-code
 returns-clause-code c =
@@ -21,7 +21,7 @@ returns-clause-code c =
     c.args.f.now _ self.out c.lower_list.new.self.out c.value.new.self.out
     c.push_return.new.self.out (is_outermost c.outermost.result c.outermost.ensures.reduces c.outermost.ensures.depth)
     c.requires.room (omega (arith, c.requires.most)) c.requires.fresh
-    (rw c.deref.ensures.value at declared.sees)
+    declared.regs (rw c.deref.ensures.value at declared.sees)
     (rw (c.deref-2.ensures.value, declared.on, declared.out) at listed.code)
-    (rw c.deref-2.ensures.value at listed.sees) c.in_ok-value.ensures.code
+    listed.regs (rw c.deref-2.ensures.value at listed.sees) c.in_ok-value.ensures.code
     c.in_ok-push_return.ensures.code)

@@ -36,8 +36,9 @@ returns-clause-sees c =
     sees_after_main c.args.program.now c.args.self.now.scope c.push_makes.new.self.scope
     c.lower_list.new.self.scope c.leave.new.self.scope c.requires.nothing.0
     c.requires.nothing.1 c.requires.nothing.2
-    (rw (c.deref.ensures.value, first.scope) at makes.sees)
+    (rw (c.deref.ensures.value, first.scope) at makes.sees) c.in_ok-lower_list.ensures.regs
     (rw c.deref-2.ensures.value at c.in_ok-lower_list.ensures.sees)
+    (rw c.in_ok-close.ensures.scope at c.leave.ensures.regs)
     (rw c.in_ok-close.ensures.scope at c.leave.ensures.sees)
 
 pub returns-clause-code : goal.returns-clause-code
