@@ -22,7 +22,7 @@ const PACE: Pace = Pace {
 const FUEL: u64 = 1_000_000_000;
 
 /// The names of the programs, and their sources.
-const PROGRAMS: [(&str, &str); 7] = [
+const PROGRAMS: [(&str, &str); 8] = [
     (
         "fib by both",
         "fn fib(n) {
@@ -90,6 +90,13 @@ const PROGRAMS: [(&str, &str); 7] = [
            let s = 0;
            par i in 0..100000 reduce s by add { fold s with i; }
            print s;
+         }",
+    ),
+    (
+        "row-carried writes",
+        "table t[10000][2];
+         main {
+           par i in 0..rows(t) carry t[i] { t[i][0] = i; t[i][1] = i * i; }
          }",
     ),
 ];

@@ -116,7 +116,7 @@ const DONE: [(&[u8], &[u8]); 12] = [
     ),
 ];
 
-const FORMS: [(&[u8], &[u8]); 13] = [
+const FORMS: [(&[u8], &[u8]); 15] = [
     (
         b"main { let s = 1; par i in 1..6 reduce s by mul { fold s with i; } print s; \
           par i in 3..0 { } }",
@@ -190,6 +190,19 @@ const FORMS: [(&[u8], &[u8]); 13] = [
         b"main { let s = 0; par i in 0..2 reduce s by add { par j in 0..3 reduce s by add { \
           fold s with 10 * i + j; } } print s; }",
         b"36\n",
+    ),
+    (
+        b"main { let s = 0; let m = 0; par i in 1..5 reduce s by add, m by max { let d = i * i; \
+          loop j in 0..i { fold s with j; } if i % 2 { fold m with d; } else { fold s with 100; \
+          } } print s; print m; }",
+        b"210\n9\n",
+    ),
+    (
+        b"main { let a = 0; let b = 0; let c = 0; let d = 0; let e = 0; \
+          par i in 0..3 reduce a by add, b by add, c by add, d by add, e by add { \
+          fold a with 1; fold b with i; fold c with 2; fold d with 2 * i; fold e with i * i; \
+          } print a + b + c + d + e; }",
+        b"23\n",
     ),
 ];
 
