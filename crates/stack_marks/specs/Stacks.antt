@@ -1,5 +1,5 @@
 -- What a stack is seen as, and what each call makes of it.
-use Rattle.std.specs.Prelude.{◌≡◌, ℕ, suc, ◌+◌, ◌-◌, ◌<◌, ◌≤◌, ◌^◌, ℤ, pos, negsuc, not, nat_le}
+use Rattle.std.specs.Prelude.{ℕ, suc, ◌+◌, ◌-◌, ◌<◌, ◌≤◌, ◌^◌, ℤ, pos, negsuc, not, nat_le}
 use Rattle.std.specs.Prelude.{if◌then◌else◌, Option, None, List, [], ◌∷◌, ◌++◌, length, take, drop}
 use Rattle.std.specs.Prelude.{slice_get, slice_set, filter, replicate}
 use Rattle.std.specs.Ordering.{int_eq}

@@ -2,14 +2,17 @@
 
 ghost use Rattle.std.specs.Prelude.{◌≡◌, ℕ, ◌+◌, ◌-◌, ◌<◌, ◌≤◌, ◌^◌, [], length, All, Any, IsSome};
 ghost use Rattle.std.specs.Prelude.{IfOk, IfErr, OnOk, OnErr, MatchOption, Ok, Err, Some, None};
+ghost use Rattle.std.specs.Prelude.{◌++◌, replicate};
 ghost use Rattle.std.specs.Bool.{OnTrue, OnFalse};
+ghost use Rattle.std.specs.Vec.{vec_len, vec_capacity};
+ghost use Rattle.tpal_syntax.specs.declared.words.Word.TheVariants.{Nil};
 ghost use Rattle.stack_marks.specs.Stacks.{word_at, pushed, popped, with_word, InOrder};
 ghost use Rattle.stack_marks.specs.Causes.{HasRoom, PushCause, PopCause, new_top, IsNoPosition};
 ghost use Rattle.stack_marks.specs.Causes.{IsIndex};
 
 use crate::links::Links;
 use crate::mark::StackFault;
-use std::alloc::Global;
+use std::alloc::{AllocError, Global};
 use std::marker::Model;
 use tp_value::MAX_STACK_POSITION;
 use tpal_syntax::Word;
@@ -36,6 +39,10 @@ impl Model for Stack {
 
     ghost invariant = { IsKept };
 }
+
+/// Cells with nothing in them, as many as most calls push. To copy them is faster than to write
+/// each.
+static NOTHING: [Word; 64] = [Word::Nil; 64];
 
 impl Stack {
     /// An empty stack. It takes no memory.
@@ -67,7 +74,7 @@ impl Stack {
         {
             return self.push_growing(cells);
         }
-        self.cells.resize(height, Word::Nil)?;
+        add_nothing(&mut self.cells, cells as usize)?;
         Ok(())
     }
 
@@ -137,6 +144,19 @@ impl Stack {
             None => Err(StackFault::OutOfRange),
         }
     }
+}
+
+/// Adds so many cells with nothing in them.
+fn add_nothing(cells: &mut Vec<Word>, count: usize) -> Result<(), AllocError>
+    requires { vec_len cells.old + count < 2 ^ 64 }
+    ensures added { OnOk result (cells.new.items ≡ cells.old.items ++ replicate count Nil) }
+    ensures err { OnErr result (cells.new.items ≡ cells.old.items) }
+    ensures room { vec_capacity cells.old ≤ vec_capacity cells.new }
+{
+    if count > NOTHING.len() {
+        return cells.resize(cells.len() + count, Word::Nil);
+    }
+    cells.extend_from_slice(&NOTHING[..count])
 }
 
 /// How many cells lie below a position, where it is one of `len` from `base` on.
