@@ -1,7 +1,7 @@
 -- lists
 pub mod Lists
 -- words that are no numbers
-pub mod Numbers
+pub mod NoNumbers
 -- vectors in which an element is written over by itself
 pub mod Vectors
 -- held tables that are equal
@@ -44,8 +44,14 @@ pub mod Kit
 pub mod Sample
 -- steps that go on, counted afterwards
 pub mod Further
+-- a register that was set, by a calculation or with a word
+pub mod Registers
+-- what the parts of an op came to, with others behind them
+pub mod Coming
 -- ops that go on and ops that jump, as steps of a turn
 pub mod OpSteps
+-- the test of a place that passes, and reads and writes of cells behind it
+pub mod Places
 -- a run over the ops of a code
 pub mod Running
 -- what takes memory

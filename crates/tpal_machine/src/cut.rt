@@ -27,7 +27,7 @@ pub enum TableCut {
 }
 
 /// A carried table's number, and where it is cut.
-#[tactic(auto, using(crate::proofs::Numbers::on_number_none))]
+#[tactic(auto, using(crate::proofs::NoNumbers::on_number_none))]
 fn carried_at(registers: &[Word; 32], item: CarryAt) -> Result<(u8, TableCut), Fault>
     ensures { result ≡ carried_at registers.now item }
 {

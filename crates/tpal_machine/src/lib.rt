@@ -5,8 +5,11 @@
 //! instructions comes to. Start with `task`, then `turn`.
 #![tactic(auto)]
 
+mod access;
 mod acting;
 mod blocks;
+mod calls;
+mod cells;
 mod cut;
 mod ending;
 mod ends;
@@ -20,6 +23,7 @@ mod joining;
 pub mod laws;
 mod making;
 mod moves;
+mod numbers;
 mod output;
 mod parts;
 mod passing;
@@ -41,5 +45,7 @@ pub use rest::Rest;
 pub use task::Task;
 pub use turn::{Ran, Turn, run_task};
 
+#[cfg(test)]
+mod op_tests;
 #[cfg(test)]
 mod tests;

@@ -156,7 +156,7 @@ fn make_sized(frame: &mut Frame, table: u8, rows: i64, cols: i64, place: Place) 
 }
 
 /// `make tK, rA, rB, line, col`.
-#[tactic(auto, using(crate::proofs::Numbers::on_number_none))]
+#[tactic(auto, using(crate::proofs::NoNumbers::on_number_none))]
 pub(crate) fn make(
     frame: &mut Frame,
     code: &Code,

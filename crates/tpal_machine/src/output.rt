@@ -14,7 +14,7 @@ use table_text::push_row_text;
 use tp_value::NoMemory;
 
 /// `print rA`.
-#[tactic(auto, using(crate::proofs::Numbers::on_number_none))]
+#[tactic(auto, using(crate::proofs::NoNumbers::on_number_none))]
 pub(crate) fn print(frame: &mut Frame, r: u8) -> Result<(), Trouble>
     requires { r < 32 }
     ensures effect { GivesOr (effect.print r (state_of frame.old)) result (state_of frame.new) }

@@ -1,6 +1,6 @@
 // Instructions on the stack and its marks.
 
-ghost use Rattle.std.specs.Prelude.{◌≡◌, ◌<◌, ◌+ℤ◌, ◌≤ℤ◌, ◌^◌, IsSome, OnErr, pos, ℤ};
+ghost use Rattle.std.specs.Prelude.{◌≡◌, ◌≢◌, ◌<◌, ◌+ℤ◌, ◌≤ℤ◌, ◌^◌, IsSome, IfSome, OnErr, pos, ℤ};
 ghost use Rattle.std.specs.Bool.{OnTrue, OnFalse};
 ghost use Rattle.stack_marks.specs.Causes.{UnmarkCause};
 ghost use Rattle.stack_marks.specs.Stacks.{word_at};
@@ -20,7 +20,7 @@ use tpal_syntax::{Value, Word};
 
 /// The position so many cells above another, in a stack. A sum above all numbers wraps to one below
 /// 0, where no stack has a cell either.
-fn above(stack: &Stack, from: i64, off: u16) -> i64
+pub(crate) fn above(stack: &Stack, from: i64, off: u16) -> i64
     ensures cell { word_at stack.now result ≡ word_at stack.now (from +ℤ pos off) }
     ensures place { IsSome (word_at stack.now result) → result ≡ from +ℤ pos off }
 {
@@ -30,7 +30,7 @@ fn above(stack: &Stack, from: i64, off: u16) -> i64
 
 /// `rA := mem[rB+n]`.
 #[inline(always)]
-#[tactic(auto, using(crate::proofs::Numbers::on_number_none, crate::proofs::Stacks::beyond_the_top))]
+#[tactic(auto, using(crate::proofs::NoNumbers::on_number_none, crate::proofs::Stacks::beyond_the_top))]
 pub(crate) fn load(frame: &mut Frame, to: u8, base: u8, off: u16) -> Result<(), Fault>
     requires to { to < 32 }
     requires base { base < 32 }
@@ -53,7 +53,7 @@ pub(crate) fn load(frame: &mut Frame, to: u8, base: u8, off: u16) -> Result<(), 
 
 /// `mem[rA+n] := v`.
 #[inline(always)]
-#[tactic(auto, using(crate::proofs::Numbers::on_number_none, crate::proofs::Stacks::beyond_the_top))]
+#[tactic(auto, using(crate::proofs::NoNumbers::on_number_none, crate::proofs::Stacks::beyond_the_top))]
 pub(crate) fn store(frame: &mut Frame, base: u8, off: u16, value: Value) -> Result<(), Fault>
     requires base { base < 32 }
     requires value { IsOperand value }
@@ -133,7 +133,7 @@ pub(crate) fn sfree(frame: &mut Frame, cells: u16) -> Result<(), Fault>
 }
 
 /// `prmpush mem[rA+c], n, @l`.
-#[tactic(auto, using(crate::proofs::Numbers::on_number_none, crate::proofs::Refusals::below_all))]
+#[tactic(auto, using(crate::proofs::NoNumbers::on_number_none, crate::proofs::Refusals::below_all))]
 pub(crate) fn prmpush(
     frame: &mut Frame,
     base: u8,
@@ -144,6 +144,9 @@ pub(crate) fn prmpush(
     requires { base < 32 }
     ensures effect { Gives (effect.prmpush base off cells split (state_of frame.old)) result
         (state_of frame.new) }
+    ensures anywhere { Does (effect.prmpush base off cells split) frame.old result frame.new }
+    ensures refused { OnErr result (frame.new ≡ frame.old) }
+    ensures stays { IsSome (effect.oldest frame.old.stack) → Stays frame.old frame.new }
     ensures kept { Keeps frame.old frame.new }
 {
     let from = number_of(frame.registers[base as usize])?;
@@ -162,12 +165,16 @@ fn magnitude(number: i64) -> u64
 }
 
 /// A mark for the work from a position on.
-#[tactic(auto, using(crate::proofs::Refusals::mark_goes, crate::proofs::Refusals::mark_refused, crate::proofs::Stacks::low_marked))]
+#[tactic(auto, using(crate::proofs::Refusals::mark_goes, crate::proofs::Refusals::mark_refused, crate::proofs::Stacks::low_marked, crate::proofs::Stacks::marked_still))]
 fn mark_from(frame: &mut Frame, base: u64, off: u16, cells: u16, split: u32) -> Result<(), Fault>
     requires { base < 2 ^ 63 }
     ensures effect { Gives (effect.with_mark_from (state_of frame.old) (pos base) off cells split)
         result
         (state_of frame.new) }
+    ensures anywhere { Does (λ state. effect.with_mark_from state (pos base) off cells split)
+        frame.old result frame.new }
+    ensures refused { OnErr result (frame.new ≡ frame.old) }
+    ensures stays { IsSome (effect.oldest frame.old.stack) → Stays frame.old frame.new }
     ensures kept { Keeps frame.old frame.new }
 {
     in_order(&frame.stack);
@@ -184,7 +191,7 @@ fn mark_from(frame: &mut Frame, base: u64, off: u16, cells: u16, split: u32) -> 
 }
 
 /// `prmpop mem[rA+c]`.
-#[tactic(auto, using(crate::proofs::Numbers::on_number_none, crate::proofs::Stacks::beyond_the_top))]
+#[tactic(auto, using(crate::proofs::NoNumbers::on_number_none))]
 pub(crate) fn prmpop(frame: &mut Frame, base: u8, off: u16) -> Result<(), Fault>
     requires { base < 32 }
     ensures effect { Gives (effect.prmpop base off (state_of frame.old)) result
@@ -192,6 +199,20 @@ pub(crate) fn prmpop(frame: &mut Frame, base: u8, off: u16) -> Result<(), Fault>
     ensures kept { Keeps frame.old frame.new }
 {
     let from = number_of(frame.registers[base as usize])?;
+    unmark_from(frame, from, off)
+}
+
+/// No mark so many cells above a position.
+#[tactic(auto, using(crate::proofs::Stacks::beyond_the_top))]
+pub(crate) fn unmark_from(frame: &mut Frame, from: i64, off: u16) -> Result<(), Fault>
+    ensures effect { Gives (effect.without_mark (from +ℤ pos off) (state_of frame.old)) result
+        (state_of frame.new) }
+    ensures anywhere { Does (effect.without_mark (from +ℤ pos off)) frame.old result frame.new }
+    ensures refused { OnErr result (frame.new ≡ frame.old) }
+    ensures stays { IfSome (effect.oldest frame.old.stack) (λ m. pos m.at ≢ from +ℤ pos off)
+        → Stays frame.old frame.new }
+    ensures kept { Keeps frame.old frame.new }
+{
     in_order(&frame.stack);
     match from.checked_add(i64::from(off)) {
         None => Err(Fault::OutOfRange),
@@ -200,10 +221,14 @@ pub(crate) fn prmpop(frame: &mut Frame, base: u8, off: u16) -> Result<(), Fault>
 }
 
 /// No mark at a position.
-#[tactic(auto, using(crate::proofs::Refusals::unmark_goes, crate::proofs::Stacks::low_unmarked))]
+#[tactic(auto, using(crate::proofs::Refusals::unmark_goes, crate::proofs::Stacks::low_unmarked, crate::proofs::Stacks::unmarked_still))]
 fn unmark(frame: &mut Frame, at: i64) -> Result<(), Fault>
     ensures effect { Gives (effect.without_mark at (state_of frame.old)) result
         (state_of frame.new) }
+    ensures anywhere { Does (effect.without_mark at) frame.old result frame.new }
+    ensures refused { OnErr result (frame.new ≡ frame.old) }
+    ensures stays { IfSome (effect.oldest frame.old.stack) (λ m. pos m.at ≢ at)
+        → Stays frame.old frame.new }
     ensures kept { Keeps frame.old frame.new }
 {
     match frame.stack.unmark(at) {

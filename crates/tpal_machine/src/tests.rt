@@ -39,7 +39,7 @@ fn block(
 // assoc; the renaming that is handed in; @both; what is cut and carried, also handed in side: plain
 // the child's body and end that are handed in both: plain            prints r1 and r2, emits t0,
 // halt
-fn code_of(
+pub(crate) fn code_of(
     alloc: Global,
     joint: (CutKind, &[(u8, u8)], &[CarryAt]),
     main: &[Instr],
@@ -77,7 +77,7 @@ fn code_of(
 // What is cut, the renaming, and what is carried: a loop with the rows of t0 from the number in r3
 // on; one with the cells of row r3 from column r5 on; a call that carries nothing; and one that
 // hands nothing over.
-const ROWS: (CutKind, &[(u8, u8)], &[CarryAt]) = (
+pub(crate) const ROWS: (CutKind, &[(u8, u8)], &[CarryAt]) = (
     CutKind::Loop,
     &[(1, 2)],
     &[CarryAt::Rows { table: 0, at: 3 }],
@@ -98,7 +98,7 @@ const CALL: (CutKind, &[(u8, u8)], &[CarryAt]) = (CutKind::Call, &[(1, 2)], &[])
 const BARE: (CutKind, &[(u8, u8)], &[CarryAt]) = (CutKind::Call, &[], &[]);
 
 // The input, 1 2 over 3 4, and a table that isn't made yet.
-fn tables_of(alloc: Global) -> Result<Vec<Held>, NoMemory>
+pub(crate) fn tables_of(alloc: Global) -> Result<Vec<Held>, NoMemory>
     ensures { IfOk result (λ tables. length tables.items ≡ 2) }
 {
     let mut tables = Vec::new(alloc);
@@ -142,7 +142,7 @@ fn fault_from(task: Task, code: &Code, turns: u8) -> Option<(Fault, u32, u32)>
 
 // Where the empty stack of a task begins: at 0, or at the last position, where no cell has room.
 #[derive(Clone, Copy)]
-enum Ground {
+pub(crate) enum Ground {
     Zero,
     Last,
 }
@@ -169,7 +169,7 @@ fn first_on(alloc: Global, code: &Code, ground: Ground) -> Result<Task, NoMemory
 }
 
 // The fault of a code with this main and this side.
-fn fault_of(
+pub(crate) fn fault_of(
     alloc: Global,
     ground: Ground,
     main: &[Instr],
@@ -185,7 +185,7 @@ fn fault_of(
     }
 }
 
-const ONE_CELL: Instr = Instr::Salloc(1);
+pub(crate) const ONE_CELL: Instr = Instr::Salloc(1);
 
 const MARK: Instr = Instr::PrmPush {
     base: 31,
@@ -328,62 +328,6 @@ fn each_fault_has_a_code(rt: HostRuntime) -> Result<(), Fail> {
     for (ground, main, end, side, wanted) in cases {
         assert_eq!(rt;
             fault_of(rt.alloc(), ground, main, end, side)?,
-            Some(wanted)
-        );
-    }
-    Ok(())
-}
-
-const fn load(to: u8, off: u16) -> Instr {
-    Instr::Load { to, base: 31, off }
-}
-
-const fn calc(to: u8, left: u8, alu: Alu, right: Value) -> Instr {
-    Instr::Calc {
-        to,
-        left,
-        alu,
-        right,
-    }
-}
-
-#[test]
-fn each_of_several_faults_at_its_place(rt: HostRuntime) -> Result<(), Fail> {
-    let test = Instr::IfJump { test: 1, label: 5 };
-    let size = calc(1, 1, Alu::Le, Value::Reg(9));
-    let sign = calc(1, 1, Alu::Lt, Value::Int(0));
-    let sum = calc(1, 1, Alu::Add, Value::Int(1));
-    let store = Instr::Store {
-        base: 31,
-        off: 0,
-        value: Value::Reg(1),
-    };
-    let cases: [([Instr; 4], (Fault, u32, u32)); 6] = [
-        (
-            [ONE_CELL, Instr::Rows { to: 1, table: 0 }, size, test],
-            (Fault::NotInt, 0, 2),
-        ),
-        (
-            [ONE_CELL, Instr::Cols { to: 1, table: 0 }, size, test],
-            (Fault::NotInt, 0, 2),
-        ),
-        (
-            [ONE_CELL, calc(1, 2, Alu::Min, Value::Reg(31)), sign, test],
-            (Fault::NotInt, 0, 1),
-        ),
-        (
-            [ONE_CELL, load(1, 0), load(2, 1), test],
-            (Fault::OutOfRange, 0, 2),
-        ),
-        ([ONE_CELL, load(1, 0), sum, store], (Fault::NotInt, 0, 2)),
-        (
-            [ONE_CELL, calc(1, 31, Alu::Lt, Value::Reg(2)), test, test],
-            (Fault::NotInt, 0, 1),
-        ),
-    ];
-    for (main, wanted) in cases {
-        assert_eq!(rt;
-            fault_of(rt.alloc(), Ground::Zero, &main, Term::Halt, &[])?,
             Some(wanted)
         );
     }
@@ -620,7 +564,7 @@ fn cells(tables: &[Held]) -> [Option<i64>; 4] {
     ]
 }
 
-const fn set(to: u8, number: i64) -> Instr {
+pub(crate) const fn set(to: u8, number: i64) -> Instr {
     Instr::Move {
         to,
         value: Value::Int(number),

@@ -200,11 +200,43 @@ const fn calc(to: u8, left: u8, alu: Alu, right: Value) -> Instr {
     }
 }
 
-// The op that stands at the beginning of a body.
-fn first_op(alloc: Global, body: &[Instr]) -> Result<Option<Op>, NoMemory> {
+const fn load(to: u8, base: u8, off: u16) -> Instr {
+    Instr::Load { to, base, off }
+}
+
+const fn store(base: u8, off: u16, value: Value) -> Instr {
+    Instr::Store { base, off, value }
+}
+
+const fn if_jump(test: u8, label: u32) -> Instr {
+    Instr::IfJump { test, label }
+}
+
+const fn fetch(to: u8, table: u8, row: u8, col: u8) -> Instr {
+    Instr::Fetch {
+        to,
+        table,
+        row,
+        col,
+    }
+}
+
+const fn put(table: u8, row: u8, col: u8, value: u8) -> Instr {
+    Instr::Put {
+        table,
+        row,
+        col,
+        value,
+    }
+}
+
+// The op that stands at the beginning of a block, in a code of two blocks and two tables.
+fn first_op(alloc: Global, body: &[Instr], term: Term) -> Result<Option<Op>, NoMemory> {
     let mut blocks = Vec::new(alloc);
-    blocks.push(block(alloc, b"main", Note::Plain, body, Term::Halt)?)?;
+    blocks.push(block(alloc, b"main", Note::Plain, body, term)?)?;
+    blocks.push(block(alloc, b"last", Note::Plain, &[], Term::Halt)?)?;
     let mut tables = Vec::new(alloc);
+    tables.push(CodeTable::Made)?;
     tables.push(CodeTable::Made)?;
     match Code::new(alloc, tables, blocks)? {
         None => Ok(None),
@@ -213,44 +245,246 @@ fn first_op(alloc: Global, body: &[Instr]) -> Result<Option<Op>, NoMemory> {
 }
 
 #[test]
-fn several_instructions_are_one_op(rt: HostRuntime) -> Result<(), Fail> {
-    let rows = Instr::Rows { to: 2, table: 0 };
-    let cols = Instr::Cols { to: 2, table: 0 };
-    let reaches = calc(2, 2, Alu::Le, Value::Reg(1));
-    let sign = calc(2, 2, Alu::Lt, Value::Int(0));
-    let jump = Instr::IfJump { test: 2, label: 0 };
-    let load = Instr::Load {
-        to: 2,
-        base: 31,
-        off: 7,
-    };
-    let second = Instr::Load {
-        to: 3,
-        base: 31,
-        off: 8,
-    };
-    let sum = calc(2, 2, Alu::Add, Value::Int(-1));
-    let store = Instr::Store {
-        base: 31,
-        off: 7,
-        value: Value::Reg(2),
-    };
-    let least = calc(2, 0, Alu::Min, Value::Reg(1));
-    let less = calc(2, 0, Alu::Lt, Value::Reg(1));
+fn numbers_and_stores_are_one_op(rt: HostRuntime) -> Result<(), Fail> {
+    let sum = calc(2, 0, Alu::Add, Value::Reg(1));
+    let more = calc(2, 0, Alu::Add, Value::Int(-9));
+    let long = calc(2, 0, Alu::Add, Value::Int(1 << 15));
+    let fewer = calc(2, 0, Alu::Sub, Value::Int(9));
+    let kept = store(31, 7, Value::Reg(2));
+    let other = store(31, 7, Value::Reg(0));
+    let down = calc(31, 31, Alu::Sub, Value::Int(6));
     let cases: [(&[Instr], Op); 10] = [
-        (&[rows, reaches, jump], Op::RowsTest(2, 0, 1, 0)),
-        (&[cols, reaches, jump], Op::ColsTest(2, 0, 1, 0)),
-        (&[rows, reaches], Op::Rows(2, 0)),
-        (&[rows, sign, jump], Op::Rows(2, 0)),
-        (&[least, sign, jump], Op::BelowTest(2, 0, 1, 0)),
-        (&[least, reaches, jump], Op::CalcReg(Alu::Min, 2, 0, 1)),
-        (&[less, jump], Op::LtTest(2, 0, 1, 0)),
-        (&[load, second], Op::LoadTwo(2, 3, 31, 7, 8)),
-        (&[load, sum, store], Op::AddCell(2, 31, 7, -1)),
-        (&[load, sum, second], Op::Load(2, 31, 7)),
+        (&[sum, kept], Op::AddRegStore(2, 0, 1, 31, 7)),
+        (&[sum, other], Op::AddReg(2, 0, 1)),
+        (&[more, kept], Op::AddIntStore(2, 0, 31, -9, 7)),
+        (&[more, other], Op::AddInt(2, 0, -9)),
+        (&[long, kept], Op::AddInt(2, 0, 1 << 15)),
+        (&[fewer, kept], Op::SubIntStore(2, 0, 31, 9, 7)),
+        (&[fewer, other], Op::SubInt(2, 0, 9)),
+        (&[Instr::Sfree(6), down], Op::FreeSub(31, 6)),
+        (&[Instr::Sfree(7), down], Op::Sfree(7)),
+        (&[Instr::Sfree(6), kept], Op::Sfree(6)),
     ];
     for (body, op) in cases {
-        assert_eq!(rt; first_op(rt.alloc(), body)?, Some(op));
+        assert_eq!(rt; first_op(rt.alloc(), body, Term::Halt)?, Some(op));
+    }
+    Ok(())
+}
+
+#[test]
+fn tests_are_one_op(rt: HostRuntime) -> Result<(), Fail> {
+    let less = calc(2, 0, Alu::Lt, Value::Reg(1));
+    let below = calc(2, 2, Alu::Lt, Value::Int(-9));
+    let other = calc(2, 0, Alu::Lt, Value::Int(9));
+    let one = calc(0, 0, Alu::Add, Value::Int(1));
+    let two = calc(0, 0, Alu::Add, Value::Int(2));
+    let past = calc(2, 1, Alu::Lt, Value::Reg(0));
+    let cases: [(&[Instr], Op); 9] = [
+        (&[less, if_jump(2, 1)], Op::LtTest(2, 0, 1, 1)),
+        (&[less, if_jump(0, 1)], Op::LtReg(2, 0, 1)),
+        (&[below, if_jump(2, 1)], Op::LtIntTest(2, 1, -9)),
+        (&[below, if_jump(0, 1)], Op::LtInt(2, 2, -9)),
+        (&[other, if_jump(2, 1)], Op::LtInt(2, 0, 9)),
+        (&[one, less, if_jump(2, 1)], Op::StepTest(0, 2, 1, 1)),
+        (&[one, less, if_jump(0, 1)], Op::AddInt(0, 0, 1)),
+        (&[one, past, if_jump(2, 1)], Op::AddInt(0, 0, 1)),
+        (&[two, less, if_jump(2, 1)], Op::AddInt(0, 0, 2)),
+    ];
+    for (body, op) in cases {
+        assert_eq!(rt; first_op(rt.alloc(), body, Term::Halt)?, Some(op));
+    }
+    Ok(())
+}
+
+#[test]
+fn moves_of_cells_are_one_op(rt: HostRuntime) -> Result<(), Fail> {
+    let cell = load(2, 31, 7);
+    let sum = calc(2, 2, Alu::Add, Value::Int(-1));
+    let more = calc(2, 2, Alu::Add, Value::Int(128));
+    let fewer = calc(2, 2, Alu::Sub, Value::Int(1));
+    let back = store(31, 7, Value::Reg(2));
+    let further = store(31, 8, Value::Reg(2));
+    let own = load(31, 31, 7);
+    let away = store(31, 8, Value::Reg(31));
+    let cases: [(&[Instr], Op); 13] = [
+        (&[cell, load(3, 31, 8)], Op::LoadTwo(2, 3, 31, 7, 8)),
+        (&[cell, load(3, 30, 8)], Op::Load(2, 31, 7)),
+        (&[own, load(3, 31, 8)], Op::Load(31, 31, 7)),
+        (&[cell, further], Op::CopyCell(2, 31, 7, 8)),
+        (&[cell, store(31, 8, Value::Reg(3))], Op::Load(2, 31, 7)),
+        (&[cell, store(30, 8, Value::Reg(2))], Op::Load(2, 31, 7)),
+        (&[own, away], Op::Load(31, 31, 7)),
+        (&[cell, sum, back], Op::AddCell(2, 31, 7, -1)),
+        (&[cell, more, back], Op::AddCell(2, 31, 7, 128)),
+        (&[cell, sum, further], Op::AddTo(2, 31, -1, 7, 8)),
+        (&[cell, more, further], Op::Load(2, 31, 7)),
+        (&[cell, fewer, further], Op::SubTo(2, 31, 1, 7, 8)),
+        (&[cell, sum, load(3, 31, 8)], Op::Load(2, 31, 7)),
+    ];
+    for (body, op) in cases {
+        assert_eq!(rt; first_op(rt.alloc(), body, Term::Halt)?, Some(op));
+    }
+    Ok(())
+}
+
+#[test]
+fn a_turn_and_its_test_are_one_op(rt: HostRuntime) -> Result<(), Fail> {
+    let one = calc(2, 2, Alu::Add, Value::Int(1));
+    let back = store(31, 7, Value::Reg(2));
+    let below = calc(2, 2, Alu::Lt, Value::Int(9));
+    let turn = [load(2, 31, 7), one, back, below, if_jump(2, 1)];
+    let cases = [
+        (4, if_jump(2, 0), Op::TurnTest(2, 7, 9, 0)),
+        (4, if_jump(3, 1), Op::AddCell(2, 31, 7, 1)),
+        (
+            3,
+            calc(2, 2, Alu::Le, Value::Int(9)),
+            Op::AddCell(2, 31, 7, 1),
+        ),
+        (
+            3,
+            calc(2, 2, Alu::Lt, Value::Int(1 << 15)),
+            Op::AddCell(2, 31, 7, 1),
+        ),
+        (2, store(31, 8, Value::Reg(2)), Op::AddTo(2, 31, 1, 7, 8)),
+        (
+            1,
+            calc(2, 2, Alu::Add, Value::Int(2)),
+            Op::AddCell(2, 31, 7, 2),
+        ),
+        (0, load(2, 31, 6), Op::AddTo(2, 31, 1, 6, 7)),
+        (0, load(2, 30, 7), Op::Load(2, 30, 7)),
+    ];
+    for (at, other, op) in cases {
+        let mut body = turn;
+        if let Some(changed) = body.get_mut(at) {
+            *changed = other;
+        }
+        assert_eq!(rt; first_op(rt.alloc(), &body, Term::Halt)?, Some(op));
+    }
+    Ok(())
+}
+
+#[test]
+fn ends_are_joined(rt: HostRuntime) -> Result<(), Fail> {
+    let sum = calc(31, 31, Alu::Add, Value::Int(6));
+    let call = store(31, 6, Value::Label(1));
+    let there = Term::Jump(Value::Label(0));
+    let (cell, way) = (load(2, 31, 7), load(3, 31, 8));
+    let back = Term::Jump(Value::Reg(3));
+    let cases: [(&[Instr], Term, Op); 12] = [
+        (&[sum], there, Op::AddJump(31, 6, 0)),
+        (&[sum], back, Op::AddInt(31, 31, 6)),
+        (&[sum, Instr::Tick], there, Op::AddInt(31, 31, 6)),
+        (&[call, sum], there, Op::Call(31, 6, 1, 0)),
+        (&[call, sum], Term::Halt, Op::StoreLabel(31, 6, 1)),
+        (&[call, sum, Instr::Tick], there, Op::StoreLabel(31, 6, 1)),
+        (
+            &[store(31, 5, Value::Label(1)), sum],
+            there,
+            Op::StoreLabel(31, 5, 1),
+        ),
+        (
+            &[store(30, 6, Value::Label(1)), sum],
+            there,
+            Op::StoreLabel(30, 6, 1),
+        ),
+        (&[cell, way], back, Op::Return(2, 3, 31, 7, 8)),
+        (
+            &[cell, way],
+            Term::Jump(Value::Reg(2)),
+            Op::LoadTwo(2, 3, 31, 7, 8),
+        ),
+        (&[cell, way], there, Op::LoadTwo(2, 3, 31, 7, 8)),
+        (&[cell, way, Instr::Tick], back, Op::LoadTwo(2, 3, 31, 7, 8)),
+    ];
+    for (body, term, op) in cases {
+        assert_eq!(rt; first_op(rt.alloc(), body, term)?, Some(op));
+    }
+    Ok(())
+}
+
+// A read of a cell of table 1 with the test of its place.
+const fn read(row: u8, col: u8, scratch: u8) -> [Instr; 10] {
+    [
+        calc(scratch, row, Alu::Min, Value::Reg(col)),
+        calc(scratch, scratch, Alu::Lt, Value::Int(0)),
+        if_jump(scratch, 1),
+        Instr::Rows {
+            to: scratch,
+            table: 1,
+        },
+        calc(scratch, scratch, Alu::Le, Value::Reg(row)),
+        if_jump(scratch, 1),
+        Instr::Cols {
+            to: scratch,
+            table: 1,
+        },
+        calc(scratch, scratch, Alu::Le, Value::Reg(col)),
+        if_jump(scratch, 1),
+        fetch(3, 1, row, col),
+    ]
+}
+
+#[test]
+fn accesses_are_one_op(rt: HostRuntime) -> Result<(), Fail> {
+    let alone = Op::CalcReg(Alu::Min, 4, 0, 1);
+    let cases = [
+        (9, fetch(4, 1, 0, 1), Op::Read(4, 1, 0, 1, 4, 1)),
+        (9, put(1, 0, 1, 2), Op::Write(1, 0, 1, 2, 4, 1)),
+        (9, put(1, 0, 1, 4), alone),
+        (9, put(0, 0, 1, 2), alone),
+        (9, fetch(3, 0, 0, 1), alone),
+        (9, fetch(3, 1, 1, 1), alone),
+        (9, fetch(3, 1, 0, 0), alone),
+        (9, Instr::Tick, alone),
+        (8, if_jump(4, 0), alone),
+        (7, calc(4, 4, Alu::Le, Value::Reg(0)), alone),
+        (6, Instr::Cols { to: 4, table: 0 }, alone),
+        (5, if_jump(4, 0), alone),
+        (4, calc(4, 4, Alu::Le, Value::Reg(1)), alone),
+        (3, Instr::Rows { to: 3, table: 1 }, alone),
+        (2, if_jump(3, 1), alone),
+        (1, calc(4, 4, Alu::Lt, Value::Int(1)), alone),
+    ];
+    for (at, other, op) in cases {
+        let mut body = read(0, 1, 4);
+        if let Some(changed) = body.get_mut(at) {
+            *changed = other;
+        }
+        assert_eq!(rt; first_op(rt.alloc(), &body, Term::Halt)?, Some(op));
+    }
+    Ok(())
+}
+
+#[test]
+fn an_access_has_a_register_to_spare(rt: HostRuntime) -> Result<(), Fail> {
+    let cases = [
+        (read(0, 1, 4), Op::Read(3, 1, 0, 1, 4, 1)),
+        (read(4, 1, 4), Op::CalcReg(Alu::Min, 4, 4, 1)),
+        (read(0, 4, 4), Op::CalcReg(Alu::Min, 4, 0, 4)),
+    ];
+    for (body, op) in cases {
+        assert_eq!(rt; first_op(rt.alloc(), &body, Term::Halt)?, Some(op));
+    }
+    Ok(())
+}
+
+#[test]
+fn marks_are_ops(rt: HostRuntime) -> Result<(), Fail> {
+    let mark = Instr::PrmPush {
+        base: 31,
+        off: 2,
+        cells: 6,
+        split: 1,
+    };
+    let cases = [
+        (mark, Op::PrmPush(31, 2, 6, 1)),
+        (Instr::PrmPop { base: 31, off: 2 }, Op::PrmPop(31, 2)),
+        (Instr::PrmDrop, Op::Leave),
+    ];
+    for (instr, op) in cases {
+        assert_eq!(rt; first_op(rt.alloc(), &[instr], Term::Halt)?, Some(op));
     }
     Ok(())
 }

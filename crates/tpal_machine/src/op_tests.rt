@@ -1,0 +1,284 @@
+// Codes whose instructions stand together in ops: what these do, and the faults between them.
+
+ghost use Rattle.std.specs.Prelude.{◌≤◌};
+ghost use Rattle.tpal_machine.specs.Belonging.{RunsOn};
+
+use crate::tests::{Ground, ONE_CELL, ROWS, code_of, fault_of, set, tables_of};
+use crate::{Fault, Pace, Task, Turn, run_task};
+use std::alloc::Global;
+use std::test::Fail;
+use tp_value::{NoMemory, Outcome};
+use tpal_syntax::{Alu, Code, Instr, Term, Value};
+
+const fn load(to: u8, off: u16) -> Instr {
+    Instr::Load { to, base: 31, off }
+}
+
+const fn calc(to: u8, left: u8, alu: Alu, right: Value) -> Instr {
+    Instr::Calc {
+        to,
+        left,
+        alu,
+        right,
+    }
+}
+
+#[test]
+fn each_of_several_faults_at_its_place(rt: HostRuntime) -> Result<(), Fail> {
+    let test = Instr::IfJump { test: 1, label: 5 };
+    let size = calc(1, 1, Alu::Le, Value::Reg(9));
+    let sign = calc(1, 1, Alu::Lt, Value::Int(0));
+    let sum = calc(1, 1, Alu::Add, Value::Int(1));
+    let store = Instr::Store {
+        base: 31,
+        off: 0,
+        value: Value::Reg(1),
+    };
+    let cases: [([Instr; 4], (Fault, u32, u32)); 6] = [
+        (
+            [ONE_CELL, Instr::Rows { to: 1, table: 0 }, size, test],
+            (Fault::NotInt, 0, 2),
+        ),
+        (
+            [ONE_CELL, Instr::Cols { to: 1, table: 0 }, size, test],
+            (Fault::NotInt, 0, 2),
+        ),
+        (
+            [ONE_CELL, calc(1, 2, Alu::Min, Value::Reg(31)), sign, test],
+            (Fault::NotInt, 0, 1),
+        ),
+        (
+            [ONE_CELL, load(1, 0), load(2, 1), test],
+            (Fault::OutOfRange, 0, 2),
+        ),
+        ([ONE_CELL, load(1, 0), sum, store], (Fault::NotInt, 0, 2)),
+        (
+            [ONE_CELL, calc(1, 31, Alu::Lt, Value::Reg(2)), test, test],
+            (Fault::NotInt, 0, 1),
+        ),
+    ];
+    for (main, wanted) in cases {
+        assert_eq!(rt;
+            fault_of(rt.alloc(), Ground::Zero, &main, Term::Halt, &[])?,
+            Some(wanted)
+        );
+    }
+    Ok(())
+}
+
+const fn store(off: u16, value: Value) -> Instr {
+    Instr::Store {
+        base: 31,
+        off,
+        value,
+    }
+}
+
+const fn test(test: u8) -> Instr {
+    Instr::IfJump { test, label: 5 }
+}
+
+const PACE: Pace = Pace {
+    heartbeat: 1_000,
+    allowed: false,
+};
+
+// How a task ends a run in turns of so many instructions, at most so many turns; how many
+// instructions that took.
+fn ending_of(task: Task, code: &Code, budget: u32, turns: u8, steps: u64) -> Option<(u64, Outcome)>
+    requires belongs { RunsOn code.now task }
+    requires budget { 1 ≤ budget }
+{
+    if turns == 0 {
+        return None;
+    }
+    let ran = run_task(task, code, PACE, budget);
+    let steps = steps.wrapping_add(ran.steps);
+    match ran.turn {
+        Turn::Pause(next) => ending_of(next, code, budget, turns - 1, steps),
+        Turn::Halted(outcome) => Some((steps, outcome)),
+        Turn::NeedRecord(_)
+        | Turn::Forked {
+            left: _,
+            rest: _,
+            child: _,
+            rec: _,
+        }
+        | Turn::Arrived {
+            rec: _,
+            side: _,
+            out: _,
+        }
+        | Turn::Stuck {
+            fault: _,
+            block: _,
+            at: _,
+        }
+        | Turn::NoMemory => None,
+    }
+}
+
+// The same of a code with this main.
+fn ended(
+    alloc: Global,
+    main: &[Instr],
+    end: Term,
+    budget: u32,
+) -> Result<Option<(u64, Outcome)>, NoMemory>
+    requires { 1 ≤ budget }
+{
+    match code_of(alloc, ROWS, main, end, &[], Term::Halt)? {
+        None => Ok(None),
+        Some(code) => {
+            let task = Task::first(alloc, &code, tables_of(alloc)?, 100)?;
+            Ok(ending_of(task, &code, budget, 60, 0))
+        }
+    }
+}
+
+// A read or a write of the cell whose place registers 3 and 4 have, with the test of that.
+const fn access(last: Instr) -> [Instr; 16] {
+    [
+        set(1, 7),
+        set(2, 8),
+        set(3, 1),
+        set(4, 0),
+        set(6, 9),
+        Instr::Tick,
+        calc(5, 3, Alu::Min, Value::Reg(4)),
+        calc(5, 5, Alu::Lt, Value::Int(0)),
+        test(5),
+        Instr::Rows { to: 5, table: 0 },
+        calc(5, 5, Alu::Le, Value::Reg(3)),
+        test(5),
+        Instr::Cols { to: 5, table: 0 },
+        calc(5, 5, Alu::Le, Value::Reg(4)),
+        test(5),
+        last,
+    ]
+}
+
+const FETCH: Instr = Instr::Fetch {
+    to: 1,
+    table: 0,
+    row: 3,
+    col: 4,
+};
+
+const PUT: Instr = Instr::Put {
+    table: 0,
+    row: 3,
+    col: 4,
+    value: 6,
+};
+
+const TO_BOTH: Term = Term::Jump(Value::Label(5));
+
+// A turn that has steps enough executes ops; in turns of one instruction each is executed alone.
+#[test]
+fn ops_do_what_their_instructions_do(rt: HostRuntime) -> Result<(), Fail> {
+    let alloc = rt.alloc();
+    let cells = [
+        Instr::Salloc(4),
+        store(0, Value::Int(5)),
+        load(1, 0),
+        store(1, Value::Reg(1)),
+        load(1, 0),
+        calc(1, 1, Alu::Add, Value::Int(3)),
+        store(2, Value::Reg(1)),
+        load(1, 2),
+        calc(1, 1, Alu::Sub, Value::Int(2)),
+        store(3, Value::Reg(1)),
+        load(1, 3),
+        calc(1, 1, Alu::Add, Value::Int(9)),
+        store(3, Value::Reg(1)),
+        load(1, 1),
+        load(2, 3),
+    ];
+    let sums = [
+        Instr::Salloc(3),
+        set(1, 4),
+        set(2, 5),
+        calc(1, 1, Alu::Add, Value::Reg(2)),
+        store(0, Value::Reg(1)),
+        calc(2, 1, Alu::Add, Value::Int(7)),
+        store(1, Value::Reg(2)),
+        calc(1, 2, Alu::Sub, Value::Int(1)),
+        store(2, Value::Reg(1)),
+    ];
+    let turn = [
+        Instr::Salloc(1),
+        set(2, 6),
+        store(0, Value::Int(5)),
+        load(1, 0),
+        calc(1, 1, Alu::Add, Value::Int(1)),
+        store(0, Value::Reg(1)),
+        calc(1, 1, Alu::Lt, Value::Int(7)),
+        test(1),
+    ];
+    let step = [
+        set(1, 7),
+        set(3, 9),
+        calc(1, 1, Alu::Add, Value::Int(1)),
+        calc(2, 1, Alu::Lt, Value::Reg(3)),
+        test(2),
+        calc(1, 1, Alu::Lt, Value::Int(8)),
+        test(1),
+    ];
+    let marks = [
+        Instr::Salloc(2),
+        set(1, 7),
+        set(2, 8),
+        Instr::PrmPush {
+            base: 31,
+            off: 0,
+            cells: 2,
+            split: 2,
+        },
+        Instr::PrmPush {
+            base: 31,
+            off: 1,
+            cells: 2,
+            split: 2,
+        },
+        Instr::PrmPop { base: 31, off: 1 },
+        Instr::PrmPop { base: 31, off: 0 },
+        Instr::Sfree(2),
+        calc(31, 31, Alu::Sub, Value::Int(2)),
+        calc(2, 2, Alu::Add, Value::Int(1)),
+    ];
+    let call = [
+        Instr::Salloc(4),
+        set(1, 7),
+        set(2, 8),
+        store(2, Value::Label(0)),
+        calc(31, 31, Alu::Add, Value::Int(2)),
+    ];
+    let back = [
+        Instr::Salloc(2),
+        set(2, 8),
+        store(0, Value::Int(7)),
+        store(1, Value::Label(5)),
+        load(1, 0),
+        load(3, 1),
+    ];
+    let cases: [(&[Instr], Term, &[u8]); 9] = [
+        (&cells, TO_BOTH, b"5\n15\n1 2\n3 4\n"),
+        (&sums, TO_BOTH, b"15\n16\n1 2\n3 4\n"),
+        (&turn, TO_BOTH, b"1\n6\n1 2\n3 4\n"),
+        (&step, TO_BOTH, b"8\n1\n1 2\n3 4\n"),
+        (&marks, TO_BOTH, b"7\n9\n1 2\n3 4\n"),
+        (&call, TO_BOTH, b"7\n8\n1 2\n3 4\n"),
+        (&back, Term::Jump(Value::Reg(3)), b"7\n8\n1 2\n3 4\n"),
+        (&access(FETCH), TO_BOTH, b"3\n8\n1 2\n3 4\n"),
+        (&access(PUT), TO_BOTH, b"7\n8\n1 2\n9 4\n"),
+    ];
+    for (main, end, wanted) in cases {
+        let (steps, outcome) = ended(alloc, main, end, 100)?.expect(&rt, "an end");
+        assert_eq!(rt; outcome.output.items(), wanted);
+        let (alone, slowly) = ended(alloc, main, end, 1)?.expect(&rt, "an end");
+        assert_eq!(rt; slowly.output.items(), wanted);
+        assert_eq!(rt; alone, steps);
+    }
+    Ok(())
+}
