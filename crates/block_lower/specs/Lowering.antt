@@ -55,7 +55,7 @@ use Rattle.block_lower.specs.LeafMarked.{IsLeafAt, leaf_turn}
 use Rattle.block_lower.specs.Marked.{length_test, marked_begin, unmark, side_test, IsQuietSite}
 use Rattle.block_lower.specs.Names.{Sees, SeesAs, StandFor}
 use Rattle.block_lower.specs.Pairs.{IsPair, call_enters, call_site, pair_begins, pair_joined}
-use Rattle.block_lower.specs.Pairs.{second_call}
+use Rattle.block_lower.specs.Pairs.{passed_call, second_call}
 use Rattle.block_lower.specs.Quiet.{list_is_quiet}
 use Rattle.block_lower.specs.Round.{Round}
 use Rattle.block_lower.specs.Sites.{rows_from}
@@ -502,6 +502,12 @@ abbrev pub WritesJoined : Body → Target → ℕ → Output → Output → Type
 WritesJoined on target back old new =
     (code : Listing) (tables : List (List ℕ)) → Stands code new
     → Continues code old (pair_joined code (activation on tables) target.size) (to back)
+
+-- the second of two calls was written from its arguments on, and its block closed
+abbrev pub WritesPassedCall : Body → ℕ → Target → ℕ → Output → Output → Type 0
+WritesPassedCall on many target back old new =
+    (code : Listing) (tables : List (List ℕ)) → Stands code new
+    → Continues code old (passed_call code (activation on tables) many back) (to target.label)
 
 -- the second of two calls was written, and its block closed
 abbrev pub WritesSecond : Body → ℕ → Target → ℕ → Output → Output → Type 0

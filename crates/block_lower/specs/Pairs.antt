@@ -1,6 +1,6 @@
 -- The code of two calls that can be cut: the second one goes to a child where a beat comes while
 -- the first one runs.
-use Rattle.std.specs.Prelude.{◌≡◌, ℕ, zero, suc, ◌+◌, pos, List, [], ◌∷◌}
+use Rattle.std.specs.Prelude.{◌≡◌, ℕ, zero, suc, ◌+◌, pos, cond, nat_eq, List, [], ◌∷◌, ◌++◌}
 use Rattle.tp_value.specs.declared.Place.{Place}
 use Rattle.tp_value.specs.declared.TrapKind.TheVariants.{Deep}
 use Rattle.tpal_syntax.specs.declared.instructions.Alu.TheVariants.{Add, Sub}
@@ -37,6 +37,18 @@ call_given by size back more =
 abbrev pub call_enters : ℕ → List Instr
 call_enters size = instr.Calc base_register base_register Add (value.Int (pos size)) ∷ []
 
+-- behind the first call, where the second wasn't cut off: the caller's activation, of so many
+-- cells, runs again, the mark in a cell goes, and the value is kept in one; the callee's cells stay
+abbrev pub first_exit : ℕ → ℕ → ℕ → List Instr → List Instr
+first_exit size mark kept more =
+    instr.Calc base_register base_register Sub (value.Int (pos size))
+    ∷ instr.PrmPop base_register mark ∷ store kept (value.Reg 0) ∷ more
+
+-- The activation of a function that returned becomes that of another. Where both have as many cells
+-- these stay: nobody reads a cell of an activation before it is set.
+abbrev pub fitted : ℕ → ℕ → List Instr
+fitted size other = cond (nat_eq size other) [] (instr.Sfree size ∷ instr.Salloc other ∷ [])
+
 -- The code of the statements of main, or of a function, that stands on this.
 module _ (code : Listing) (act : Activation) where
   -- The first call of a pair, whose arguments stand in its activation: a tick, its levels and its
@@ -48,12 +60,16 @@ module _ (code : Listing) (act : Activation) where
       (instr.PrmPush base_register site.mark site.cells site.label ∷ instr.IfJump 0 go
       ∷ instr.Trap Deep place ∷ [])
 
-  -- the second call of a pair, whose so many arguments are kept; a level is left, as one was before
-  abbrev pub second_call : ℕ → ℕ → ℕ → List Instr
-  second_call many size back =
-      instr.Salloc size
-      ∷ passed code act many 0
+  -- the second call of a pair, whose so many arguments are kept, where the cells of its activation
+  -- are there; a level is left, as one was before
+  abbrev pub passed_call : ℕ → ℕ → List Instr
+  passed_call many back =
+      passed code act many 0
       (instr.Tick ∷ load 0 levels_cell ∷ call_given 0 act.size back (call_enters act.size))
+
+  -- the same, where its activation is made first
+  abbrev pub second_call : ℕ → ℕ → ℕ → List Instr
+  second_call many size back = instr.Salloc size ∷ passed_call many back
 
   -- behind the join of both sides, whose values are in registers 0 and 1, all is as it is where the
   -- second call returns
@@ -94,8 +110,7 @@ module _ (code : Listing) (act : Activation) where
         (second_call many second.size (child_end_label site.label))
         (to second.label)
     pub after : Opens code between
-        (call_exit first.size act.size
-        (instr.PrmPop base_register site.mark ∷ store (kept_cell act kept_value) (value.Reg 0)
-        ∷ second_call many second.size return))
+        (first_exit act.size site.mark (kept_cell act kept_value)
+        (fitted first.size second.size ++ passed_call many return))
         (to second.label)
     pub behind : Opens code return (call_exit second.size act.size more) last

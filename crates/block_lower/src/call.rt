@@ -22,7 +22,7 @@ ghost use Rattle.block_lower.specs.Layout.{kept_by_both, kept_value, levels_cell
 ghost use Rattle.block_lower.specs.Layout.{value_cell};
 ghost use Rattle.block_lower.specs.Lowering.{Lowers, WritesArguments, WritesBothArguments};
 ghost use Rattle.block_lower.specs.Lowering.{WritesPassed, WritesCall, WritesFirst, WritesJoined};
-ghost use Rattle.block_lower.specs.Lowering.{WritesSecond, WritesPair, pair_site};
+ghost use Rattle.block_lower.specs.Lowering.{WritesPassedCall, WritesSecond, WritesPair, pair_site};
 ghost use Rattle.block_lower.specs.Pairs as pairs;
 ghost use Rattle.block_lower.specs.Sizes as sizes;
 ghost use Rattle.block_lower.specs.Writing as writing;
@@ -368,8 +368,27 @@ impl Lowering {
         Ok(())
     }
 
-    /// The second of two calls, whose so many arguments are kept, with its label to return to. A
-    /// level of calls is left, as one was for the first.
+    /// The second of two calls, whose so many arguments are kept, with its label to return to. The
+    /// cells of its activation are there. A level of calls is left, as one was for the first.
+    fn push_passed_call(&mut self, count: u16, target: Target, back: u32) -> Result<(), NoMemory>
+        requires labels { writing.next_label self.old.out ≤ MAX_BLOCKS }
+        requires room { HasRoomFor self.old.on kept_by_both }
+        requires few { count ≤ MAX_PARAMETERS }
+        ensures labels { OnOk result
+            (writing.next_label self.new.out ≡ writing.next_label self.old.out + 1) }
+        ensures fresh { OnOk result (IsFresh self.new.out) }
+        ensures code { OnOk result
+            (WritesPassedCall self.old.on count target back self.old.out self.new.out) }
+        ensures on { OnOk result (self.new.on ≡ self.old.on) }
+        ensures scope { OnOk result (self.new.scope ≡ self.old.scope) }
+    {
+        self.passed(count)?;
+        self.push_tick()?;
+        self.push_entry(target.label, back)?;
+        Ok(())
+    }
+
+    /// The same, where its activation is made first.
     fn push_second(&mut self, count: u16, target: Target, back: u32) -> Result<(), NoMemory>
         requires labels { writing.next_label self.old.out ≤ MAX_BLOCKS }
         requires room { HasRoomFor self.old.on kept_by_both }
@@ -383,20 +402,17 @@ impl Lowering {
         ensures scope { OnOk result (self.new.scope ≡ self.old.scope) }
     {
         self.push(Instr::Salloc(target.size))?;
-        self.passed(count)?;
-        self.push_tick()?;
-        self.push_entry(target.label, back)?;
+        self.push_passed_call(count, target, back)?;
         Ok(())
     }
 
-    /// Behind the first of two calls, where the second wasn't cut off: the mark goes, and the value
-    /// is kept.
-    fn push_between(&mut self, first: Target, site: &CallSite) -> Result<(), NoMemory>
+    /// Behind the first of two calls, where the second wasn't cut off: the caller's activation runs
+    /// again, the mark goes, and the value is kept.
+    fn push_between(&mut self, site: &CallSite) -> Result<(), NoMemory>
         requires room { HasRoomFor self.old.on kept_by_both }
         ensures pushed { OnOk result
-            (Pushes (codes.call_exit first.size self.old.on.size
-            (Instr.PrmPop base_register site.now.mark
-            ∷ codes.store (value_cell self.old.on.most + kept_value) (Value.Reg 0) ∷ []))
+            (Pushes (pairs.first_exit self.old.on.size site.now.mark
+            (value_cell self.old.on.most + kept_value) [])
             self.old.out self.new.out) }
         ensures labels { OnOk result
             (writing.next_label self.new.out ≡ writing.next_label self.old.out) }
@@ -404,9 +420,26 @@ impl Lowering {
         ensures scope { OnOk result (self.new.scope ≡ self.old.scope) }
     {
         let kept = self.kept_cell(KEPT_VALUE);
-        self.push_exit(first)?;
+        self.push_move(Alu::Sub)?;
         self.pop_mark(site.mark)?;
         self.store(kept, Value::Reg(0))?;
+        Ok(())
+    }
+
+    /// The activation of a function that returned becomes another's: its cells stay where both have
+    /// as many.
+    fn push_fitted(&mut self, first: Target, second: Target) -> Result<(), NoMemory>
+        ensures pushed { OnOk result
+            (Pushes (pairs.fitted first.size second.size) self.old.out self.new.out) }
+        ensures labels { OnOk result
+            (writing.next_label self.new.out ≡ writing.next_label self.old.out) }
+        ensures on { OnOk result (self.new.on ≡ self.old.on) }
+        ensures scope { OnOk result (self.new.scope ≡ self.old.scope) }
+    {
+        if first.size != second.size {
+            self.push(Instr::Sfree(first.size))?;
+            self.push(Instr::Salloc(second.size))?;
+        }
         Ok(())
     }
 
@@ -436,8 +469,9 @@ impl Lowering {
         self.push_call_handler(&site)?;
         self.push_joined(second, last)?;
         self.push_second(count, second, child_end_label(site.label))?;
-        self.push_between(first, &site)?;
-        self.push_second(count, second, last)?;
+        self.push_between(&site)?;
+        self.push_fitted(first, second)?;
+        self.push_passed_call(count, second, last)?;
         self.push_exit(second)?;
         Ok(())
     }

@@ -1,9 +1,10 @@
 -- Behind the first function of a pair of calls: where no part was cut off the second call is made,
 -- and the left of a cut ends.
-use Rattle.std.proofs.Common.{◌≡◌, ℕ, ◌+◌, ◌-◌, ◌<◌, true, false, List, [], ◌∷◌, length, Some, Ok}
-use Rattle.std.proofs.Common.{refl, sym, ap, subst, ◌∙◌, arith}
-use Rattle.std.specs.Prelude.{ℤ, pos, filter, slice_set}
+use Rattle.std.proofs.Common.{◌≡◌, ℕ, ◌+◌, ◌<◌, Bool, true, false, List, [], ◌∷◌, ◌++◌, length}
+use Rattle.std.proofs.Common.{Some, Ok, refl, sym, ap, subst, ◌∙◌, arith}
+use Rattle.std.specs.Prelude.{ℤ, pos, cond, nat_eq, filter, slice_set}
 use Rattle.std.specs.Ordering.{int_eq}
+use Rattle.std.proofs.lemmas.Bool.{eqb-true}
 use Rattle.std.proofs.lemmas.Bool.Decides.{Decides-int_eq}
 use Rattle.std.proofs.lemmas.List.{length-set}
 use Rattle.beat_count.specs.BeatState.{BeatState}
@@ -33,23 +34,23 @@ use Rattle.handler_gen.specs.Sites.{left_end_label}
 use Rattle.handler_gen.proofs.Marks.{on_prmpop}
 use Rattle.expr_lower.specs.Registers.{base_register}
 use Rattle.handler_gen.proofs.Words.{word_other, word_same, word_there}
-use Rattle.block_lower.specs.Code.{call_exit, store, to}
+use Rattle.block_lower.specs.Code.{store, to}
 use Rattle.block_lower.specs.Layout.{Activation, kept_cell, kept_value, return_cell}
 use Rattle.block_lower.specs.Layout.{value_cell}
-use Rattle.block_lower.specs.Pairs.{second_call}
-use Rattle.block_lower.proofs.Scenes.Activations.{clear_above}
-use Rattle.block_lower.proofs.Forms.Arguments.{AreIn, are_in_same}
+use Rattle.block_lower.specs.Pairs.{first_exit, fitted, passed_call}
+use Rattle.block_lower.proofs.Scenes.Activations.{clear_above, word_popped}
+use Rattle.block_lower.proofs.Forms.Arguments.{AreIn, are_in_same, wider}
 use Rattle.block_lower.proofs.Forms.Called.{back_with, with_value}
-use Rattle.block_lower.proofs.Forms.Callees.{Returns}
-use Rattle.block_lower.proofs.Forms.Calls.{Keeping, also_back, base_less, callee, clear, kept_same}
-use Rattle.block_lower.proofs.Forms.Calls.{shows_back}
+use Rattle.block_lower.proofs.Forms.Callees.{Returns, shows_popped}
+use Rattle.block_lower.proofs.Forms.Calls.{Caller, Keeping, base_less, callee, clear, kept_same}
+use Rattle.block_lower.proofs.Forms.Calls.{shows_below}
 use Rattle.block_lower.proofs.Scenes.Moves.{calm, opened}
 use Rattle.block_lower.proofs.CallPairs.PairPlaces.{Args, CutsOwed, KeptIn, PairAt, Waiting, Worlds}
 use Rattle.block_lower.proofs.CallPairs.PairPlaces.{kept}
-use Rattle.block_lower.proofs.CallPairs.PairPlaces.{next_in, first_call, scene_in}
+use Rattle.block_lower.proofs.CallPairs.PairPlaces.{next_in, scene_in}
 use Rattle.block_lower.proofs.CallPairs.PairPromises.{side_ends}
-use Rattle.block_lower.proofs.CallPairs.PairScenes.{clear_first}
 use Rattle.block_lower.proofs.CallPairs.PairSeconds.{CalledAt, FunctionOwed, calls_second}
+use Rattle.block_lower.proofs.CallPairs.PairSeconds.{passes_second}
 use Rattle.block_lower.proofs.Scenes.Pieces.{Apart, Host}
 use Rattle.block_lower.proofs.QuietPars.QuietEnds.{not_at, unmarked_is}
 use Rattle.block_lower.proofs.Scenes.Results.{fin, result, then}
@@ -173,9 +174,6 @@ module _ {code : Listing} {heartbeat z : ℕ} {act : Activation} (q : PairAt cod
           abbrev words : List Word
           words = slice_set state.registers 31 (word.Int (pos z))
 
-          abbrev stack : StackValue
-          stack = popped bare q.first.size
-
           many : length words ≡ 32
           many = length-set state.registers 31 (word.Int (pos z)) ∙ shows.size
 
@@ -187,124 +185,163 @@ module _ {code : Listing} {heartbeat z : ℕ} {act : Activation} (q : PairAt cod
               register_other state.registers 31 0 (word.Int (pos z))
               (λ (e : 0 ≡ 31). absurd (omega (arith, e))) ∙ is
 
-          shows_caller : Shows code heartbeat z act q.fuel q.S w.world q.names
-              (back_with w.state.vars st) words stack state.tables state.fuel state.output state.goal
+          -- it shows the caller's state, below the cells of the first function
+          shows_caller : Shows code heartbeat z (wider act q.first.size) q.fuel q.S w.world q.names
+              (back_with w.state.vars st) words bare state.tables state.fuel state.output state.goal
               (state.pending, state.met)
           shows_caller =
-              shows_back code heartbeat z act q.fuel q.S q.names q.lowest q.has_room (Args q) (kept q)
-              (next_in q) q.k q.room q.code_is.between q.first w bare kept_there shows.top most
+              shows_below code heartbeat z act q.fuel q.S q.names q.lowest q.has_room (Args q)
+              (kept q) (next_in q) q.k q.room q.code_is.between q.first w bare kept_there shows.top most
               names_in st state.registers words state.tables state.fuel state.output state.goal
               (state.pending, state.met) shows_bare many base
-
-          are_kept : AreIn stack z (kept_cell act) 0 w.value.kept_numbers
-          are_kept = also_back code heartbeat z act q.fuel q.S q.names q.lowest q.has_room (Args q)
-              (kept q) (next_in q) q.k q.room q.code_is.between q.first w bare kept_there shows.top
 
           -- ---- its instructions
 
           abbrev end : Term
           end = to q.second.label
 
+          abbrev call : List Instr
+          call = passed_call code act q.second.parameters q.code_is.return
+
           abbrev last : List Instr
-          last = second_call code act q.second.parameters q.second.size q.code_is.return
+          last = fitted q.first.size q.second.size ++ call
 
           one : Remains code q.code_is.between 0
-              (call_exit q.first.size act.size
-              (instr.PrmPop base_register q.site.mark
-              ∷ store (kept_cell act kept_value) (value.Reg 0) ∷ last)) end
+              (first_exit act.size q.site.mark (kept_cell act kept_value) last) end
           one = opened code q.code_is.between _ end q.code_is.after
 
           two : Remains code q.code_is.between (0 + 1)
-              (instr.Calc base_register base_register alu.Sub (value.Int (pos act.size))
-              ∷ instr.PrmPop base_register q.site.mark
+              (instr.PrmPop base_register q.site.mark
               ∷ store (kept_cell act kept_value) (value.Reg 0) ∷ last) end
           two = behind code q.code_is.between 0 _ _ end one
 
           three : Remains code q.code_is.between (0 + 1 + 1)
-              (instr.PrmPop base_register q.site.mark
-              ∷ store (kept_cell act kept_value) (value.Reg 0) ∷ last) end
+              (store (kept_cell act kept_value) (value.Reg 0) ∷ last) end
           three = behind code q.code_is.between (0 + 1) _ _ end two
 
-          four : Remains code q.code_is.between (0 + 1 + 1 + 1)
-              (store (kept_cell act kept_value) (value.Reg 0) ∷ last) end
-          four = behind code q.code_is.between (0 + 1 + 1) _ _ end three
+          four : Remains code q.code_is.between (0 + 1 + 1 + 1) last end
+          four = behind code q.code_is.between (0 + 1 + 1) _ last end three
 
           -- ---- its tasks
 
-          abbrev freed : machine.State
-          freed = effect.with_stack (advanced there_again) (popped state.stack q.first.size)
-
           abbrev lowered : machine.State
-          lowered = with_register (advanced freed) 31 (word.Int (pos z))
+          lowered = with_register (advanced there_again) 31 (word.Int (pos z))
 
           abbrev unset : machine.State
-          unset = effect.with_stack (advanced lowered) stack
+          unset = effect.with_stack (advanced lowered) bare
 
-          abbrev kept_stack : StackValue
-          kept_stack = with_word stack (pos (z + kept_cell act kept_value)) (word.Int v)
+          abbrev stack : StackValue
+          stack = with_word bare (pos (z + kept_cell act kept_value)) (word.Int v)
 
           abbrev stored : machine.State
-          stored = effect.with_stack (advanced unset) kept_stack
+          stored = effect.with_stack (advanced unset) stack
 
-          inside : z + kept_cell act kept_value < stack.base + length stack.cells
+          abbrev freed : machine.State
+          freed = effect.with_stack (advanced stored) (popped stack q.first.size)
+
+          inside : z + kept_cell act kept_value < bare.base + length bare.cells
           inside = omega (arith, shows_caller.top, q.fits)
 
-          -- the second call, where the first one's value is kept
-          goes_second : K.Holds stored
-          goes_second =
-              calls_second code heartbeat z act q.fuel q.S q.names q.lowest q.has_room q.low
-              FirstValue
-              kept_first next_second q.k q.room q.code_is.return q.levels q.few q.p.funcs.items q.g
-              q.second there owed
-              (record {
-                world = w.world;
-                state = back_with w.state.vars st;
-                value = record { value = v; fits = fits_v };
-                named = w.named;
-                few = w.few;
-                tall = w.tall;
-              }) stored q.second.parameters w.value.kept_numbers w.value.kept_many refl q.eight q.fits
-              q.high
-              (shows_new code heartbeat z act q.fuel q.S w.world shows_caller
-              (kept_cell act kept_value) (word.Int v) (omega (arith, w.few)) q.lowest)
-              (are_in_same stack kept_stack z (kept_cell act) 0 w.value.kept_numbers
-              (λ j from below. word_other stack (z + kept_cell act kept_value) (z + kept_cell act j)
-              (word.Int v) (omega (arith, shows_caller.low))
-              (λ e. absurd (omega (arith, e, below, w.value.kept_many, q.eight)))) are_kept)
-              (word_same stack (z + kept_cell act kept_value) (word.Int v)
-              (omega (arith, shows_caller.low)) inside)
-              (behind code q.code_is.between (0 + 1 + 1 + 1) _ last end four)
+          -- ---- the second call, where the first one's value is kept
 
-          clear_there : is_marked_from state.stack.marks
-              (state.stack.base + (length state.stack.cells - q.first.size)) ≡ false
-          clear_there =
-              let top : z + act.size ≡ state.stack.base + (length state.stack.cells - q.first.size) =
-              omega (arith, shows.top, shows.low) in
-              subst (λ (a : ℕ). is_marked_from state.stack.marks a ≡ false) top
-              (subst (λ (ms : List Mark). is_marked_from ms (z + act.size) ≡ false) (sym shows.marked)
-              (clear_first code heartbeat z act q.fuel q.S q.names q.lowest q.has_room (Args q)
-              (kept q) (next_in q) q.k q.room q.code_is.between q.site q.mark_is q.fits (first_call q)
-              q.modes
-              (Host w) (z + act.size) (omega arith)))
+          abbrev caller : Caller code heartbeat z act q.fuel q.S q.names FirstValue
+          caller = record {
+            world = w.world;
+            state = back_with w.state.vars st;
+            value = record { value = v; fits = fits_v };
+            named = w.named;
+            few = w.few;
+            tall = w.tall;
+          }
+
+          shows_stored : ShowsIn code heartbeat z (wider act q.first.size) q.fuel q.S w.world
+              q.names caller.state stored
+          shows_stored =
+              shows_new code heartbeat z (wider act q.first.size) q.fuel q.S w.world shows_caller
+              (kept_cell act kept_value) (word.Int v) (omega (arith, w.few)) q.lowest
+
+          are_stored : AreIn stack z (kept_cell act) 0 w.value.kept_numbers
+          are_stored =
+              are_in_same bare stack z (kept_cell act) 0 w.value.kept_numbers
+              (λ j from below. word_other bare (z + kept_cell act kept_value) (z + kept_cell act j)
+              (word.Int v) (omega (arith, shows_caller.low))
+              (λ e. absurd (omega (arith, e, below, w.value.kept_many, q.eight)))) kept_there.also
+
+          value_stored : kept_first.Holds caller.value stack
+          value_stored =
+              word_same bare (z + kept_cell act kept_value) (word.Int v)
+              (omega (arith, shows_caller.low)) inside
+
+          -- in the cells of the first function, where the second has as many
+          goes_in_place : q.first.size ≡ q.second.size
+              → Remains code q.code_is.between (0 + 1 + 1 + 1) call end → K.Holds stored
+          goes_in_place as_many here =
+              passes_second code heartbeat z act q.fuel q.S q.names q.lowest q.has_room q.low
+              FirstValue kept_first next_second q.k q.room q.code_is.return q.levels q.few
+              q.p.funcs.items q.g q.second there owed caller stored q.second.parameters
+              w.value.kept_numbers w.value.kept_many refl q.eight q.fits
+              (subst (λ (n : ℕ). ShowsIn code heartbeat z (wider act n) q.fuel q.S w.world q.names
+              caller.state stored) as_many shows_stored)
+              are_stored value_stored here
+
+          clear_stored : is_marked_from stack.marks (z + act.size) ≡ false
+          clear_stored =
+              subst (λ (ms : List Mark). is_marked_from ms (z + act.size) ≡ false) (sym marks_are)
+              (clear code heartbeat z act q.fuel q.S q.names q.lowest q.has_room (Args q) (kept q)
+              (next_in q) q.k q.room q.code_is.between w (z + act.size) (omega arith))
+
+          as_before : (a : ℕ) → a < z + act.size
+              → word_at (popped stack q.first.size) (pos a) ≡ word_at stack (pos a)
+          as_before a below =
+              word_popped stack q.first.size a
+              (omega (arith, below, shows_stored.top, shows_stored.low))
+
+          -- in others
+          goes_anew : Remains code q.code_is.between (0 + 1 + 1 + 1)
+              (instr.Sfree q.first.size ∷ instr.Salloc q.second.size ∷ call) end → K.Holds stored
+          goes_anew here =
+              on_sfree code heartbeat K stored q.first.size (next code stored _ _ end here)
+              (omega (arith, shows_stored.top, shows_stored.low))
+              (subst (λ (a : ℕ). is_marked_from stack.marks a ≡ false)
+              (omega (arith, shows_stored.top, shows_stored.low)) clear_stored)
+              (calls_second code heartbeat z act q.fuel q.S q.names q.lowest q.has_room q.low
+              FirstValue kept_first next_second q.k q.room q.code_is.return q.levels q.few
+              q.p.funcs.items q.g q.second there owed caller freed q.second.parameters
+              w.value.kept_numbers w.value.kept_many refl q.eight q.fits q.high
+              (shows_popped code heartbeat z act q.first.size q.fuel q.S w.world q.names q.lowest
+              caller.state q.has_room w.tall clear_stored shows_stored)
+              (are_in_same stack freed.stack z (kept_cell act) 0 w.value.kept_numbers
+              (λ j from below. as_before (z + kept_cell act j)
+              (omega (arith, below, w.value.kept_many, q.eight, q.fits))) are_stored)
+              (kept_first.same w.few caller.value stack freed.stack
+              (λ a from below. as_before a below) value_stored)
+              (behind code q.code_is.between (0 + 1 + 1 + 1) _ _ end here))
+
+          goes_second : K.Holds stored
+          goes_second = by_size (nat_eq q.first.size q.second.size) refl four
+            where
+              by_size : (same : Bool) → nat_eq q.first.size q.second.size ≡ same
+                  → Remains code q.code_is.between (0 + 1 + 1 + 1)
+                  (cond same [] (instr.Sfree q.first.size ∷ instr.Salloc q.second.size ∷ [])
+                  ++ call) end
+                  → K.Holds stored
+              by_size true e here = goes_in_place (eqb-true q.first.size q.second.size e) here
+              by_size false e here = goes_anew here
 
           host_returns : K.Holds there_again
           host_returns =
-              on_sfree code heartbeat K there_again q.first.size (next code there_again _ _ end one)
-              (omega (arith, shows.top, shows.low)) clear_there
-              (on_calc code heartbeat K freed 31 31 alu.Sub (value.Int (pos act.size))
-              (word.Int (pos z)) (next code freed _ _ end two)
+              on_calc code heartbeat K there_again 31 31 alu.Sub (value.Int (pos act.size))
+              (word.Int (pos z)) (next code there_again _ _ end one)
               (rw shows.base (ap (λ m. Ok (word.Int m)) (base_less z act.size q.low)))
               (on_prmpop code heartbeat K lowered 31 q.site.mark (pos z) _
-              (next code lowered _ _ end three) base
-              (word_there (popped state.stack q.first.size) place
-              (omega (arith, shows_caller.low))
+              (next code lowered _ _ end two) base
+              (word_there state.stack place (omega (arith, shows_caller.low))
               (omega (arith, shows_caller.top, q.mark_is, q.fits)))
-              (stores_in code heartbeat z act q.fuel K unset (kept_cell act kept_value) (value.Reg 0)
-              _
-              end four base shows_caller.low inside
+              (stores_in code heartbeat z act q.fuel K unset (kept_cell act kept_value)
+              (value.Reg 0) _ end three base shows_caller.low inside
               (subst (λ (x : Word). K.Holds (effect.with_stack (advanced unset)
-              (with_word stack (pos (z + kept_cell act kept_value)) x))) (sym value_there)
-              goes_second))))
+              (with_word bare (pos (z + kept_cell act kept_value)) x))) (sym value_there)
+              goes_second)))
 
         -- ---- both worlds
 

@@ -4,7 +4,7 @@ use Rattle.std.proofs.Common.{sym, ap, subst, ◌∙◌, arith}
 use Rattle.std.specs.Prelude.{ℤ, pos, slice_set}
 use Rattle.std.proofs.lemmas.List.{length-map, length-set}
 use Rattle.beat_count.specs.Ticks.{ticked}
-use Rattle.stack_marks.specs.Stacks.{pushed}
+use Rattle.stack_marks.specs.Stacks.{pushed, word_at}
 use Rattle.tp_value.specs.declared.limits.TheConstants.{MAX_CALL_DEPTH, MAX_PARAMETERS}
 use Rattle.loop_syntax.specs.declared.Func.{Func}
 use Rattle.loop_syntax.specs.declared.Name.{Name}
@@ -31,7 +31,7 @@ use Rattle.block_lower.specs.Code.{Opens, load, passed, to}
 use Rattle.block_lower.specs.Layout.{Activation, Entry, kept_by_both, kept_cell, levels_cell}
 use Rattle.block_lower.specs.Layout.{value_cell}
 use Rattle.block_lower.specs.Main.{HasRoom}
-use Rattle.block_lower.specs.Pairs.{call_enters, call_given, second_call}
+use Rattle.block_lower.specs.Pairs.{call_enters, call_given, passed_call, second_call}
 use Rattle.block_lower.proofs.Forms.Arguments.{AreIn, are_in_same, passed_law, wider}
 use Rattle.block_lower.proofs.Forms.Called.{body_set, enter_is, entered_with, open_call, value_then}
 use Rattle.block_lower.proofs.Forms.Callees.{cell_pushed, shows_pushed}
@@ -173,7 +173,51 @@ module _ (code : Listing) (heartbeat z : ℕ) (act : Activation) (fuel : ℕ)
             is_left = register_set c.task.registers 0 (word.Int (pos S.levels))
                 (omega (arith, c.shows.size)) ∙ ap (λ n. word.Int (pos n)) levels
 
-    -- from its activation on: the arguments are kept in the caller's
+    -- from its arguments on, which are kept in the caller's activation
+    pub passes_second : (w : Waiting) (task : machine.State) (many : ℕ) (ms : List ℤ)
+        → length ms ≡ many → many ≡ entry.parameters → many ≤ MAX_PARAMETERS
+        → kept_cell act kept_by_both ≤ act.size
+        → ShowsIn code heartbeat z (wider act entry.size) fuel S w.world names w.state task
+        → AreIn task.stack z (kept_cell act) 0 ms → kept.Holds w.value task.stack
+        → Remains code task.block task.at (passed_call code act many back) (to entry.label)
+        → (S.owing w.world (then (result (with_call (call_at fs fuel (suc room) g.text.items g.place
+        ms [] w.state) (next_in w.value))) k)).Holds task
+    passes_second w task many ms as_many arity eight room_kept shows are also stands =
+        passed_law code heartbeat z act entry.size fuel S w.world names lowest w.state K ms 0 rest
+        (to entry.label) task shows here above are
+        (λ p lt. omega (arith, lt, as_many, eight, room_kept))
+        (λ p lt. omega (arith, lt, as_many, arity, there.arity, there.params, there.has_room.room))
+        (λ last shows_last stored left.
+        enters_second w (record {
+          task = last;
+          numbers = ms;
+          shows = shows_last;
+          many = as_many ∙ arity;
+          stored = stored.are;
+          also = kept.same shows.few w.value task.stack last.stack
+              (λ c from below. stored.others c
+              (λ j low_j high_j q. absurd (omega (arith, q, below)))) also;
+        }) left)
+      where
+        K : Back code heartbeat
+        K =
+            S.owing w.world (then (result (with_call (call_at fs fuel (suc room) g.text.items
+            g.place
+            ms [] w.state) (next_in w.value))) k)
+
+        rest : List Instr
+        rest = instr.Tick ∷ load 0 levels_cell ∷ call_given 0 act.size back (call_enters act.size)
+
+        here : Remains code task.block task.at (passed code act (length ms) 0 rest) (to entry.label)
+        here =
+            regrouped code task.block task.at (passed code act many 0 rest)
+            (passed code act (length ms) 0 rest) (to entry.label)
+            (ap (λ n. passed code act n 0 rest) (sym as_many)) stands
+
+        above : value_cell (length names) ≤ act.size
+        above = omega (arith, shows.few, has_room.room)
+
+    -- from its activation on
     pub calls_second : (w : Waiting) (task : machine.State) (many : ℕ) (ms : List ℤ)
         → length ms ≡ many → many ≡ entry.parameters → many ≤ MAX_PARAMETERS
         → kept_cell act kept_by_both ≤ act.size
@@ -187,22 +231,13 @@ module _ (code : Listing) (heartbeat z : ℕ) (act : Activation) (fuel : ℕ)
     calls_second w task many ms as_many arity eight room_kept high shows are also stands =
         on_salloc code heartbeat K task entry.size (next code task _ _ (to entry.label) stands)
         (omega (arith, shows.top, high))
-        (passed_law code heartbeat z act entry.size fuel S w.world names lowest w.state K ms 0 rest
-        (to entry.label) one shows_one here_one above are_one
-        (λ p lt. omega (arith, lt, as_many, eight, room_kept))
-        (λ p lt. omega (arith, lt, as_many, arity, there.arity, there.params, there.has_room.room))
-        (λ last shows_last stored left.
-        enters_second w (record {
-          task = last;
-          numbers = ms;
-          shows = shows_last;
-          many = as_many ∙ arity;
-          stored = stored.are;
-          also = kept.same shows.few w.value task.stack last.stack
-              (λ c from below. stored.others c
-              (λ j low_j high_j q. absurd (omega (arith, q, below)))
-              ∙ cell_pushed task.stack entry.size c (omega (arith, below, shows.top))) also;
-        }) left))
+        (passes_second w one many ms as_many arity eight room_kept
+        (shows_pushed code heartbeat z act entry.size fuel S w.world names lowest w.state shows)
+        (are_in_same task.stack one.stack z (kept_cell act) 0 ms
+        (λ j from below. as_before (z + kept_cell act j)
+        (omega (arith, below, as_many, eight, room_kept))) are)
+        (kept.same shows.few w.value task.stack one.stack (λ c from below. as_before c below) also)
+        (behind code task.block task.at _ _ (to entry.label) stands))
       where
         K : Back code heartbeat
         K =
@@ -210,28 +245,9 @@ module _ (code : Listing) (heartbeat z : ℕ) (act : Activation) (fuel : ℕ)
             g.place
             ms [] w.state) (next_in w.value))) k)
 
-        rest : List Instr
-        rest = instr.Tick ∷ load 0 levels_cell ∷ call_given 0 act.size back (call_enters act.size)
-
         one : machine.State
         one = effect.with_stack (advanced task) (pushed task.stack entry.size)
 
-        shows_one : ShowsIn code heartbeat z (wider act entry.size) fuel S w.world names w.state one
-        shows_one = shows_pushed code heartbeat z act entry.size fuel S w.world names lowest w.state
-            shows
-
-        here_one : Remains code task.block (task.at + 1) (passed code act (length ms) 0 rest)
-            (to entry.label)
-        here_one =
-            regrouped code task.block (task.at + 1) (passed code act many 0 rest)
-            (passed code act (length ms) 0 rest) (to entry.label)
-            (ap (λ n. passed code act n 0 rest) (sym as_many))
-            (behind code task.block task.at _ _ (to entry.label) stands)
-
-        above : value_cell (length names) ≤ act.size
-        above = omega (arith, shows.few, has_room.room)
-
-        are_one : AreIn (pushed task.stack entry.size) z (kept_cell act) 0 ms
-        are_one = are_in_same task.stack (pushed task.stack entry.size) z (kept_cell act) 0 ms
-            (λ j low_j high_j. cell_pushed task.stack entry.size (z + kept_cell act j)
-            (omega (arith, high_j, as_many, eight, room_kept, shows.top))) are
+        as_before : (a : ℕ) → a < z + act.size
+            → word_at one.stack (pos a) ≡ word_at task.stack (pos a)
+        as_before a below = cell_pushed task.stack entry.size a (omega (arith, below, shows.top))

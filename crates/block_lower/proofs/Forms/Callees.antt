@@ -5,7 +5,7 @@ use Rattle.std.specs.Prelude.{ℤ, pos}
 use Rattle.beat_count.specs.BeatState.{BeatState}
 use Rattle.beat_count.specs.FuelState.{FuelState}
 use Rattle.slices.specs.Holding.{Holding}
-use Rattle.stack_marks.specs.Stacks.{StackValue, word_at, pushed}
+use Rattle.stack_marks.specs.Stacks.{StackValue, word_at, popped, pushed}
 use Rattle.tp_value.specs.declared.limits.TheConstants.{MAX_CALL_DEPTH, MAX_ACTIVATION_CELLS}
 use Rattle.loop_syntax.specs.declared.Func.{Func}
 use Rattle.loop_syntax.specs.declared.Program.{Program}
@@ -18,14 +18,16 @@ use Rattle.tpal_syntax.specs.declared.words.Word.TheVariants as word
 use Rattle.tpal_syntax.specs.Listing.{Listing}
 use Rattle.tpal_machine.specs.declared.ends.Goal.{Goal}
 use Rattle.tpal_machine.specs.declared.ends.Tie.{Tie}
+use Rattle.tpal_machine.specs.Effect.{is_marked_from}
 use Rattle.tpal_machine.specs.Reading.{register}
 use Rattle.tpal_machine.specs.State as machine
 use Rattle.tpal_machine.proofs.Kit.{IsCalm}
-use Rattle.block_lower.specs.Layout.{return_cell, value_cell, Entry, entry_of, Activation}
+use Rattle.block_lower.specs.Layout.{levels_cell, return_cell, value_cell, Entry, entry_of}
+use Rattle.block_lower.specs.Layout.{Activation}
 use Rattle.block_lower.specs.Main.{HasRoom, FunctionAt, AreFunctions, bare}
 use Rattle.block_lower.specs.Quiet.{functions_are_quiet, list_is_quiet}
 use Rattle.block_lower.proofs.Scenes.Activations.{word_pushed, word_popped, pushed_length}
-use Rattle.block_lower.proofs.Scenes.Activations.{popped_pushed}
+use Rattle.block_lower.proofs.Scenes.Activations.{popped_length, popped_pushed}
 use Rattle.block_lower.proofs.Scenes.Activations.{clear_above}
 use Rattle.block_lower.proofs.Forms.Arguments.{wider}
 use Rattle.block_lower.proofs.Forms.Called.{with_value, value_then, body_set}
@@ -33,7 +35,8 @@ use Rattle.block_lower.proofs.Forms.Choices.{OwedAt}
 use Rattle.block_lower.proofs.Whole.Permitting.{PermitsCall}
 use Rattle.block_lower.proofs.Scenes.Results.{fin, result, then}
 use Rattle.block_lower.proofs.Scenes.Scene.{Scene, Shows, ShowsIn, header}
-use Rattle.block_lower.proofs.Scenes.Variables.{AreHeld}
+use Rattle.block_lower.proofs.Scenes.Showing.{as_many}
+use Rattle.block_lower.proofs.Scenes.Variables.{AreHeld, held_same}
 use Rattle.loop_meaning.specs.declared.value.Variable.{Variable}
 
 -- ---- an activation with more cells on top
@@ -95,6 +98,57 @@ module _ (code : Listing) (heartbeat z : ℕ) where
         })
         h.keeps;
   }
+
+  -- without them again, where no mark stands among them
+  pub shows_popped : (act : Activation) (n fuel : ℕ) (S : Scene code heartbeat z) (i : S.World)
+      (names : List (List ℕ)) (lowest : S.lowest ≤ length names) (st : meaning.State)
+      {words : List Word} {stack : StackValue} {holdings : List Holding} {spent : FuelState}
+      {output : List ℕ} {goal : Goal} {ties : Option Tie × Option Tie}
+      → HasRoom act → S.size ≤ act.size → is_marked_from stack.marks (z + act.size) ≡ false
+      → Shows code heartbeat z (wider act n) fuel S i names st words stack holdings spent output
+      goal ties
+      → Shows code heartbeat z act fuel S i names st words (popped stack n) holdings spent output
+      goal ties
+  shows_popped act n fuel S i names lowest st {stack = stack} has_room tall clear h = record {
+    size = h.size;
+    base = h.base;
+    limit = h.limit;
+    limited = h.limited;
+    tall = tall;
+    ticks = h.ticks;
+    within = h.within;
+    begun = h.begun;
+    printed = h.printed;
+    ends = h.ends;
+    free = h.free;
+    unmet = h.unmet;
+    marked = h.marked;
+    named = h.named;
+    few = h.few;
+    tabled = h.tabled;
+    held = h.held;
+    can = h.can;
+    ranged = h.ranged;
+    levels = same (z + levels_cell) (omega (arith, has_room.room)) ∙ h.levels;
+    unmarked = clear;
+    top = omega (arith, h.top, popped_length stack n, h.low);
+    low = h.low;
+    room = omega (arith, h.top, popped_length stack n, h.low, has_room.room);
+    vars = held_same stack (popped stack n) z 0 st.vars
+        (λ x from below. same (z + value_cell x)
+        (omega (arith, has_room.room, h.few, below, as_many st.vars names h.named))) h.vars;
+    keeps =
+        S.stable i (length names) stack (popped stack n) lowest
+        (record {
+          base = refl;
+          at = λ a lt others. same a (omega (arith, lt, h.few, has_room.room));
+        })
+        h.keeps;
+  }
+    where
+      same : (a : ℕ) → a < z + act.size
+          → word_at (popped stack n) (pos a) ≡ word_at stack (pos a)
+      same a below = word_popped stack n a (omega (arith, h.top, below, h.low))
 
 -- ---- scenes of functions
 

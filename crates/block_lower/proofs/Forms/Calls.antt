@@ -45,11 +45,12 @@ use Rattle.block_lower.specs.Code.{store, to}
 use Rattle.block_lower.specs.Layout.{return_cell, levels_cell, value_cell, Entry}
 use Rattle.block_lower.specs.Layout.{Activation}
 use Rattle.block_lower.specs.Main.{HasRoom}
-use Rattle.block_lower.proofs.Scenes.Activations.{word_popped, popped_length, clear_above}
+use Rattle.block_lower.proofs.Scenes.Activations.{word_popped, clear_above}
 use Rattle.block_lower.proofs.Scenes.Activations.{marks_from}
 use Rattle.block_lower.proofs.Forms.Arguments.{AreIn, are_in_same, held_bound, names_bound, wider}
 use Rattle.block_lower.proofs.Forms.Called.{back_with, going_back}
 use Rattle.block_lower.proofs.Forms.Called.{entered_with}
+use Rattle.block_lower.proofs.Forms.Callees.{shows_popped}
 use Rattle.block_lower.proofs.Scenes.Moves.{jumps}
 use Rattle.block_lower.proofs.Scenes.Promises.{following}
 use Rattle.block_lower.proofs.Scenes.Regions.{Covers, all_front}
@@ -468,7 +469,51 @@ module _ (code : Listing) (heartbeat z : ℕ) (act : Activation) (fuel : ℕ) (S
     also_back = kept.same w.few w.value t (popped t entry.size) (λ a from below. caller_cells a
         below) same.also
 
-    -- a task that returned shows the caller's variables
+    -- its marks are those of the caller's world, below the function's cells
+    bare_from : t.marks ≡ S.marks w.world → (a : ℕ) → z + act.size ≤ a
+        → is_marked_from t.marks a ≡ false
+    bare_from marked a from =
+        subst (λ (ms : List Mark). is_marked_from ms a ≡ false) (sym marked) (clear w a from)
+
+    -- a task that returned shows the caller's variables, below the cells of the function
+    pub shows_below : (most : ℕ) (names_in : List (List ℕ)) (u : meaning.State) (words other : List
+        Word) (holdings : List Holding) (spent : FuelState) (output : List ℕ) (goal : Goal) (ties :
+        Option Tie × Option Tie)
+        → Shows code heartbeat (z + act.size) (inner entry most) fuel callee w names_in u words t
+        holdings spent output goal ties → length other ≡ 32 → register other 31 ≡ word.Int (pos
+        z)
+        → Shows code heartbeat z (wider act entry.size) fuel S w.world names (back_with w.state.vars
+        u) other t holdings spent output goal ties
+    shows_below most names_in u words other holdings spent output goal ties h many base = record {
+      size = many;
+      base = base;
+      limit = h.limit;
+      limited = h.limited;
+      tall = omega (arith, w.tall);
+      ticks = h.ticks;
+      within = h.within;
+      begun = h.begun;
+      printed = h.printed;
+      ends = h.ends;
+      free = h.free;
+      unmet = h.unmet;
+      marked = h.marked;
+      named = w.named;
+      few = w.few;
+      tabled = h.tabled;
+      held = h.held;
+      can = h.can;
+      ranged = h.ranged;
+      levels = same.levels;
+      unmarked = bare_from h.marked (z + (act.size + entry.size)) (omega arith);
+      top = omega (arith, is_top);
+      low = same.low;
+      room = omega (arith, is_top, has_room.room);
+      vars = same.vars;
+      keeps = same.keeps;
+    }
+
+    -- the same without them
     pub shows_back : (most : ℕ) (names_in : List (List ℕ)) (u : meaning.State) (words other : List
         Word) (holdings : List Holding) (spent : FuelState) (output : List ℕ) (goal : Goal) (ties :
         Option Tie × Option Tie)
@@ -478,51 +523,6 @@ module _ (code : Listing) (heartbeat z : ℕ) (act : Activation) (fuel : ℕ) (S
         → Shows code heartbeat z act fuel S w.world names (back_with w.state.vars u) other (popped t
         entry.size) holdings spent output goal ties
     shows_back most names_in u words other holdings spent output goal ties h many base =
-        let long : t.base + length (popped t entry.size).cells ≡ z + act.size = omega (
-          arith,
-          is_top,
-          popped_length t entry.size,
-          same.low,
-        ) in
-        record {
-          size = many;
-          base = base;
-          limit = h.limit;
-          limited = h.limited;
-          tall = w.tall;
-          ticks = h.ticks;
-          within = h.within;
-          begun = h.begun;
-          printed = h.printed;
-          ends = h.ends;
-          free = h.free;
-          unmet = h.unmet;
-          marked = h.marked;
-          named = w.named;
-          few = w.few;
-          tabled = h.tabled;
-          held = h.held;
-          can = h.can;
-          ranged = h.ranged;
-          levels = caller_cells (z + levels_cell) (omega (arith, has_room.room)) ∙ same.levels;
-          unmarked = subst (λ (ms : List Mark). is_marked_from ms (z + act.size) ≡ false) (sym
-              h.marked) (clear w (z + act.size) (omega arith));
-          top = long;
-          low = same.low;
-          room = omega (arith, long, has_room.room);
-          vars = held_same t (popped t entry.size) z 0 w.state.vars (λ x from below. caller_cells (z
-              + value_cell x) (omega (
-                arith,
-                has_room.room,
-                w.few,
-                below,
-                as_many w.state.vars names
-                    w.named,
-              ))) same.vars;
-          keeps = S.stable w.world (length names) t (popped t entry.size) lowest (record {
-            base =
-                refl;
-            at = λ a lt others. caller_cells a (omega (arith, lt, w.few, has_room.room));
-          })
-              same.keeps;
-        }
+        shows_popped code heartbeat z act entry.size fuel S w.world names lowest
+        (back_with w.state.vars u) has_room w.tall (bare_from h.marked (z + act.size) (omega arith))
+        (shows_below most names_in u words other holdings spent output goal ties h many base)

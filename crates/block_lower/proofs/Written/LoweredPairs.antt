@@ -36,9 +36,9 @@ use Rattle.block_lower.specs.Layout.{kept_by_both, kept_cell, kept_mark, kept_re
 use Rattle.block_lower.specs.Layout.{levels_cell, value_cell, Activation, Entry}
 use Rattle.block_lower.specs.Lowering.{AreBothArguments, WritesBothArguments, WritesPassed, Lowers}
 use Rattle.block_lower.specs.Lowering.{WritesFirst, WritesJoined, WritesSecond, WritesPair, GoesTo}
-use Rattle.block_lower.specs.Lowering.{pair_site}
-use Rattle.block_lower.specs.Pairs.{IsPair, call_enters, call_given, call_site, kept_from}
-use Rattle.block_lower.specs.Pairs.{pair_begins, pair_joined, second_call}
+use Rattle.block_lower.specs.Lowering.{WritesPassedCall, pair_site}
+use Rattle.block_lower.specs.Pairs.{IsPair, call_enters, call_given, call_site, first_exit, fitted}
+use Rattle.block_lower.specs.Pairs.{kept_from, pair_begins, pair_joined, passed_call, second_call}
 use Rattle.block_lower.specs.Writing.{label, next_label, IsFresh, Pushes, Closes, Appends, Readies}
 use Rattle.block_lower.specs.Writing.{Stands, Continues, Leads}
 use Rattle.block_lower.proofs.Written.Lowered.{cell_is}
@@ -178,22 +178,27 @@ joined_written on second at old stores swaps allocs moves new one two three four
     (pushed code allocs moves (call_enters on.size) [] end four
     (closed_block code moves new end close stands))))
 
-pub second_written : (on : Body) (many : ℕ) (target : Target) (at : ℕ)
-    (old allocs passes ticks new : Output)
-    → Pushes (instr.Salloc target.size ∷ []) old allocs
-    → WritesPassed on many allocs passes
+pub passed_call_written : (on : Body) (many : ℕ) (target : Target) (at : ℕ)
+    (old passes ticks new : Output)
+    → WritesPassed on many old passes
     → Pushes (instr.Tick ∷ load 0 levels_cell ∷ []) passes ticks
     → ((code : Listing) → Stands code new
     → Continues code ticks (call_given 0 on.size at (call_enters on.size)) (to target.label))
-    → WritesSecond on many target at old new
-second_written on many target at old allocs passes ticks new alloc pass tick enter code tables
-    stands =
+    → WritesPassedCall on many target at old new
+passed_call_written on many target at old passes ticks new pass tick enter code tables stands =
     let end : Term = to target.label in
     let behind : List Instr = call_given 0 on.size at (call_enters on.size) in
-    pushed code old allocs (instr.Salloc target.size ∷ []) _ end alloc
-    (pass code tables (instr.Tick ∷ load 0 levels_cell ∷ behind) end
+    pass code tables (instr.Tick ∷ load 0 levels_cell ∷ behind) end
     (pushed code passes ticks (instr.Tick ∷ load 0 levels_cell ∷ []) behind end tick
-    (enter code stands)))
+    (enter code stands))
+
+pub second_written : (on : Body) (many : ℕ) (target : Target) (at : ℕ) (old allocs new : Output)
+    → Pushes (instr.Salloc target.size ∷ []) old allocs
+    → WritesPassedCall on many target at allocs new → WritesSecond on many target at old new
+second_written on many target at old allocs new alloc calls code tables stands =
+    pushed code old allocs (instr.Salloc target.size ∷ [])
+    (passed_call code (activation on tables) many at) (to target.label) alloc
+    (calls code tables stands)
 
 -- ---- both calls
 
@@ -205,7 +210,7 @@ of_entry P entry target goes holds =
     (subst (λ (n : ℕ). P target.label n) (sym goes.size) holds)
 
 pub pair_written : (on : Body) (place : Place) (many : ℕ) (first second : Target) (site : CallSite)
-    (old entered handled joined child between again new : Output)
+    (old entered handled joined child between fits again new : Output)
     → ((code : Listing) (tables : List (List ℕ)) → site
     ≡ pair_site code (activation on tables) many (next_label old + 1))
     → IsCallSite site
@@ -213,29 +218,29 @@ pub pair_written : (on : Body) (place : Place) (many : ℕ) (first second : Targ
     → Appends (call_handler_blocks site ++ call_join_blocks site) entered handled
     → WritesJoined on second (site.entry + 2) handled joined → IsFresh joined
     → WritesSecond on many second (child_end_label site.label) joined child → IsFresh child
-    → Pushes (call_exit first.size on.size (instr.PrmPop 31 site.mark
-    ∷ store (value_cell on.most + kept_value) (value.Reg 0) ∷ [])) child between
-    → WritesSecond on many second (site.entry + 2) between again → IsFresh again
+    → Pushes (first_exit on.size site.mark (value_cell on.most + kept_value) []) child between
+    → Pushes (fitted first.size second.size) between fits
+    → WritesPassedCall on many second (site.entry + 2) fits again → IsFresh again
     → Pushes (call_exit second.size on.size []) again new
     → site.label ≡ label entered → joined_label site.label ≡ label handled
     → site.entry ≡ label joined → site.entry + 1 ≡ label child → site.entry + 2 ≡ label again
     → WritesPair on place many first second old new
-pair_written on place many first second site old entered handled joined child between again new is
-    right begins append joins fresh_joined seconds fresh_child leaves calls fresh_again exits
+pair_written on place many first second site old entered handled joined child between fits again new
+    is right begins append joins fresh_joined seconds fresh_child leaves fit calls fresh_again exits
     at_entered at_handled at_joined at_child at_again code tables one two more last to_first
     to_second c =
     let act : Activation = activation on tables in
     let return : ℕ = site.entry + 2 in
     let end : Term = to second.label in
-    let kept : Instr = store (kept_cell act kept_value) (value.Reg 0) in
+    let kept : ℕ = kept_cell act kept_value in
     let e : Continues code again (call_exit second.size on.size more) last =
     pushed code again new (call_exit second.size on.size []) more last exits c in
-    let next : List Instr = second_call code act many second.size return in
-    let b : Continues code child
-    (call_exit first.size on.size (instr.PrmPop 31 site.mark ∷ kept ∷ next)) end =
-    pushed code child between
-    (call_exit first.size on.size (instr.PrmPop 31 site.mark ∷ kept ∷ [])) next end leaves
-    (calls code tables e.closed) in
+    let call : List Instr = passed_call code act many return in
+    let next : List Instr = fitted first.size second.size ++ call in
+    let b : Continues code child (first_exit on.size site.mark kept next) end =
+    pushed code child between (first_exit on.size site.mark kept []) next end leaves
+    (pushed code between fits (fitted first.size second.size) call end fit
+    (calls code tables e.closed)) in
     let own : List Instr = second_call code act many second.size (child_end_label site.label) in
     let a : Continues code joined own end = seconds code tables b.closed in
     let j : Continues code handled (pair_joined code act second.size) (to return) =
@@ -274,17 +279,13 @@ pair_written on place many first second site old entered handled joined child be
           (subst (λ (k : ℕ). Opens code k own end) (sym at_joined)
           (fresh_opens code joined own end fresh_joined a));
       after = of_entry (λ l n. Opens code (site.entry + 1)
-          (call_exit one.size on.size
-          (instr.PrmPop 31 site.mark ∷ kept ∷ second_call code act many n return)) (to l)) two
-          second to_second
+          (first_exit on.size site.mark kept (fitted one.size n ++ call)) (to l)) two second
+          to_second
           (of_entry (λ l n. Opens code (site.entry + 1)
-          (call_exit n on.size (instr.PrmPop 31 site.mark ∷ kept ∷ next)) end) one first to_first
-          (subst (λ (k : ℕ). Opens code k
-          (call_exit first.size on.size (instr.PrmPop 31 site.mark ∷ kept ∷ next)) end)
+          (first_exit on.size site.mark kept (fitted n second.size ++ call)) end) one first to_first
+          (subst (λ (k : ℕ). Opens code k (first_exit on.size site.mark kept next) end)
           (sym at_child)
-          (fresh_opens code child
-          (call_exit first.size on.size (instr.PrmPop 31 site.mark ∷ kept ∷ next)) end fresh_child
-          b)));
+          (fresh_opens code child (first_exit on.size site.mark kept next) end fresh_child b)));
       behind = of_entry (λ l n. Opens code return (call_exit n on.size more) last) two second
           to_second
           (subst (λ (k : ℕ). Opens code k (call_exit second.size on.size more) last) (sym at_again)

@@ -46,15 +46,17 @@ returns-clause-code c =
     let joined = c.in_ok-push_joined.ensures in
     let child = c.in_ok-push_second.ensures in
     let between = c.in_ok-push_between.ensures in
-    let again = c.in_ok-push_second-2.ensures in
+    let fit = c.in_ok-push_fitted.ensures in
+    let again = c.in_ok-push_passed_call.ensures in
     let on_handler = handler.on ∙ first.on in
     let on_joined = joined.on ∙ on_handler in
     let on_child = child.on ∙ on_joined in
     let on_between = between.on ∙ on_child in
+    let on_fit = fit.on ∙ on_between in
     pair_written on c.args.place c.args.count c.args.first c.args.second site
     c.args.self.now.out c.push_first.new.self.out c.push_call_handler.new.self.out
     c.push_joined.new.self.out c.push_second.new.self.out c.push_between.new.self.out
-    c.push_second-2.new.self.out c.push_exit.new.self.out
+    c.push_fitted.new.self.out c.push_passed_call.new.self.out c.push_exit.new.self.out
     (rw c.next_label-label.ensures at is)
     (subst IsCallSite (sym (is no_code []))
     (right_call_site on no_code [] c.args.count _ _ c.requires.room c.requires.few
@@ -63,8 +65,8 @@ returns-clause-code c =
     first.code handler.code
     (rw on_handler at joined.code) joined.fresh
     (rw (c.child_end_label.ensures, on_joined) at child.code) child.fresh
-    (rw on_child at between.pushed) (rw on_between at again.code) again.fresh
-    (rw (again.on ∙ on_between) at c.in_ok-push_exit.ensures.pushed)
+    (rw on_child at between.pushed) fit.pushed (rw on_fit at again.code) again.fresh
+    (rw (again.on ∙ on_fit) at c.in_ok-push_exit.ensures.pushed)
     (omega (arith, at, c.next_label-label.ensures, first.labels, ap length first.fresh.traps))
     (omega (
       arith,
@@ -102,6 +104,7 @@ returns-clause-code c =
       joined.labels,
       child.labels,
       between.labels,
+      fit.labels,
       again.labels,
       ap length again.fresh.traps,
     ))
