@@ -12,6 +12,8 @@ pub mod Maps
 pub mod Cuts
 -- one flat span
 pub mod Flats
+-- cells that are all here below a position
+pub mod Sound
 -- spans cut at a position, one after another
 pub mod Splits
 -- what a store is seen as, and tests of positions against rows and columns

@@ -92,6 +92,25 @@ set_in_list start at i xs d y value h k l f =
         ∙ ap (λ m. in_chunk (slice_get xs (m - start / 512)) (i % 512)) e
         ∙ ap (λ v. in_chunk v (i % 512)) (slice_get-get_or xs (at / 512 - start / 512) d l))
 
+-- the same in boxes from position 0 on
+pub in_front_some : (xs : List Chunk) (i : ℕ) (d : Chunk) → i / 512 < length xs → in_list 0 xs i ≡ Some (number (get_or xs (i / 512) d).value (i % 512))
+in_front_some xs i d = subst There index (in_list_some 0 xs i d)
+  where
+    There : ℕ → Type 0
+    There k = k < length xs → in_list 0 xs i ≡ Some (number (get_or xs k d).value (i % 512))
+
+    index : i / 512 - 0 / 512 ≡ i / 512
+    index = omega arith
+
+pub set_in_front : (at i : ℕ) (xs : List Chunk) (d y : Chunk) (value : ℤ) → at / 512 < length xs → ((j : ℕ) → number y.value j ≡ cond (nat_eq j (at % 512)) value (number (get_or xs (at / 512) d).value j)) → in_list 0 (set xs (at / 512) y) i ≡ cond (nat_eq i at) (Some value) (in_list 0 xs i)
+set_in_front at i xs d y value = subst Set index (set_in_list 0 at i xs d y value (omega arith) (omega arith))
+  where
+    Set : ℕ → Type 0
+    Set k = k < length xs → ((j : ℕ) → number y.value j ≡ cond (nat_eq j (at % 512)) value (number (get_or xs k d).value j)) → in_list 0 (set xs k y) i ≡ cond (nat_eq i at) (Some value) (in_list 0 xs i)
+
+    index : at / 512 - 0 / 512 ≡ at / 512
+    index = omega arith
+
 -- the same between the ends
 pub put_between : (start end at i : ℕ) (u v : Option ℤ) (value : ℤ) → start ≤ at → at < end → (start ≤ i → u ≡ cond (nat_eq i at) (Some value) v) → between start end i u ≡ cond (nat_eq i at) (Some value) (between start end i v)
 put_between start end at i u v value h k f =

@@ -51,6 +51,9 @@ pub at_stands : (rows cols : ℕ) (f : ℕ → Option ℤ) (row col : ℤ) (i : 
 at_stands rows cols f row col i (r, c, er, ec, h, k, ei) =
     first_cells_at rows cols f row col ∙ (λ j. at_place rows cols f (er j) (ec j)) ∙ place_inside rows cols f r c h k ∙ ap f (sym ei)
 
+pub stands_below : (rows cols : ℕ) (row col : ℤ) (i : ℕ) → StandsAt rows cols row col i → i + 1 ≤ rows * cols
+stands_below rows cols row col i (r, c, er, ec, h, k, ei) = omega (arith, inside_size rows cols r c h k, ei)
+
 pub first_cells_none : (cols : ℕ) (f : ℕ → Option ℤ) (n : ℕ) → ((i : ℕ) → f i ≡ None) → first_cells cols f n ≡ empty
 unfolding first_cells
 first_cells_none cols f zero e = refl
@@ -181,9 +184,9 @@ int_eq-pos a b =
       | inr h ↦ ap (λ t. is_eq (cond t Less (cond (nat_lt b a) Greater Equal))) (le-ltb a b h) ∙ ap (λ t. is_eq (cond t Greater Equal)) (lt-ltb b a (above h n))
     ]
 
-pub OnErr_both : {T E P Q : Type 0} (r : Result T E) → P → Q → OnErr r (P × Q)
-OnErr_both (Ok x) p q = tt
-OnErr_both (Err e) p q = (p, q)
+pub on_err : {T E P : Type 0} (r : Result T E) → P → OnErr r P
+on_err (Ok x) p = tt
+on_err (Err e) p = p
 
 pub seen_size : (rows rows' cols cols' : ℕ) (f : ℕ → Option ℤ) (o : Bool) → rows ≡ rows' → cols ≡ cols' → seen rows cols f o ≡ seen rows' cols' f o
 seen_size rows rows' cols cols' f o e t = λ i. record { rows = e i; cols = t i; cells = first_cells (t i) f (e i * t i); owned = o }

@@ -1,21 +1,34 @@
 -- The pieces of one value, owned by it or shared with others.
-use Rattle.std.specs.Prelude.{◌≡◌, ℤ, ℕ, Bool, true, false, Option, List, [], ◌∷◌}
+use Rattle.std.specs.Prelude.{◌≡◌, ◌≤◌, ◌*◌, ℤ, ℕ, Bool, true, false, Option, List, [], ◌∷◌, length}
+use Rattle.std.specs.Prelude.{⊤}
 use Rattle.std.specs.Arc.{arc_value}
 use Rattle.std.specs.Vec.{vec_len}
 use Rattle.slices.specs.Spans.{spans_at, holders, flat_span}
 use Rattle.slices.specs.Pieces.{spans_of}
+use Rattle.slices.specs.declared.full.Full.{Full}
 use Rattle.slices.specs.declared.spans.Span.{Span}
+use Rattle.slices.specs.declared.spans.Span.TheVariants.{Cut}
 use Rattle.slices.specs.declared.store.Store.{Store}
-use Rattle.slices.specs.declared.store.Store.TheVariants.{Whole, Owned, Shared}
+use Rattle.slices.specs.declared.store.Store.TheVariants.{Whole, Boxed, Owned, Shared}
+
+-- boxes from the table's first position on, as a span
+abbrev pub full_span : Full → Span
+full_span full = Cut (record { start = 0; end = full.end; list = full.list })
+
+-- the boxes have all cells below a position
+abbrev pub HasBelow : ℕ → Full → Type 0
+HasBelow n full = (n ≤ full.end) × (n ≤ 512 * length full.list.items)
 
 abbrev pub stored : Store → List Span
 stored (Whole cells) = flat_span cells ∷ []
+stored (Boxed full) = full_span full ∷ []
 stored (Owned pieces) = spans_of pieces
 stored (Shared pieces) = spans_of (arc_value pieces)
 
 -- how many spans it has beside the first
 abbrev pub further_spans : Store → ℕ
 further_spans (Whole cells) = 0
+further_spans (Boxed full) = 0
 further_spans (Owned pieces) = vec_len pieces.more
 further_spans (Shared pieces) = vec_len (arc_value pieces).more
 
@@ -27,14 +40,23 @@ reaching_in store i = holders (stored store) i
 
 abbrev pub is_owned : Store → Bool
 is_owned (Whole cells) = true
+is_owned (Boxed full) = true
 is_owned (Owned pieces) = true
 is_owned (Shared pieces) = false
 
 -- the cells are in pieces
 abbrev pub is_open : Store → Bool
 is_open (Whole cells) = false
+is_open (Boxed full) = false
 is_open (Owned pieces) = true
 is_open (Shared pieces) = true
+
+-- cells that are not in pieces are all here below a position, so that they are found with no test
+abbrev pub IsSound : ℕ → Store → Type 0
+IsSound n (Whole cells) = n ≤ vec_len cells
+IsSound n (Boxed full) = HasBelow n full
+IsSound n (Owned pieces) = ⊤
+IsSound n (Shared pieces) = ⊤
 
 -- the same cells, owned or shared as before
 pub record SameStored (old new : Store) : Type 0 where

@@ -3,7 +3,7 @@ use Rattle.std.specs.Prelude.{◌*◌}
 use Rattle.slices.specs.Cells.{first_cells}
 use Rattle.slices.specs.Holding.{Holding}
 use Rattle.slices.specs.Spans.{AreApart}
-use Rattle.slices.specs.Stored.{stored, store_at, is_owned}
+use Rattle.slices.specs.Stored.{stored, store_at, is_owned, IsSound}
 use Rattle.slices.specs.declared.table.Held.TheInside.{Inside}
 
 abbrev pub holding : Inside → Holding
@@ -16,5 +16,6 @@ holding held =
       owned = is_owned held.store;
     }
 
-abbrev pub IsKept : Inside → Type 0
-IsKept held = AreApart (held.rows * held.cols) (stored held.store)
+pub record IsKept (held : Inside) : Type 0 where
+  pub apart : AreApart (held.rows * held.cols) (stored held.store)
+  pub sound : IsSound (held.rows * held.cols) held.store

@@ -24,8 +24,14 @@ impl Pieces {
     pub(crate) fn whole(alloc: Global, cells: Vec<i64>) -> Pieces
         ensures { spans_of result ≡ flat_span cells ∷ [] }
     {
+        Pieces::one(alloc, Span::whole(cells))
+    }
+
+    pub(crate) fn one(alloc: Global, first: Span) -> Pieces
+        ensures { spans_of result ≡ first ∷ [] }
+    {
         Pieces {
-            first: Span::whole(cells),
+            first,
             more: Vec::new(alloc),
         }
     }

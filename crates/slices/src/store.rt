@@ -2,55 +2,87 @@
 
 ghost use Rattle.std.specs.Prelude.{◌≡◌, ℕ, ◌+◌, ◌<◌, ◌≤◌, ◌==◌, ◌&&◌, if◌then◌else◌, nat_le};
 ghost use Rattle.std.specs.Prelude.{nat_lt, None, Some, true, false, is_some, IsSome, IfOk, IfErr};
-ghost use Rattle.std.specs.Prelude.{OnOk, OnErr};
+ghost use Rattle.std.specs.Prelude.{OnOk, OnErr, IfSome, IfNone, [], ◌∷◌};
 ghost use Rattle.std.specs.Arc.{arc_value};
 ghost use Rattle.std.specs.Bool.{OnTrue, OnFalse};
 ghost use Rattle.std.specs.Vec.{vec_len, vec_capacity};
 ghost use Rattle.slices.specs.Spans.{or_else, between, AreApart};
 ghost use Rattle.slices.specs.Pieces.{spans_of, piece_at, reaching};
 ghost use Rattle.slices.specs.Stored.{stored, store_at, reaching_in, is_owned, is_open};
-ghost use Rattle.slices.specs.Stored.{further_spans, SameStored};
+ghost use Rattle.slices.specs.Stored.{further_spans, SameStored, IsSound};
 
+use crate::boxes::CHUNK;
+use crate::chunks::Chunks;
+use crate::full::Full;
 use crate::pieces::Pieces;
+use crate::spans::Span;
 use std::alloc::{AllocError, Global};
 use std::mem::replace;
 use std::sync::Arc;
 
-/// Cells that are written in place, flat from position 0 on or in pieces, or pieces that several
-/// values read. A table's cells are flat until it is cut or shared.
+/// Cells that are written in place, or pieces that several values read. A table's cells are flat
+/// until it is cut or shared, and in boxes from position 0 on when all are put together again.
 #[derive(Drop)]
 pub(crate) enum Store {
     Whole(Vec<i64>),
+    Boxed(Full),
     Owned(Pieces),
     Shared(Arc<Pieces, Global>),
 }
 
 impl Store {
-    /// Puts flat cells into pieces. It takes no memory.
+    /// Puts the cells into pieces. It takes no memory.
     pub(crate) fn open(&mut self)
         ensures spans { stored self.new ≡ stored self.old }
         ensures owned { is_owned self.new ≡ is_owned self.old }
         ensures open { is_open self.new ≡ true }
     {
-        if let Store::Whole(cells) = self {
-            let alloc = *cells.allocator();
-            let cells = replace(cells, Vec::new(alloc));
-            *self = Store::Owned(Pieces::whole(alloc, cells));
+        match self {
+            Store::Whole(cells) => {
+                let alloc = *cells.allocator();
+                let cells = replace(cells, Vec::new(alloc));
+                *self = Store::Owned(Pieces::whole(alloc, cells));
+            }
+            Store::Boxed(full) => {
+                let alloc = *full.list.allocator();
+                let list = replace(&mut full.list, Vec::new(alloc));
+                let end = full.end;
+                *self = Store::Owned(Pieces::one(
+                    alloc,
+                    Span::Cut(Chunks {
+                        start: 0,
+                        end,
+                        list,
+                    }),
+                ));
+            }
+            _ => {}
+        }
+    }
+
+    /// Takes the cells out of pieces where one has all below position `end`, which are all.
+    pub(crate) fn close(&mut self, end: usize)
+        requires { is_open self.old ≡ true }
+        ensures spans { stored self.new ≡ stored self.old }
+        ensures owned { is_owned self.new ≡ is_owned self.old }
+        ensures sound { IsSound end self.new }
+    {
+        if let Store::Owned(pieces) = self
+            && pieces.more.len() == 0
+            && let Some(store) = all_of(&mut pieces.first, end)
+        {
+            *self = store;
         }
     }
 
     #[inline(always)]
     pub(crate) fn get(&self, at: usize) -> Option<i64>
+        requires { IsSound (at + 1) self.now }
         ensures { result ≡ store_at self.now at }
     {
         match self {
-            Store::Whole(cells) => {
-                if at < cells.len() {
-                    Some(cells[at])
-                } else {
-                    None
-                }
-            }
+            Store::Whole(cells) => Some(cells[at]),
+            Store::Boxed(full) => Some(full.get(at)),
             Store::Owned(pieces) => pieces.get(at),
             Store::Shared(shared) => shared.get(at),
         }
@@ -58,11 +90,13 @@ impl Store {
 
     /// Whether each of the first n positions is here.
     pub(crate) fn is_full(&self, n: usize) -> bool
+        requires { IsSound n self.now }
         ensures yes { OnTrue result ((i : ℕ) → i < n → IsSome (store_at self.now i)) }
         ensures no { OnFalse result ((i : ℕ) × (i < n) × (store_at self.now i ≡ None)) }
     {
         match self {
-            Store::Whole(cells) => n <= cells.len(),
+            Store::Whole(_) => true,
+            Store::Boxed(_) => true,
             Store::Owned(pieces) => pieces.is_full(n),
             Store::Shared(shared) => shared.is_full(n),
         }
@@ -78,7 +112,7 @@ impl Store {
         match self {
             Store::Owned(pieces) => pieces,
             Store::Shared(shared) => &**shared,
-            Store::Whole(_) => unreachable!(),
+            _ => unreachable!(),
         }
     }
 
@@ -94,6 +128,7 @@ impl Store {
         ensures reaching_given { IfOk result (λ upper.
             (i : ℕ) → reaching upper i ≤ reaching_in self.old i) }
         ensures owned { OnOk result (is_owned self.new ≡ true) }
+        ensures open { is_open self.new ≡ true }
         ensures err { OnErr result (SameStored self.old self.new) }
     {
         self.open();
@@ -108,7 +143,7 @@ impl Store {
                 *self = Store::Owned(lower);
                 Ok(upper)
             }
-            Store::Whole(_) => unreachable!(),
+            _ => unreachable!(),
         }
     }
 
@@ -137,6 +172,7 @@ impl Store {
         ensures reaching_upper { IfOk result (λ parts.
             (i : ℕ) → reaching parts.1 i ≤ reaching_in self.old i) }
         ensures owned { OnOk result (is_owned self.new ≡ true) }
+        ensures open { is_open self.new ≡ true }
         ensures err { OnErr result (SameStored self.old self.new) }
     {
         self.open();
@@ -148,35 +184,61 @@ impl Store {
                 *self = Store::Owned(pieces);
                 Ok(parts)
             }
-            Store::Whole(_) => unreachable!(),
+            _ => unreachable!(),
         }
     }
 
-    /// Whether the position is here; it is set then, in a copy where others read the cells too.
+    /// Whether the position is here; it is set then. Nothing comes and nothing is done where others
+    /// read the cells too.
     #[inline(always)]
-    pub(crate) fn put(&mut self, at: usize, value: i64, end: usize) -> Result<bool, AllocError>
-        requires { AreApart end (stored self.old) }
+    pub(crate) fn put(&mut self, at: usize, value: i64) -> Option<bool>
+        requires { IsSound (at + 1) self.old }
+        ensures found { IfSome result (λ done. done ≡ is_some (store_at self.old at)) }
+        ensures cells { IfSome result
+            (λ done. (i : ℕ)
+            → store_at self.new i
+            ≡ (if done && i == at then Some value else store_at self.old i)) }
+        ensures reaching { (i : ℕ) → reaching_in self.new i ≡ reaching_in self.old i }
+        ensures owned { is_owned self.new ≡ is_owned self.old }
+        ensures sound { (n : ℕ) → IsSound n self.old → IsSound n self.new }
+        ensures tells { is_owned self.old ≡ is_some result }
+        ensures left { result ≡ None → self.new ≡ self.old }
+    {
+        match self {
+            Store::Whole(cells) => {
+                cells[at] = value;
+                Some(true)
+            }
+            Store::Boxed(full) => {
+                full.put(at, value);
+                Some(true)
+            }
+            Store::Owned(pieces) => Some(pieces.put(at, value)),
+            Store::Shared(_) => None,
+        }
+    }
+
+    /// Whether the position is here; it is set then, in a copy, as others read the cells too.
+    pub(crate) fn put_shared(
+        &mut self,
+        at: usize,
+        value: i64,
+        end: usize,
+    ) -> Result<bool, AllocError>
+        requires shared { is_owned self.old ≡ false }
+        requires apart { AreApart end (stored self.old) }
         ensures found { IfOk result (λ done. done ≡ is_some (store_at self.old at)) }
         ensures cells { IfOk result
             (λ done. (i : ℕ)
             → store_at self.new i
             ≡ (if done && i == at then Some value else store_at self.old i)) }
         ensures reaching { (i : ℕ) → reaching_in self.new i ≤ reaching_in self.old i }
-        ensures owned { IfOk result (λ done.
-            is_owned self.new ≡ (if done then true else is_owned self.old)) }
+        ensures owned { IfOk result (λ done. is_owned self.new ≡ done) }
+        ensures open { is_open self.new ≡ true }
         ensures err { OnErr result (SameStored self.old self.new) }
-        ensures no_memory { OnErr result ((is_owned self.old ≡ false)
-            × IsSome (store_at self.old at)) }
+        ensures no_memory { OnErr result (IsSome (store_at self.old at)) }
     {
         match self {
-            Store::Whole(cells) => {
-                if at >= cells.len() {
-                    return Ok(false);
-                }
-                cells[at] = value;
-                Ok(true)
-            }
-            Store::Owned(pieces) => Ok(pieces.put(at, value)),
             Store::Shared(shared) => {
                 if shared.get(at).is_none() {
                     return Ok(false);
@@ -186,6 +248,7 @@ impl Store {
                 *self = Store::Owned(pieces);
                 Ok(true)
             }
+            _ => unreachable!(),
         }
     }
 
@@ -201,6 +264,7 @@ impl Store {
         ensures reaching { OnOk result
             ((i : ℕ) → reaching_in self.new i ≤ reaching_in self.old i + reaching_in other i) }
         ensures owned { OnOk result (is_owned self.new ≡ true) }
+        ensures open { is_open self.new ≡ true }
         ensures err { OnErr result (SameStored self.old self.new) }
         ensures handed_back { IfErr result (λ store. store ≡ other) }
     {
@@ -215,7 +279,7 @@ impl Store {
                 *self = Store::Owned(pieces);
                 Ok(())
             }
-            Store::Whole(_) => unreachable!(),
+            _ => unreachable!(),
         }
     }
 
@@ -225,11 +289,13 @@ impl Store {
         ensures cells { (i : ℕ) → store_at self.new i ≡ store_at self.old i }
         ensures reaching { (i : ℕ) → reaching_in self.new i ≤ reaching_in self.old i }
         ensures owned { OnOk result (is_owned self.new ≡ true) }
+        ensures sound { (n : ℕ) → IsSound n self.old → IsSound n self.new }
         ensures err { OnErr result (self.new ≡ self.old) }
         ensures no_memory { OnErr result (is_owned self.old ≡ false) }
     {
         match self {
             Store::Whole(_) => Ok(()),
+            Store::Boxed(_) => Ok(()),
             Store::Owned(_) => Ok(()),
             Store::Shared(shared) => {
                 let pieces = shared.copy(shared.alloc(), end)?;
@@ -249,6 +315,8 @@ impl Store {
             × (reaching_in store i ≡ reaching_in self.old i)) }
         ensures shared { OnOk result (is_owned self.new ≡ false) }
         ensures second_shared { IfOk result (λ store. is_owned store ≡ false) }
+        ensures open { is_open self.new ≡ true }
+        ensures second_open { IfOk result (λ store. is_open store ≡ true) }
     {
         if let Store::Shared(shared) = self {
             return Ok(Store::Shared(Arc::try_clone(shared)?));
@@ -276,7 +344,8 @@ impl Store {
     /// The pieces, taken out of it, or copied where others read them too. Where memory is wanting
     /// it is handed back.
     fn into_owned(self, end: usize) -> Result<Pieces, Store>
-        requires { AreApart end (stored self) }
+        requires open { is_open self ≡ true }
+        requires apart { AreApart end (stored self) }
         ensures cells { IfOk result (λ pieces. (i : ℕ) → piece_at pieces i ≡ store_at self i) }
         ensures reaching { IfOk result (λ pieces.
             (i : ℕ) → reaching pieces i ≤ reaching_in self i) }
@@ -284,15 +353,12 @@ impl Store {
         ensures handed_back { IfErr result (λ store. store ≡ self) }
     {
         match self {
-            Store::Whole(cells) => {
-                let alloc = *cells.allocator();
-                Ok(Pieces::whole(alloc, cells))
-            }
             Store::Owned(pieces) => Ok(pieces),
             Store::Shared(shared) => match shared.copy(shared.alloc(), end) {
                 Ok(pieces) => Ok(pieces),
                 Err(_) => Err(Store::Shared(shared)),
             },
+            _ => unreachable!(),
         }
     }
 }
@@ -303,7 +369,9 @@ fn handles_on(alloc: Global, pieces: Pieces) -> Result<(Store, Store), Store>
     ensures cells { IfOk result
         (λ both. (stored both.0 ≡ spans_of pieces) × (stored both.1 ≡ spans_of pieces)) }
     ensures shared { IfOk result (λ both. (is_owned both.0 ≡ false) × (is_owned both.1 ≡ false)) }
-    ensures handed_back { IfErr result (λ store. stored store ≡ spans_of pieces) }
+    ensures open { IfOk result (λ both. (is_open both.0 ≡ true) × (is_open both.1 ≡ true)) }
+    ensures handed_back { IfErr result (λ store.
+        (stored store ≡ spans_of pieces) × (is_open store ≡ true)) }
 {
     let shared = match Arc::new(alloc, pieces) {
         Ok(shared) => shared,
@@ -317,7 +385,8 @@ fn handles_on(alloc: Global, pieces: Pieces) -> Result<(Store, Store), Store>
 
 /// The pieces, owned where this is their only handle.
 fn unshared(shared: Arc<Pieces, Global>) -> Store
-    ensures { stored result ≡ spans_of (arc_value shared) }
+    ensures spans { stored result ≡ spans_of (arc_value shared) }
+    ensures open { is_open result ≡ true }
 {
     match Arc::try_unwrap(shared) {
         Ok(pieces) => Store::Owned(pieces),
@@ -345,4 +414,31 @@ fn join(pieces: &mut Pieces, other: Store, end: usize) -> Result<(), Store>
     let theirs = other.into_owned(end)?;
     pieces.take_in(theirs);
     Ok(())
+}
+
+/// All cells of a table of `end` cells, taken out of a span that has them.
+fn all_of(span: &mut Span, end: usize) -> Option<Store>
+    ensures spans { IfSome result (λ store. stored store ≡ span.old ∷ []) }
+    ensures owned { IfSome result (λ store. is_owned store ≡ true) }
+    ensures sound { IfSome result (λ store. IsSound end store) }
+    ensures left { IfNone result (span.new ≡ span.old) }
+{
+    let alloc = span.alloc();
+    match span {
+        Span::Flat(flat) => {
+            if flat.start > 0 || flat.cells.len() < end {
+                return None;
+            }
+            let cells = replace(&mut flat.cells, Vec::new(alloc));
+            Some(Store::Whole(cells))
+        }
+        Span::Cut(cut) => {
+            if cut.start > 0 || cut.end < end || end == 0 || (end - 1) / CHUNK >= cut.list.len() {
+                return None;
+            }
+            let list = replace(&mut cut.list, Vec::new(alloc));
+            let end = cut.end;
+            Some(Store::Boxed(Full { end, list }))
+        }
+    }
 }

@@ -111,7 +111,7 @@ impl Held {
     pub fn fetch(&self, row: i64, col: i64) -> Option<i64>
         ensures { result ≡ cell_at self.now row col }
     {
-        match position(self.rows, self.cols, row, col) {
+        match self.position(row, col) {
             Some(at) => self.store.get(at),
             None => None,
         }
@@ -128,9 +128,28 @@ impl Held {
         ensures no_memory { OnErr result ((self.old.owned ≡ false)
             × IsSome (cell_at self.old row col)) }
     {
+        match self.position(row, col) {
+            Some(at) => match self.store.put(at, value) {
+                Some(done) => Ok(done),
+                None => self.put_shared(row, col, value),
+            },
+            None => Ok(false),
+        }
+    }
+
+    /// `put` where others read the cells too.
+    #[inline(never)]
+    fn put_shared(&mut self, row: i64, col: i64, value: i64) -> Result<bool, NoMemory>
+        requires { self.old.owned ≡ false }
+        ensures found { IfOk result (λ done. done ≡ is_some (cell_at self.old row col)) }
+        ensures set { result ≡ Ok true → self.new ≡ with_cell self.old row col value }
+        ensures not_held { result ≡ Ok false → self.new ≡ self.old }
+        ensures err { OnErr result (self.new ≡ self.old) }
+        ensures no_memory { OnErr result (IsSome (cell_at self.old row col)) }
+    {
         let end = self.end();
-        match position(self.rows, self.cols, row, col) {
-            Some(at) => Ok(self.store.put(at, value, end)?),
+        match self.position(row, col) {
+            Some(at) => Ok(self.store.put_shared(at, value, end)?),
             None => Ok(false),
         }
     }
@@ -203,6 +222,7 @@ impl Held {
         if let Err(store) = self.store.take_in(store, end) {
             return Err((Held { rows, cols, store }, HeldFault::NoMemory));
         }
+        self.store.close(end);
         Ok(())
     }
 
@@ -232,24 +252,28 @@ impl Held {
         Ok(())
     }
 
+    /// The position of a cell, counted row by row.
+    #[inline(always)]
+    fn position(&self, row: i64, col: i64) -> Option<usize>
+        ensures { MatchOption result
+            ((value : ℕ → Option ℤ) → at_place self.now.rows self.now.cols value row col ≡ None)
+            (StandsAt self.now.rows self.now.cols row col) }
+    {
+        // A number below 0 wraps to one above each size.
+        if row.cast_unsigned() >= u64::from(self.rows) {
+            return None;
+        }
+        if col.cast_unsigned() >= u64::from(self.cols) {
+            return None;
+        }
+        Some(row.cast_unsigned() as usize * self.cols as usize + col.cast_unsigned() as usize)
+    }
+
     fn end(&self) -> usize
         ensures { result ≡ self.now.rows * self.now.cols }
     {
         self.rows as usize * self.cols as usize
     }
-}
-
-/// The position of a cell, counted row by row.
-#[inline(always)]
-fn position(rows: u32, cols: u32, row: i64, col: i64) -> Option<usize>
-    ensures { MatchOption result ((value : ℕ → Option ℤ) → at_place rows cols value row col ≡ None)
-        (StandsAt rows cols row col) }
-{
-    // A number below 0 wraps to one above each size.
-    if row.cast_unsigned() >= u64::from(rows) || col.cast_unsigned() >= u64::from(cols) {
-        return None;
-    }
-    Some(row.cast_unsigned() as usize * cols as usize + col.cast_unsigned() as usize)
 }
 
 /// The number, or the nearest from 0 to `limit`.

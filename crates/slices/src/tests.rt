@@ -58,6 +58,31 @@ fn cells_are_cut_and_appended(rt: HostRuntime) -> Result<(), Fail> {
 }
 
 #[test]
+fn a_table_in_boxes_is_read_and_cut_again(rt: HostRuntime) -> Result<(), Fail> {
+    let cells = Vec::from_elem(rt.alloc(), 7, 1600)?;
+    assert_eq!(rt; cells.len(), 1600);
+    let mut held = Held::whole(40, 40, cells);
+    let upper = held.give_rows(20)?;
+    assert!(rt; held.append(upper).is_ok());
+    assert!(rt; held.is_whole());
+    assert!(rt; held.put(20, 3, 9)?);
+    assert!(rt; !held.put(40, 3, 9)?);
+    assert_eq!(rt; held.fetch(20, 3), Some(9));
+    assert_eq!(rt; held.fetch(39, 39), Some(7));
+    let (lower, upper) = held.give_cells(20, 20)?;
+    assert_eq!(rt; held.fetch(20, 3), None);
+    assert_eq!(rt; lower.fetch(20, 3), Some(9));
+    assert_eq!(rt; upper.fetch(20, 20), Some(7));
+    assert!(rt; held.append(lower).is_ok());
+    assert!(rt; held.append(upper).is_ok());
+    let other = held.share()?;
+    assert!(rt; held.put(0, 0, 8)?);
+    assert_eq!(rt; other.fetch(0, 0), Some(7));
+    assert_eq!(rt; held.fetch(20, 3), Some(9));
+    Ok(())
+}
+
+#[test]
 fn a_put_changes_one_holder(rt: HostRuntime) -> Result<(), Fail> {
     let cells = [1, 2, 3, 4, 5, 6].to_vec(rt.alloc())?;
     assert_eq!(rt; cells.len(), 6);

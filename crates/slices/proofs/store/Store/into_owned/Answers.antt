@@ -5,4 +5,4 @@ use Rattle.slices.specs.Stored.{stored}
 use Rattle.slices.proofs.store.Store.into_owned.Goals as goal
 
 pub copy-requires : goal.copy-requires
-copy-requires c = subst (λ p. AreApart c.args.end (spans_of p)) (sym c.deref.ensures) (subst (λ s. AreApart c.args.end (stored s)) c.in-Shared.is c.requires)
+copy-requires c = subst (λ p. AreApart c.args.end (spans_of p)) (sym c.deref.ensures) (subst (λ s. AreApart c.args.end (stored s)) c.in-Shared.is c.requires.apart)
