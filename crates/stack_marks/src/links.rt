@@ -240,8 +240,20 @@ fn fill(links: &mut Vec<Link>, len: usize)
     ensures room { vec_capacity links.old ≤ vec_capacity links.new }
 {
     if links.len() < len {
-        links.resize(len, BARE).unwrap();
+        fill_up(links, len);
     }
+}
+
+/// The same where some are missing. It stands apart, so that to find none missing is short.
+#[inline(never)]
+fn fill_up(links: &mut Vec<Link>, len: usize)
+    requires room { len ≤ vec_capacity links.old }
+    requires less { length links.old.items < len }
+    ensures items { links.new.items
+        ≡ links.old.items ++ replicate (len - length links.old.items) bare }
+    ensures room { vec_capacity links.old ≤ vec_capacity links.new }
+{
+    links.resize(len, BARE).unwrap();
 }
 
 /// The link of a cell with a mark, above which there is no other.
