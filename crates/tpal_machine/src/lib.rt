@@ -21,6 +21,7 @@ mod fork;
 mod joined;
 mod joining;
 pub mod laws;
+mod levels;
 mod making;
 mod moves;
 mod numbers;

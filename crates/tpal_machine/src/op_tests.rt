@@ -34,7 +34,7 @@ fn each_of_several_faults_at_its_place(rt: HostRuntime) -> Result<(), Fail> {
         off: 0,
         value: Value::Reg(1),
     };
-    let cases: [([Instr; 4], (Fault, u32, u32)); 6] = [
+    let cases: [([Instr; 4], (Fault, u32, u32)); 10] = [
         (
             [ONE_CELL, Instr::Rows { to: 1, table: 0 }, size, test],
             (Fault::NotInt, 0, 2),
@@ -56,6 +56,27 @@ fn each_of_several_faults_at_its_place(rt: HostRuntime) -> Result<(), Fail> {
             [ONE_CELL, calc(1, 31, Alu::Lt, Value::Reg(2)), test, test],
             (Fault::NotInt, 0, 1),
         ),
+        (
+            [ONE_CELL, Instr::Tick, load(1, 1), test],
+            (Fault::OutOfRange, 0, 2),
+        ),
+        (
+            [ONE_CELL, Instr::Tick, load(1, 0), test],
+            (Fault::NotInt, 0, 3),
+        ),
+        (
+            [ONE_CELL, number_at(0, 5), number_at(1, 6), test],
+            (Fault::OutOfRange, 0, 2),
+        ),
+        (
+            [
+                Instr::Sfree(0),
+                calc(31, 31, Alu::Sub, Value::Int(0)),
+                store,
+                test,
+            ],
+            (Fault::OutOfRange, 0, 2),
+        ),
     ];
     for (main, wanted) in cases {
         assert_eq!(rt;
@@ -64,6 +85,10 @@ fn each_of_several_faults_at_its_place(rt: HostRuntime) -> Result<(), Fail> {
         );
     }
     Ok(())
+}
+
+const fn number_at(off: u16, number: i64) -> Instr {
+    store(off, Value::Int(number))
 }
 
 const fn store(off: u16, value: Value) -> Instr {
@@ -118,16 +143,17 @@ fn ending_of(task: Task, code: &Code, budget: u32, turns: u8, steps: u64) -> Opt
     }
 }
 
-// The same of a code with this main.
+// The same of a code with this main, and a side that jumps to both.
 fn ended(
     alloc: Global,
     main: &[Instr],
     end: Term,
+    side: &[Instr],
     budget: u32,
 ) -> Result<Option<(u64, Outcome)>, NoMemory>
     requires { 1 ≤ budget }
 {
-    match code_of(alloc, ROWS, main, end, &[], Term::Halt)? {
+    match code_of(alloc, ROWS, main, end, side, TO_BOTH)? {
         None => Ok(None),
         Some(code) => {
             let task = Task::first(alloc, &code, tables_of(alloc)?, 100)?;
@@ -274,9 +300,189 @@ fn ops_do_what_their_instructions_do(rt: HostRuntime) -> Result<(), Fail> {
         (&access(PUT), TO_BOTH, b"7\n8\n1 2\n9 4\n"),
     ];
     for (main, end, wanted) in cases {
-        let (steps, outcome) = ended(alloc, main, end, 100)?.expect(&rt, "an end");
+        let (steps, outcome) = ended(alloc, main, end, &[], 100)?.expect(&rt, "an end");
         assert_eq!(rt; outcome.output.items(), wanted);
-        let (alone, slowly) = ended(alloc, main, end, 1)?.expect(&rt, "an end");
+        let (alone, slowly) = ended(alloc, main, end, &[], 1)?.expect(&rt, "an end");
+        assert_eq!(rt; slowly.output.items(), wanted);
+        assert_eq!(rt; alone, steps);
+    }
+    Ok(())
+}
+
+// A comparison of the number in register 1, 7, into that; where it doesn't jump the register gets
+// 3.
+const fn compares(alu: Alu, right: Value) -> [Instr; 5] {
+    [
+        set(1, 7),
+        set(2, 7),
+        calc(1, 1, alu, right),
+        test(1),
+        set(1, 3),
+    ]
+}
+
+// The same of a number in a cell.
+const fn compares_cell(alu: Alu, number: i64) -> [Instr; 7] {
+    [
+        Instr::Salloc(1),
+        set(2, 7),
+        store(0, Value::Int(7)),
+        load(1, 0),
+        calc(1, 1, alu, Value::Int(number)),
+        test(1),
+        set(1, 3),
+    ]
+}
+
+#[test]
+fn comparisons_jump_where_they_hold(rt: HostRuntime) -> Result<(), Fail> {
+    let alloc = rt.alloc();
+    let holds: &[u8] = b"1\n7\n1 2\n3 4\n";
+    let fails: &[u8] = b"3\n7\n1 2\n3 4\n";
+    let cases: [(&[Instr], &[u8]); 18] = [
+        (&compares(Alu::Lt, Value::Reg(2)), fails),
+        (&compares(Alu::Le, Value::Reg(2)), holds),
+        (&compares(Alu::Eq, Value::Reg(2)), holds),
+        (&compares(Alu::Ne, Value::Reg(2)), fails),
+        (&compares(Alu::Lt, Value::Int(8)), holds),
+        (&compares(Alu::Lt, Value::Int(7)), fails),
+        (&compares(Alu::Le, Value::Int(7)), holds),
+        (&compares(Alu::Le, Value::Int(6)), fails),
+        (&compares(Alu::Eq, Value::Int(7)), holds),
+        (&compares(Alu::Eq, Value::Int(8)), fails),
+        (&compares(Alu::Ne, Value::Int(8)), holds),
+        (&compares(Alu::Ne, Value::Int(7)), fails),
+        (&compares_cell(Alu::Lt, 8), holds),
+        (&compares_cell(Alu::Lt, 7), fails),
+        (&compares_cell(Alu::Le, 7), holds),
+        (&compares_cell(Alu::Le, 6), fails),
+        (&compares_cell(Alu::Ne, 6), holds),
+        (&compares_cell(Alu::Eq, 6), fails),
+    ];
+    for (main, wanted) in cases {
+        let (steps, outcome) = ended(alloc, main, TO_BOTH, &[], 100)?.expect(&rt, "an end");
+        assert_eq!(rt; outcome.output.items(), wanted);
+        let (alone, slowly) = ended(alloc, main, TO_BOTH, &[], 1)?.expect(&rt, "an end");
+        assert_eq!(rt; slowly.output.items(), wanted);
+        assert_eq!(rt; alone, steps);
+    }
+    Ok(())
+}
+
+const TO_SIDE: Term = Term::Jump(Value::Label(4));
+
+// What a call leaves to its callee: the levels in the cell and in register 0, and cells above those
+// of the caller.
+#[test]
+fn calls_go_one_level_down(rt: HostRuntime) -> Result<(), Fail> {
+    let alloc = rt.alloc();
+    let from_cell = [
+        Instr::Salloc(8),
+        number_at(2, 4),
+        Instr::Tick,
+        load(0, 2),
+        calc(0, 0, Alu::Sub, Value::Int(1)),
+        store(6, Value::Reg(0)),
+        store(4, Value::Label(0)),
+        calc(31, 31, Alu::Add, Value::Int(4)),
+    ];
+    let from_register = [
+        Instr::Salloc(8),
+        set(0, 4),
+        calc(0, 0, Alu::Sub, Value::Int(1)),
+        store(6, Value::Reg(0)),
+        store(4, Value::Label(0)),
+        calc(31, 31, Alu::Add, Value::Int(4)),
+    ];
+    let in_parts = [
+        Instr::Salloc(8),
+        number_at(2, 4),
+        Instr::Tick,
+        load(0, 2),
+        calc(1, 0, Alu::Sub, Value::Int(1)),
+        store(6, Value::Reg(1)),
+        store(4, Value::Label(0)),
+        set(0, 3),
+        calc(31, 31, Alu::Add, Value::Int(4)),
+    ];
+    let side = [load(1, 2), calc(2, 0, Alu::Add, Value::Reg(31))];
+    let wanted: &[u8] = b"3\n7\n1 2\n3 4\n";
+    let cases: [&[Instr]; 3] = [&from_cell, &from_register, &in_parts];
+    for main in cases {
+        let (steps, outcome) = ended(alloc, main, TO_SIDE, &side, 100)?.expect(&rt, "an end");
+        assert_eq!(rt; outcome.output.items(), wanted);
+        let (alone, slowly) = ended(alloc, main, TO_SIDE, &side, 1)?.expect(&rt, "an end");
+        assert_eq!(rt; slowly.output.items(), wanted);
+        assert_eq!(rt; alone, steps);
+    }
+    Ok(())
+}
+
+const fn mark(off: u16) -> Instr {
+    Instr::PrmPush {
+        base: 31,
+        off,
+        cells: 4,
+        split: 2,
+    }
+}
+
+// A tick with the test of a number in a cell; where it doesn't jump register 1 gets 3.
+const fn ticks(number: i64) -> [Instr; 7] {
+    [
+        Instr::Salloc(1),
+        set(2, 8),
+        number_at(0, number),
+        Instr::Tick,
+        load(1, 0),
+        test(1),
+        set(1, 3),
+    ]
+}
+
+// What stands around calls: the test whether there are levels left, two numbers that a callee
+// gets, and the store of what it gives back, with a mark or with cells that are free again.
+#[test]
+fn calls_give_and_get_numbers(rt: HostRuntime) -> Result<(), Fail> {
+    let alloc = rt.alloc();
+    let given = [
+        Instr::Salloc(2),
+        number_at(0, 5),
+        number_at(1, -3),
+        load(1, 0),
+        load(2, 1),
+    ];
+    let marked = [
+        Instr::Salloc(8),
+        set(2, 8),
+        mark(0),
+        mark(1),
+        calc(31, 31, Alu::Add, Value::Int(4)),
+        calc(31, 31, Alu::Sub, Value::Int(4)),
+        Instr::PrmPop { base: 31, off: 1 },
+        store(3, Value::Reg(2)),
+        load(1, 3),
+    ];
+    let free = [
+        Instr::Salloc(4),
+        set(2, 8),
+        calc(31, 31, Alu::Add, Value::Int(2)),
+        Instr::Sfree(2),
+        calc(31, 31, Alu::Sub, Value::Int(2)),
+        store(1, Value::Reg(2)),
+        load(1, 1),
+    ];
+    let cases: [(&[Instr], &[u8]); 5] = [
+        (&ticks(6), b"6\n8\n1 2\n3 4\n"),
+        (&ticks(0), b"3\n8\n1 2\n3 4\n"),
+        (&given, b"5\n-3\n1 2\n3 4\n"),
+        (&marked, b"8\n8\n1 2\n3 4\n"),
+        (&free, b"8\n8\n1 2\n3 4\n"),
+    ];
+    for (main, wanted) in cases {
+        let (steps, outcome) = ended(alloc, main, TO_BOTH, &[], 100)?.expect(&rt, "an end");
+        assert_eq!(rt; outcome.output.items(), wanted);
+        let (alone, slowly) = ended(alloc, main, TO_BOTH, &[], 1)?.expect(&rt, "an end");
         assert_eq!(rt; slowly.output.items(), wanted);
         assert_eq!(rt; alone, steps);
     }

@@ -95,7 +95,8 @@ pub(crate) fn salloc(frame: &mut Frame, cells: u16) -> Result<(), Trouble>
     }
 }
 
-/// `salloc n`. Where it answers false nothing has changed.
+/// `salloc n`. Where it answers false nothing has changed. It stands apart, since it calls others.
+#[inline(never)]
 pub(crate) fn grow(frame: &mut Frame, cells: u16) -> bool
     ensures done { OnTrue result (Did (effect.salloc cells) frame.old frame.new) }
     ensures same { OnFalse result (frame.new ≡ frame.old) }
@@ -133,6 +134,7 @@ pub(crate) fn sfree(frame: &mut Frame, cells: u16) -> Result<(), Fault>
 }
 
 /// `prmpush mem[rA+c], n, @l`.
+#[inline(always)]
 #[tactic(auto, using(crate::proofs::NoNumbers::on_number_none, crate::proofs::Refusals::below_all))]
 pub(crate) fn prmpush(
     frame: &mut Frame,

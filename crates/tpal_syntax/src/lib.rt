@@ -10,6 +10,7 @@ mod codes;
 mod conditions;
 mod instructions;
 mod joined;
+mod levels;
 mod names;
 mod notes;
 mod ops;

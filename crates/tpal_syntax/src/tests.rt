@@ -253,15 +253,18 @@ fn numbers_and_stores_are_one_op(rt: HostRuntime) -> Result<(), Fail> {
     let kept = store(31, 7, Value::Reg(2));
     let other = store(31, 7, Value::Reg(0));
     let down = calc(31, 31, Alu::Sub, Value::Int(6));
-    let cases: [(&[Instr], Op); 10] = [
-        (&[sum, kept], Op::AddRegStore(2, 0, 1, 31, 7)),
+    let own = store(31, 7, Value::Reg(31));
+    let cases: [(&[Instr], Op); 12] = [
+        (&[sum, kept], Op::AddRegStore(2, 0, 1, 7)),
         (&[sum, other], Op::AddReg(2, 0, 1)),
-        (&[more, kept], Op::AddIntStore(2, 0, 31, -9, 7)),
+        (&[more, kept], Op::AddIntStore(2, 0, -9, 7)),
         (&[more, other], Op::AddInt(2, 0, -9)),
         (&[long, kept], Op::AddInt(2, 0, 1 << 15)),
-        (&[fewer, kept], Op::SubIntStore(2, 0, 31, 9, 7)),
+        (&[fewer, kept], Op::SubIntStore(2, 0, 9, 7)),
         (&[fewer, other], Op::SubInt(2, 0, 9)),
-        (&[Instr::Sfree(6), down], Op::FreeSub(31, 6)),
+        (&[Instr::Sfree(6), down], Op::FreeSub(6)),
+        (&[Instr::Sfree(6), down, kept], Op::FreeStore(2, 6, 7)),
+        (&[Instr::Sfree(6), down, own], Op::FreeSub(6)),
         (&[Instr::Sfree(7), down], Op::Sfree(7)),
         (&[Instr::Sfree(6), kept], Op::Sfree(6)),
     ];
@@ -297,29 +300,70 @@ fn tests_are_one_op(rt: HostRuntime) -> Result<(), Fail> {
 }
 
 #[test]
+fn other_comparisons_are_one_op(rt: HostRuntime) -> Result<(), Fail> {
+    let cases = [
+        (Alu::Le, Op::LeTest(2, 0, 1, 1), Op::LeIntTest(2, 1, -9)),
+        (Alu::Eq, Op::EqTest(2, 0, 1, 1), Op::EqIntTest(2, 1, -9)),
+        (Alu::Ne, Op::NeTest(2, 0, 1, 1), Op::NeIntTest(2, 1, -9)),
+    ];
+    for (alu, by_register, by_number) in cases {
+        let body = [calc(2, 0, alu, Value::Reg(1)), if_jump(2, 1)];
+        assert_eq!(rt; first_op(rt.alloc(), &body, Term::Halt)?, Some(by_register));
+        let body = [calc(2, 2, alu, Value::Int(-9)), if_jump(2, 1)];
+        assert_eq!(rt; first_op(rt.alloc(), &body, Term::Halt)?, Some(by_number));
+    }
+    Ok(())
+}
+
+#[test]
+fn cells_are_compared_by_one_op(rt: HostRuntime) -> Result<(), Fail> {
+    let cell = load(2, 31, 7);
+    let lt = calc(2, 2, Alu::Lt, Value::Int(9));
+    let le = calc(2, 2, Alu::Le, Value::Int(-9));
+    let eq = calc(2, 2, Alu::Eq, Value::Int(9));
+    let long = calc(2, 2, Alu::Lt, Value::Int(1 << 15));
+    let other = calc(3, 2, Alu::Lt, Value::Int(9));
+    let cases: [(&[Instr], Op); 7] = [
+        (&[cell, lt, if_jump(2, 1)], Op::LtCellTest(2, 7, 9, 1)),
+        (&[cell, le, if_jump(2, 1)], Op::LeCellTest(2, 7, -9, 1)),
+        (&[cell, eq, if_jump(2, 1)], Op::Load(2, 7)),
+        (&[cell, long, if_jump(2, 1)], Op::Load(2, 7)),
+        (&[cell, other, if_jump(3, 1)], Op::Load(2, 7)),
+        (&[cell, lt, if_jump(3, 1)], Op::Load(2, 7)),
+        (&[load(2, 30, 7), lt, if_jump(2, 1)], Op::Leave),
+    ];
+    for (body, op) in cases {
+        assert_eq!(rt; first_op(rt.alloc(), body, Term::Halt)?, Some(op));
+    }
+    Ok(())
+}
+
+#[test]
 fn moves_of_cells_are_one_op(rt: HostRuntime) -> Result<(), Fail> {
     let cell = load(2, 31, 7);
     let sum = calc(2, 2, Alu::Add, Value::Int(-1));
     let more = calc(2, 2, Alu::Add, Value::Int(128));
+    let long = calc(2, 2, Alu::Add, Value::Int(1 << 15));
     let fewer = calc(2, 2, Alu::Sub, Value::Int(1));
     let back = store(31, 7, Value::Reg(2));
     let further = store(31, 8, Value::Reg(2));
     let own = load(31, 31, 7);
     let away = store(31, 8, Value::Reg(31));
-    let cases: [(&[Instr], Op); 13] = [
-        (&[cell, load(3, 31, 8)], Op::LoadTwo(2, 3, 31, 7, 8)),
-        (&[cell, load(3, 30, 8)], Op::Load(2, 31, 7)),
-        (&[own, load(3, 31, 8)], Op::Load(31, 31, 7)),
-        (&[cell, further], Op::CopyCell(2, 31, 7, 8)),
-        (&[cell, store(31, 8, Value::Reg(3))], Op::Load(2, 31, 7)),
-        (&[cell, store(30, 8, Value::Reg(2))], Op::Load(2, 31, 7)),
-        (&[own, away], Op::Load(31, 31, 7)),
-        (&[cell, sum, back], Op::AddCell(2, 31, 7, -1)),
-        (&[cell, more, back], Op::AddCell(2, 31, 7, 128)),
-        (&[cell, sum, further], Op::AddTo(2, 31, -1, 7, 8)),
-        (&[cell, more, further], Op::Load(2, 31, 7)),
-        (&[cell, fewer, further], Op::SubTo(2, 31, 1, 7, 8)),
-        (&[cell, sum, load(3, 31, 8)], Op::Load(2, 31, 7)),
+    let cases: [(&[Instr], Op); 14] = [
+        (&[cell, load(3, 31, 8)], Op::LoadTwo(2, 3, 7, 8)),
+        (&[cell, load(3, 30, 8)], Op::Load(2, 7)),
+        (&[own, load(3, 31, 8)], Op::Load(31, 7)),
+        (&[cell, further], Op::CopyCell(2, 7, 8)),
+        (&[cell, store(31, 8, Value::Reg(3))], Op::Load(2, 7)),
+        (&[cell, store(30, 8, Value::Reg(2))], Op::Load(2, 7)),
+        (&[own, away], Op::Load(31, 7)),
+        (&[cell, sum, back], Op::AddCell(2, 7, -1)),
+        (&[cell, more, back], Op::AddCell(2, 7, 128)),
+        (&[cell, sum, further], Op::AddTo(2, -1, 7, 8)),
+        (&[cell, more, further], Op::AddTo(2, 128, 7, 8)),
+        (&[cell, long, further], Op::Load(2, 7)),
+        (&[cell, fewer, further], Op::SubTo(2, 1, 7, 8)),
+        (&[cell, sum, load(3, 31, 8)], Op::Load(2, 7)),
     ];
     for (body, op) in cases {
         assert_eq!(rt; first_op(rt.alloc(), body, Term::Halt)?, Some(op));
@@ -335,25 +379,17 @@ fn a_turn_and_its_test_are_one_op(rt: HostRuntime) -> Result<(), Fail> {
     let turn = [load(2, 31, 7), one, back, below, if_jump(2, 1)];
     let cases = [
         (4, if_jump(2, 0), Op::TurnTest(2, 7, 9, 0)),
-        (4, if_jump(3, 1), Op::AddCell(2, 31, 7, 1)),
-        (
-            3,
-            calc(2, 2, Alu::Le, Value::Int(9)),
-            Op::AddCell(2, 31, 7, 1),
-        ),
+        (4, if_jump(3, 1), Op::AddCell(2, 7, 1)),
+        (3, calc(2, 2, Alu::Le, Value::Int(9)), Op::AddCell(2, 7, 1)),
         (
             3,
             calc(2, 2, Alu::Lt, Value::Int(1 << 15)),
-            Op::AddCell(2, 31, 7, 1),
+            Op::AddCell(2, 7, 1),
         ),
-        (2, store(31, 8, Value::Reg(2)), Op::AddTo(2, 31, 1, 7, 8)),
-        (
-            1,
-            calc(2, 2, Alu::Add, Value::Int(2)),
-            Op::AddCell(2, 31, 7, 2),
-        ),
-        (0, load(2, 31, 6), Op::AddTo(2, 31, 1, 6, 7)),
-        (0, load(2, 30, 7), Op::Load(2, 30, 7)),
+        (2, store(31, 8, Value::Reg(2)), Op::AddTo(2, 1, 7, 8)),
+        (1, calc(2, 2, Alu::Add, Value::Int(2)), Op::AddCell(2, 7, 2)),
+        (0, load(2, 31, 6), Op::AddTo(2, 1, 6, 7)),
+        (0, load(2, 30, 7), Op::Leave),
     ];
     for (at, other, op) in cases {
         let mut body = turn;
@@ -376,31 +412,171 @@ fn ends_are_joined(rt: HostRuntime) -> Result<(), Fail> {
         (&[sum], there, Op::AddJump(31, 6, 0)),
         (&[sum], back, Op::AddInt(31, 31, 6)),
         (&[sum, Instr::Tick], there, Op::AddInt(31, 31, 6)),
-        (&[call, sum], there, Op::Call(31, 6, 1, 0)),
-        (&[call, sum], Term::Halt, Op::StoreLabel(31, 6, 1)),
-        (&[call, sum, Instr::Tick], there, Op::StoreLabel(31, 6, 1)),
+        (&[call, sum], there, Op::Call(6, 1, 0)),
+        (&[call, sum], Term::Halt, Op::StoreLabel(6, 1)),
+        (&[call, sum, Instr::Tick], there, Op::StoreLabel(6, 1)),
         (
             &[store(31, 5, Value::Label(1)), sum],
             there,
-            Op::StoreLabel(31, 5, 1),
+            Op::StoreLabel(5, 1),
         ),
-        (
-            &[store(30, 6, Value::Label(1)), sum],
-            there,
-            Op::StoreLabel(30, 6, 1),
-        ),
-        (&[cell, way], back, Op::Return(2, 3, 31, 7, 8)),
+        (&[store(30, 6, Value::Label(1)), sum], there, Op::Leave),
+        (&[cell, way], back, Op::Return(2, 3, 7, 8)),
         (
             &[cell, way],
             Term::Jump(Value::Reg(2)),
-            Op::LoadTwo(2, 3, 31, 7, 8),
+            Op::LoadTwo(2, 3, 7, 8),
         ),
-        (&[cell, way], there, Op::LoadTwo(2, 3, 31, 7, 8)),
-        (&[cell, way, Instr::Tick], back, Op::LoadTwo(2, 3, 31, 7, 8)),
+        (&[cell, way], there, Op::LoadTwo(2, 3, 7, 8)),
+        (&[cell, way, Instr::Tick], back, Op::LoadTwo(2, 3, 7, 8)),
     ];
     for (body, term, op) in cases {
         assert_eq!(rt; first_op(rt.alloc(), body, term)?, Some(op));
     }
+    Ok(())
+}
+
+#[test]
+fn two_numbers_are_stored_by_one_op(rt: HostRuntime) -> Result<(), Fail> {
+    let (zero, far) = (Value::Int(0), Value::Int(128));
+    let cases: [(&[Instr], Op); 5] = [
+        (
+            &[store(31, 7, zero), store(31, 9, Value::Int(-128))],
+            Op::StoreInts(0, -128, 7, 9),
+        ),
+        (&[store(31, 7, zero), store(31, 9, far)], Op::StoreInt(7, 0)),
+        (
+            &[store(31, 7, far), store(31, 9, zero)],
+            Op::StoreInt(7, 128),
+        ),
+        (
+            &[store(31, 7, zero), store(30, 9, zero)],
+            Op::StoreInt(7, 0),
+        ),
+        (&[store(30, 7, zero), store(31, 9, zero)], Op::Leave),
+    ];
+    for (body, op) in cases {
+        assert_eq!(rt; first_op(rt.alloc(), body, Term::Halt)?, Some(op));
+    }
+    Ok(())
+}
+
+#[test]
+fn a_way_back_and_its_store_are_one_op(rt: HostRuntime) -> Result<(), Fail> {
+    let down = calc(31, 31, Alu::Sub, Value::Int(40));
+    let up = calc(31, 31, Alu::Sub, Value::Int(-1));
+    let mark = Instr::PrmPop { base: 31, off: 3 };
+    let other = Instr::PrmPop { base: 30, off: 3 };
+    let kept = store(31, 5, Value::Reg(2));
+    let own = store(31, 5, Value::Reg(31));
+    let cases: [(&[Instr], Op); 5] = [
+        (&[down, mark, kept], Op::BackStore(2, 40, 3, 5)),
+        (&[down, mark, own], Op::SubInt(31, 31, 40)),
+        (&[down, other, kept], Op::SubInt(31, 31, 40)),
+        (&[down, kept, mark], Op::SubInt(31, 31, 40)),
+        (&[up, mark, kept], Op::SubInt(31, 31, -1)),
+    ];
+    for (body, op) in cases {
+        assert_eq!(rt; first_op(rt.alloc(), body, Term::Halt)?, Some(op));
+    }
+    Ok(())
+}
+
+#[test]
+fn a_tick_and_its_test_are_one_op(rt: HostRuntime) -> Result<(), Fail> {
+    let tick = Instr::Tick;
+    let levels = load(2, 31, 7);
+    let cases: [(&[Instr], Op); 4] = [
+        (&[tick, levels, if_jump(2, 1)], Op::TickTest(2, 7, 1)),
+        (&[tick, levels, if_jump(3, 1)], Op::Tick),
+        (&[tick, load(2, 30, 7), if_jump(2, 1)], Op::Tick),
+        (&[tick, if_jump(2, 1)], Op::Tick),
+    ];
+    for (body, op) in cases {
+        assert_eq!(rt; first_op(rt.alloc(), body, Term::Halt)?, Some(op));
+    }
+    Ok(())
+}
+
+#[test]
+fn a_callee_with_a_level_less_is_one_op(rt: HostRuntime) -> Result<(), Fail> {
+    let way = store(31, 40, Value::Label(1));
+    let cases = [
+        (4, way, Op::LevelDown(2, 40, 1)),
+        (4, store(31, 41, Value::Label(1)), Op::Tick),
+        (4, store(30, 40, Value::Label(1)), Op::Tick),
+        (4, store(31, 40, Value::Int(1)), Op::Tick),
+        (3, store(31, 43, Value::Reg(1)), Op::Tick),
+        (3, store(31, 42, Value::Reg(0)), Op::Tick),
+        (3, store(31, 39, Value::Reg(1)), Op::Tick),
+        (2, calc(1, 0, Alu::Sub, Value::Int(2)), Op::Tick),
+        (2, calc(1, 0, Alu::Add, Value::Int(1)), Op::Tick),
+        (2, calc(1, 1, Alu::Sub, Value::Int(1)), Op::Tick),
+        (1, load(1, 31, 2), Op::Tick),
+        (1, load(0, 31, 3), Op::Tick),
+        (1, load(0, 30, 2), Op::Tick),
+        (0, Instr::PrmDrop, Op::Leave),
+    ];
+    for (at, other, op) in cases {
+        let mut body = [
+            Instr::Tick,
+            load(0, 31, 2),
+            calc(1, 0, Alu::Sub, Value::Int(1)),
+            store(31, 42, Value::Reg(1)),
+            way,
+        ];
+        if let Some(changed) = body.get_mut(at) {
+            *changed = other;
+        }
+        assert_eq!(rt; first_op(rt.alloc(), &body, Term::Halt)?, Some(op));
+    }
+    Ok(())
+}
+
+// A call with a level less, in an activation of 40 cells: of where the caller's levels are, and the
+// callee's.
+const fn call(off: u16, levels: u16) -> [Instr; 6] {
+    [
+        Instr::Tick,
+        load(0, 31, off),
+        calc(0, 0, Alu::Sub, Value::Int(1)),
+        store(31, levels, Value::Reg(0)),
+        store(31, 40, Value::Label(1)),
+        calc(31, 31, Alu::Add, Value::Int(40)),
+    ]
+}
+
+#[test]
+fn a_call_with_a_level_less_is_one_op(rt: HostRuntime) -> Result<(), Fail> {
+    let there = Term::Jump(Value::Label(0));
+    let way = store(31, 40, Value::Label(1));
+    let whole = Op::LevelCall(2, 40, 1, 0);
+    let rest = Op::DownCall(2, 40, 1, 0);
+    let less = Op::SubIntStore(0, 0, 1, 42);
+    let further = calc(31, 31, Alu::Add, Value::Int(41));
+    let two = calc(0, 0, Alu::Sub, Value::Int(2));
+    let cases = [
+        (4, way, there, whole, rest),
+        (4, way, Term::Halt, Op::Tick, less),
+        (5, further, there, Op::Tick, less),
+        (4, store(31, 43, Value::Label(1)), there, Op::Tick, less),
+        (2, two, there, Op::Tick, Op::SubIntStore(0, 0, 2, 42)),
+        (1, load(0, 31, 3), there, Op::Tick, rest),
+        (1, load(1, 31, 2), there, Op::Tick, rest),
+    ];
+    for (at, other, term, first, third) in cases {
+        let mut body = call(2, 42);
+        if let Some(changed) = body.get_mut(at) {
+            *changed = other;
+        }
+        assert_eq!(rt; first_op(rt.alloc(), &body, term)?, Some(first));
+        let tail = body.get(2..).ok_or("a call")?;
+        assert_eq!(rt; first_op(rt.alloc(), tail, term)?, Some(third));
+    }
+    assert_eq!(rt;
+        first_op(rt.alloc(), &call(256, 296), there)?,
+        Some(Op::Tick)
+    );
     Ok(())
 }
 
@@ -479,8 +655,9 @@ fn marks_are_ops(rt: HostRuntime) -> Result<(), Fail> {
         split: 1,
     };
     let cases = [
-        (mark, Op::PrmPush(31, 2, 6, 1)),
-        (Instr::PrmPop { base: 31, off: 2 }, Op::PrmPop(31, 2)),
+        (mark, Op::PrmPush(2, 6, 1)),
+        (Instr::PrmPop { base: 31, off: 2 }, Op::PrmPop(2)),
+        (Instr::PrmPop { base: 30, off: 2 }, Op::Leave),
         (Instr::PrmDrop, Op::Leave),
     ];
     for (instr, op) in cases {
