@@ -6,6 +6,8 @@ pub mod Scopes
 pub mod Registers
 -- the instructions and the trap blocks of an expression
 pub mod Bodies
+-- operators over two expressions
+pub mod Nodes
 -- where in a code instructions and blocks stand
 pub mod Standing
 -- how a task holds variables and tables

@@ -7,6 +7,7 @@ ghost use Rattle.tp_value.specs.declared.limits.TheConstants.{MAX_TABLES};
 ghost use Rattle.expr_lower.specs.Registers.{last_left};
 ghost use Rattle.tp_value.specs.declared.Table.{Table};
 ghost use Rattle.loop_rules.specs.Limits.{height};
+ghost use Rattle.loop_syntax.specs.declared.Expr.{Expr};
 ghost use Rattle.loop_meaning.specs.declared.value.Variable.{Variable};
 ghost use Rattle.loop_meaning.specs.Expressions.{eval};
 ghost use Rattle.loop_meaning.specs.InRange.{ExprInRange};
@@ -18,6 +19,7 @@ ghost use Rattle.expr_lower.specs.Bodies.{traps_of, trap_count, blocks_of};
 ghost use Rattle.tp_value.specs.declared.TrapKind.TheVariants.{Divide, Index};
 ghost use Rattle.expr_lower.specs.Holding.{Holds};
 ghost use Rattle.expr_lower.specs.Leaving.{ComesTo};
+ghost use Rattle.expr_lower.specs.Nodes.{IsNode, operation_height, operation_traps};
 ghost use Rattle.expr_lower.specs.Scopes.{IsIn, home_of, offset_of, register_of};
 ghost use Rattle.expr_lower.specs.Standing.{AreAt};
 
@@ -38,6 +40,19 @@ pub struct Site {
     pub to: u8,
     /// The label of the first trap block of the list to which the expression's own are appended.
     pub first: u32,
+}
+
+/// An operator over two expressions. It may be a node of no tree.
+#[derive(Clone, Copy)]
+pub struct Operation<'a> {
+    /// The operator.
+    pub operator: BinOp,
+    /// Where it stands.
+    pub place: Place,
+    /// Its left operand.
+    pub left: &'a Expr,
+    /// Its right operand.
+    pub right: &'a Expr,
 }
 
 // the same with the next register
@@ -180,6 +195,52 @@ fn push_operand(
     }
 }
 
+/// Appends to a body the instructions of an operation, and its trap blocks to those that are there,
+/// as `push_expr` does with an expression.
+#[cycle(push)]
+pub fn push_binary(
+    alloc: Global,
+    body: &mut Vec<Instr>,
+    traps: &mut Vec<Block>,
+    operation: Operation,
+    scope: &Scope,
+    at: Site,
+) -> Result<(), NoMemory>
+    requires few_tables { length scope.now.tables.items ≤ MAX_TABLES }
+    requires registers { at.to + operation_height operation ≤ MAX_EXPRESSION_HEIGHT }
+    requires labels { at.first + length traps.old.items + operation_traps operation < 2 ^ 32 }
+    ensures body { OnOk result
+        ((e : Expr) → IsNode operation.entry e
+        → body.new.items
+        ≡ body.old.items ++ body_of scope.now (at.first + length traps.old.items) e at.to) }
+    ensures traps { OnOk result
+        ((e : Expr) → IsNode operation.entry e
+        → traps.new.items ≡ traps.old.items ++ traps_of (at.first + length traps.old.items) e) }
+    ensures count { OnOk result
+        (length traps.new.items ≡ length traps.old.items + operation_traps operation.entry) }
+    ensures literals { OnOk result
+        (ExprInRange operation.entry.left.now × ExprInRange operation.entry.right.now) }
+{
+    let Site { to, first } = at;
+    let left = push_operand(alloc, body, traps, operation.left, scope, at)?;
+    let mut code = Vec::new(alloc);
+    let right = push_operand(alloc, &mut code, traps, operation.right, scope, above(at))?;
+    let places = Places { to, left, right };
+    let number = literal(operation.right);
+    push_operator(
+        alloc,
+        body,
+        traps,
+        first,
+        places,
+        operation.operator,
+        operation.place,
+        &code,
+        number,
+    )?;
+    Ok(())
+}
+
 /// Appends to a body the instructions that leave an expression's value in register `at.to`, and its
 /// trap blocks to those that are there. The first of all these trap blocks has the label
 /// `at.first`.
@@ -235,14 +296,13 @@ pub fn push_expr(
             push_negation(body, to, left)?;
         }
         Expr::Bin(op, place, a, b) => {
-            let left = push_operand(alloc, body, traps, a, scope, at)?;
-            let mut code = Vec::new(alloc);
-            let right = push_operand(alloc, &mut code, traps, b, scope, above(at))?;
-            let places = Places { to, left, right };
-            let number = literal(b);
-            push_operator(
-                alloc, body, traps, first, places, *op, *place, &code, number,
-            )?;
+            let operation = Operation {
+                operator: *op,
+                place: *place,
+                left: a,
+                right: b,
+            };
+            push_binary(alloc, body, traps, operation, scope, at)?;
         }
     }
     Ok(())

@@ -14,7 +14,7 @@ mod sizes;
 mod traps;
 
 pub use cells::push_range_tests;
-pub use expression::{Site, lower_expr, push_expr};
+pub use expression::{Operation, Site, lower_expr, push_binary, push_expr};
 pub use operators::literal;
 pub use registers::{BASE, LAST_LEFT, VALUES};
 pub use scope::{Scope, home_of, offset_of, register_of, table_number};

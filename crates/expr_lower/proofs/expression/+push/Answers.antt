@@ -32,85 +32,62 @@ push_expr-returns-in_ok-push_cell-in-Cell-clause-traps t c =
     c.in_ok-push_cell-in-Cell.ensures.traps
     ∙ ap (λ (e : Expr). before ++ traps_of (first + length before) e) (sym c.in-Cell.is)
 
-pub push_expr-returns-in_ok-push_operator-in-Bin-clause-body :
-    goal.push_expr-returns-in_ok-push_operator-in-Bin-clause-body
-push_expr-returns-in_ok-push_operator-in-Bin-clause-body t c =
+pub push_binary-returns-clause-body : goal.push_binary-returns-clause-body
+push_binary-returns-clause-body t c e node =
     let scope = c.args.scope.now in
     let to = c.args.at.to in
     let first = c.args.at.first in
     let before = c.args.body.now.items in
-    let traps = c.args.traps.now.items in
-    let one = c.push_operand-in-Bin.new.traps.items in
-    let two = c.push_operand-in-Bin-2.new.traps.items in
-    let a = c.in-Bin.a.value in
-    let b = c.in-Bin.b.value in
-    let start = first + length traps in
-    let above = c.above-in-Bin.result.to in
-    let right = c.deref-in-Bin-2.result.now in
-    let one_is : one ≡ traps ++ traps_of start a =
-    c.in_ok-left-in-Bin.ensures.traps
-    ∙ ap (λ (e : Expr). traps ++ traps_of start e) c.deref-in-Bin.ensures in
-    let two_is : two ≡ one ++ traps_of (first + length one) b =
-    c.in_ok-right-in-Bin.ensures.traps
-    ∙ ap (λ (n : ℕ). one ++ traps_of (n + length one) right) c.above-in-Bin.ensures.first
-    ∙ ap (λ (e : Expr). one ++ traps_of (first + length one) e) c.deref-in-Bin-2.ensures in
+    let one = c.push_operand.new.traps.items in
+    let a = c.args.operation.left.now in
+    let b = c.args.operation.right.now in
+    let start = first + length c.args.traps.now.items in
+    let above = c.above.result.to in
+    let behind : first + length one ≡ start + trap_count a =
+    label_behind first c.args.traps.now.items one a c.in_ok-left.ensures.traps in
     let second = start + trap_count a in
-    let behind : first + length one ≡ second = label_behind first traps one a one_is in
-    let last : first + length two ≡ second + trap_count b =
-    label_behind first one two b two_is ∙ ap (λ (n : ℕ). n + trap_count b) behind in
-    let left_code = operand_body (home_of scope a) (body_of scope start a to) in
-    let right_code : ℕ → Expr → ℕ → List Instr =
-    λ n e r. operand_body (home_of scope e) (body_of scope n e r) in
-    let left_is : c.push_operand-in-Bin.new.body.items ≡ before ++ left_code =
-    c.in_ok-left-in-Bin.ensures.body
-    ∙ ap (λ (e : Expr). before ++ right_code start e to) c.deref-in-Bin.ensures in
-    let right_is : c.push_operand-in-Bin-2.new.body.items
-    ≡ right_code second b (to + 1) =
-    c.in_ok-right-in-Bin.ensures.body
-    ∙ ap
-    (λ (xs : List Instr). xs ++ right_code (c.above-in-Bin.result.first + length one) right above)
+    let two_is : c.push_operand-2.new.traps.items ≡ one ++ traps_of (first + length one) b =
+    c.in_ok-right.ensures.traps
+    ∙ ap (λ (n : ℕ). one ++ traps_of (n + length one) b) c.above.ensures.first in
+    let last : first + length c.push_operand-2.new.traps.items ≡ second + trap_count b =
+    label_behind first one c.push_operand-2.new.traps.items b two_is
+    ∙ ap (λ (n : ℕ). n + trap_count b) behind in
+    let right_code : ℕ → ℕ → List Instr =
+    λ n r. operand_body (home_of scope b) (body_of scope n b r) in
+    let right_is : c.push_operand-2.new.body.items ≡ right_code second (to + 1) =
+    c.in_ok-right.ensures.body
+    ∙ ap (λ (xs : List Instr). xs ++ right_code (c.above.result.first + length one) above)
     c.new-code.ensures.items
-    ∙ ap (λ (n : ℕ). right_code (n + length one) right above) c.above-in-Bin.ensures.first
-    ∙ ap (λ (n : ℕ). right_code n right above) behind
-    ∙ ap (λ (e : Expr). right_code second e above) c.deref-in-Bin-2.ensures
-    ∙ ap (λ (r : ℕ). right_code second b r) c.above-in-Bin.ensures.to in
-    let left_at : c.in_ok-left-in-Bin.left ≡ operand_at (home_of scope a) to =
-    c.in_ok-left-in-Bin.ensures.place
-    ∙ ap (λ (e : Expr). operand_at (home_of scope e) to) c.deref-in-Bin.ensures in
-    let right_at : c.in_ok-right-in-Bin.right ≡ operand_at (home_of scope b) (to + 1) =
-    c.in_ok-right-in-Bin.ensures.place
-    ∙ ap (λ (e : Expr). operand_at (home_of scope e) above) c.deref-in-Bin-2.ensures
-    ∙ ap (λ (r : ℕ). operand_at (home_of scope b) r) c.above-in-Bin.ensures.to in
-    let number : c.literal-number.result ≡ literal b =
-    c.literal-number.ensures.number ∙ ap literal c.deref-in-Bin-3.ensures in
-    code_behind before c.push_operand-in-Bin.new.body.items c.push_operator.new.body.items left_code
-    _ _ left_is c.in_ok-push_operator-in-Bin.ensures.body
-    (operation_same c.in-Bin.op to _ _ _ _ _ _ _ _ _ _ left_at right_at
-    (c.deref-in-Bin-4.ensures.value ∙ right_is) number last)
-    ∙ ap (λ (e : Expr). before ++ body_of scope start e to) (sym c.in-Bin.is)
+    ∙ ap (λ (n : ℕ). right_code (n + length one) above) c.above.ensures.first
+    ∙ ap (λ (n : ℕ). right_code n above) behind
+    ∙ ap (λ (r : ℕ). right_code second r) c.above.ensures.to in
+    let right_at : c.in_ok-right.right ≡ operand_at (home_of scope b) (to + 1) =
+    c.in_ok-right.ensures.place
+    ∙ ap (λ (r : ℕ). operand_at (home_of scope b) r) c.above.ensures.to in
+    code_behind before c.push_operand.new.body.items c.push_operator.new.body.items
+    (operand_body (home_of scope a) (body_of scope start a to)) _ _ c.in_ok-left.ensures.body
+    c.in_ok-push_operator.ensures.body
+    (operation_same c.args.operation.operator to _ _ _ _ _ _ _ _ _ _ c.in_ok-left.ensures.place
+    right_at (c.deref.ensures.value ∙ right_is) c.literal-number.ensures.number last)
+    ∙ ap (λ (x : Expr). before ++ body_of scope start x to) (sym node.is)
 
-pub push_expr-returns-in_ok-push_operator-in-Bin-clause-traps :
-    goal.push_expr-returns-in_ok-push_operator-in-Bin-clause-traps
-push_expr-returns-in_ok-push_operator-in-Bin-clause-traps t c =
+pub push_binary-returns-clause-traps : goal.push_binary-returns-clause-traps
+push_binary-returns-clause-traps t c e node =
     let first = c.args.at.first in
     let before = c.args.traps.now.items in
-    let one = c.push_operand-in-Bin.new.traps.items in
-    let two = c.push_operand-in-Bin-2.new.traps.items in
-    let a = c.in-Bin.a.value in
-    let b = c.in-Bin.b.value in
+    let one = c.push_operand.new.traps.items in
+    let two = c.push_operand-2.new.traps.items in
+    let a = c.args.operation.left.now in
+    let b = c.args.operation.right.now in
     let own : Option ℤ → ℕ → List Block =
-    λ number n. cond (can_trap c.in-Bin.op number) (trap_block n Divide c.in-Bin.place ∷ []) [] in
-    let one_is : one ≡ before ++ traps_of (first + length before) a =
-    c.in_ok-left-in-Bin.ensures.traps
-    ∙ ap (λ (e : Expr). before ++ traps_of (first + length before) e) c.deref-in-Bin.ensures in
+    λ number n. cond (can_trap c.args.operation.operator number)
+    (trap_block n Divide c.args.operation.place ∷ []) [] in
     let two_is : two ≡ one ++ traps_of (first + length one) b =
-    c.in_ok-right-in-Bin.ensures.traps
-    ∙ ap (λ (n : ℕ). one ++ traps_of (n + length one) c.deref-in-Bin-2.result.now)
-    c.above-in-Bin.ensures.first
-    ∙ ap (λ (e : Expr). one ++ traps_of (first + length one) e) c.deref-in-Bin-2.ensures in
-    traps_behind first before one two c.push_operator.new.traps.items a b (own (literal b)) one_is
-    two_is
-    (c.in_ok-push_operator-in-Bin.ensures.traps
+    c.in_ok-right.ensures.traps
+    ∙ ap (λ (n : ℕ). one ++ traps_of (n + length one) b) c.above.ensures.first in
+    traps_behind first before one two c.push_operator.new.traps.items a b (own (literal b))
+    c.in_ok-left.ensures.traps two_is
+    (c.in_ok-push_operator.ensures.traps
     ∙ ap (λ (number : Option ℤ). two ++ own number (first + length two))
-    (c.literal-number.ensures.number ∙ ap literal c.deref-in-Bin-3.ensures))
-    ∙ ap (λ (e : Expr). before ++ traps_of (first + length before) e) (sym c.in-Bin.is)
+    c.literal-number.ensures.number)
+    ∙ ap (λ (x : Expr). before ++ traps_of (first + length before) x) (sym node.is)
