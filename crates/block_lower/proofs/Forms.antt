@@ -2,6 +2,8 @@
 
 -- the laws of statements without blocks
 pub mod Simple
+-- the law of opposites of comparisons
+pub mod Opposites
 -- branches, and the law of `if`
 pub mod Choices
 -- how far one number is above another

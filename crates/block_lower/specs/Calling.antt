@@ -8,7 +8,7 @@ use Rattle.tpal_syntax.specs.declared.instructions.Instr.TheVariants as instr
 use Rattle.tpal_syntax.specs.declared.instructions.Value.TheVariants as value
 use Rattle.tpal_syntax.specs.Listing.{Listing}
 use Rattle.expr_lower.specs.Registers.{base_register}
-use Rattle.block_lower.specs.Layout.{Activation, kept_cell, levels_cell, return_cell}
+use Rattle.block_lower.specs.Layout.{Activation, kept_argument, levels_cell, return_cell}
 use Rattle.block_lower.specs.Layout.{value_cell}
 use Rattle.block_lower.specs.Opening.{load, store}
 
@@ -36,8 +36,8 @@ module _ (code : Listing) (act : Activation) where
   abbrev pub parameter_cell : ℕ → ℕ
   parameter_cell i = act.size + value_cell i
 
-  -- kept numbers, from the first on, become arguments
+  -- kept arguments, from one on, become those of a call
   abbrev pub passed : ℕ → ℕ → List Instr → List Instr
   passed zero i more = more
   passed (suc n) i more =
-      load 0 (kept_cell act i) ∷ store (parameter_cell i) (value.Reg 0) ∷ passed n (suc i) more
+      load 0 (kept_argument act i) ∷ store (parameter_cell i) (value.Reg 0) ∷ passed n (suc i) more

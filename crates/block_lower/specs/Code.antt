@@ -39,10 +39,11 @@ use Rattle.expr_lower.specs.Scopes.{table_number}
 use Rattle.expr_lower.specs.Standing.{AreAt}
 use Rattle.block_lower.specs.DeepMarked.{IsDeepSite}
 use Rattle.block_lower.specs.LeafMarked.{IsLeafAt, leaf_turn}
-use Rattle.block_lower.specs.Layout.{value_cell, bound_cell, kept_cell, kept_value}
-use Rattle.block_lower.specs.Layout.{kept_by_both, Entry, entry_of, Activation}
+use Rattle.block_lower.specs.Layout.{value_cell, bound_cell, kept_cell, kept_by_both, Entry}
+use Rattle.block_lower.specs.Layout.{entry_of, Activation, kept_argument}
 use Rattle.block_lower.specs.Marked.{IsQuietSite}
 use Rattle.block_lower.specs.Names.{Sees, names_after}
+use Rattle.block_lower.specs.Opposite.{opposite}
 use Rattle.block_lower.specs.Pairs.{IsPair}
 use Rattle.block_lower.specs.Quiet.{list_is_quiet}
 use Rattle.block_lower.specs.Round.{Round, leaf_round, loop_round, par_round, register_for}
@@ -233,6 +234,15 @@ module _ (code : Listing) (act : Activation) where
           → Other round names other.items second exit
           → Opens code exit more end
           → Code round names (If e body other) instrs (to second) more end
+      if_not_code : {round : Round} {names : List (List ℕ)} {e e' : Expr}
+          (body other : Vec Stmt Global) {second exit : ℕ} {instrs inner more : List Instr}
+          {end last : Term}
+          → opposite e ≡ Some e'
+          → Computes round.registers names e' 0 instrs (instr.IfJump 0 second ∷ inner)
+          → Codes round names body.items inner end [] (to exit)
+          → Other round names other.items second exit
+          → Opens code exit more last
+          → Code round names (If e body other) instrs end more last
       while_code : {round : Round} {names : List (List ℕ)} {e : Expr}
           (body : Vec Stmt Global) {again exit : ℕ} {instrs inner test more : List Instr}
           {last end : Term}
@@ -372,7 +382,7 @@ module _ (code : Listing) (act : Activation) where
           {f g : App} (first second : Entry) (site : CallSite) {x_cell y_cell : ℕ}
           {arguments others begins more : List Instr} {last end : Term}
           → round.registers ≡ []
-          → Keeps kept_by_both
+          → Keeps (kept_by_both (length g.args.items))
           → entry_of act.functions f.callee.text.items ≡ Some first
           → length f.args.items ≡ first.parameters
           → entry_of act.functions g.callee.text.items ≡ Some second
@@ -381,12 +391,12 @@ module _ (code : Listing) (act : Activation) where
           → IsCell names round.fixed y.text.items y_cell
           → length g.args.items ≤ MAX_PARAMETERS
           → Arguments names (parameter_cell code act) 0 f.args.items arguments others
-          → Arguments names (kept_cell act) 0 g.args.items others begins
-          → IsPair code act act.dispatch f.callee.place (length g.args.items) first second site
+          → Arguments names (kept_argument act) 0 g.args.items others begins
+          → IsPair code act act.dispatch f.callee.place x_cell (length g.args.items) first second
+          site
           begins
           last
-          (load 1 (kept_cell act kept_value) ∷ store x_cell (value.Reg 1)
-          ∷ store y_cell (value.Reg 0) ∷ more)
+          (store y_cell (value.Reg 0) ∷ more)
           end
           → Code round names (Both x f y g) (instr.Salloc first.size ∷ arguments) last more end
       print_code : {round : Round} {names : List (List ℕ)} {place : Place}

@@ -1,7 +1,7 @@
 -- Where the words of an activation stand: offsets from the position in the base register.
 use Rattle.std.specs.Prelude.{ℕ, ◌+◌, ◌*◌, Bool, cond, bytes_eq, List, [], ◌∷◌, Option, None}
 use Rattle.std.specs.Prelude.{Some}
-use Rattle.tp_value.specs.declared.limits.TheConstants.{MAX_PAR_NESTING, MAX_PARAMETERS}
+use Rattle.tp_value.specs.declared.limits.TheConstants.{MAX_PAR_NESTING}
 
 -- the label to return to
 abbrev pub return_cell : ℕ
@@ -62,17 +62,16 @@ pub record Activation : Type 0 where
 abbrev pub kept_cell : Activation → ℕ → ℕ
 kept_cell act i = value_cell act.most + i
 
--- What a `both` keeps: from 0 on the arguments of its second call, and behind as many as there may
--- be the value of the first call, the mark of the `both`, and its record.
-abbrev pub kept_value : ℕ
-kept_value = MAX_PARAMETERS
-
+-- what a `both` keeps: its mark, its record, and behind them the arguments of its second call
 abbrev pub kept_mark : ℕ
-kept_mark = MAX_PARAMETERS + 1
+kept_mark = 0
 
 abbrev pub kept_record : ℕ
-kept_record = MAX_PARAMETERS + 2
+kept_record = 1
 
--- how many values it keeps
-abbrev pub kept_by_both : ℕ
-kept_by_both = MAX_PARAMETERS + 3
+abbrev pub kept_argument : Activation → ℕ → ℕ
+kept_argument act i = kept_cell act (2 + i)
+
+-- how many values it keeps where that call has so many arguments
+abbrev pub kept_by_both : ℕ → ℕ
+kept_by_both many = 2 + many

@@ -22,6 +22,8 @@ pub mod LeafMarked
 pub mod Calling
 -- the code of two calls that can be cut
 pub mod Pairs
+-- the opposite of a comparison
+pub mod Opposite
 -- which code is the code of a statement
 pub mod Code
 -- which code is the code of a program

@@ -46,21 +46,23 @@ use Rattle.block_lower.specs.declared.round.Round as told
 use Rattle.block_lower.specs.Bodies.{entries, activation}
 use Rattle.block_lower.specs.Code.{Opens, OpensAs, Computes, Operand, Arguments}
 use Rattle.block_lower.specs.Code.{parameter_cell, passed}
-use Rattle.block_lower.specs.Code.{Calls, Code, Codes, Branch, Other, to, store, load, below_test}
+use Rattle.block_lower.specs.Code.{Calls, Code, Codes, Other, to, store, load, below_test}
 use Rattle.block_lower.specs.Code.{step_up, put_tested}
 use Rattle.block_lower.specs.DeepMarked.{IsDeepSite, last_begun, next_begun}
 use Rattle.block_lower.specs.Fitting.{IsVisible, AreVisible, Fits, AllFit}
-use Rattle.block_lower.specs.Layout.{value_cell, bound_cell, kept_cell, Entry, Activation}
+use Rattle.block_lower.specs.Layout.{value_cell, bound_cell, Entry, Activation, kept_argument}
 use Rattle.block_lower.specs.LeafMarked.{IsLeafAt, leaf_turn}
 use Rattle.block_lower.specs.Marked.{length_test, marked_begin, unmark, side_test, IsQuietSite}
 use Rattle.block_lower.specs.Names.{Sees, SeesAs, StandFor}
+use Rattle.block_lower.specs.Opposite.{opposite}
 use Rattle.block_lower.specs.Pairs.{IsPair, call_enters, call_site, pair_begins, pair_joined}
 use Rattle.block_lower.specs.Pairs.{passed_call, second_call}
 use Rattle.block_lower.specs.Quiet.{list_is_quiet}
 use Rattle.block_lower.specs.Round.{Round}
 use Rattle.block_lower.specs.Sites.{rows_from}
 use Rattle.block_lower.specs.Sizes.{has_row}
-use Rattle.block_lower.specs.Writing.{label, next_label, Stands, Continues, Leads}
+use Rattle.block_lower.specs.Writing.{label, next_label, IsFresh, Pushes, Stands, Continues}
+use Rattle.block_lower.specs.Writing.{Leads}
 
 -- ---- what is known before
 
@@ -128,6 +130,18 @@ WritesTest scope e first second old new =
     → Leads code old
     (λ instrs end. (end ≡ to second)
     × Computes code act registers names e 0 instrs (IfJump 0 first ∷ []))
+
+-- The test of an `if` was written, with a second branch at a label. Where its opposite was written,
+-- the first branch goes on in its block, else in the next one.
+pub data WritesChoice (scope : Scope) (e : Expr) (second : ℕ) (old new : Output) : Type 0 where
+  by_opposite : {e' : Expr} {middle : Output}
+      → opposite e ≡ Some e'
+      → WritesValue scope e' 0 old middle
+      → Pushes (IfJump 0 second ∷ []) middle new
+      → WritesChoice scope e second old new
+  by_test : IsFresh new
+      → WritesTest scope e (label new) second old new
+      → WritesChoice scope e second old new
 
 -- the test of a `loop` was written, and its block closed
 abbrev pub WritesBelow : ℕ → Value → ℕ → ℕ → Output → Output → Type 0
@@ -458,7 +472,7 @@ pub record AreBothArguments (code : Listing) (act : Activation) (names : List (L
     (fs gs : List Expr) (instrs more : List Instr) : Type 0 where
   pub others : List Instr
   pub first : Arguments code act names (parameter_cell code act) 0 fs instrs others
-  pub second : Arguments code act names (kept_cell act) 0 gs others more
+  pub second : Arguments code act names (kept_argument act) 0 gs others more
 
 -- the arguments of two calls were stored
 abbrev pub WritesBothArguments : Body → Scope → List Expr → List Expr → Output → Output → Type 0
@@ -498,10 +512,10 @@ WritesFirst on place target site old new =
     × OpensAs code (Ready on.dispatch) (next_label old) (call_enters on.size) (to target.label)
 
 -- what stands behind the join of two calls was written, and its block closed
-abbrev pub WritesJoined : Body → Target → ℕ → Output → Output → Type 0
-WritesJoined on target back old new =
+abbrev pub WritesJoined : Body → ℕ → Target → ℕ → Output → Output → Type 0
+WritesJoined on cell target back old new =
     (code : Listing) (tables : List (List ℕ)) → Stands code new
-    → Continues code old (pair_joined code (activation on tables) target.size) (to back)
+    → Continues code old (pair_joined code (activation on tables) cell target.size) (to back)
 
 -- the second of two calls was written from its arguments on, and its block closed
 abbrev pub WritesPassedCall : Body → ℕ → Target → ℕ → Output → Output → Type 0
@@ -527,14 +541,14 @@ pub record GoesTo (entry : Entry) (target : Target) : Type 0 where
   pub size : entry.size ≡ target.size
 
 -- two calls were written, from the first one's tick on, and the block behind the second is open
-abbrev pub WritesPair : Body → Place → ℕ → Target → Target → Output → Output → Type 0
-WritesPair on place many first second old new =
+abbrev pub WritesPair : Body → Place → ℕ → ℕ → Target → Target → Output → Output → Type 0
+WritesPair on place cell many first second old new =
     (code : Listing) (tables : List (List ℕ)) (one two : Entry) (more : List Instr) (last : Term)
     → GoesTo one first
     → GoesTo two second
     → Continues code new more last
     → Leads code old
-    (λ instrs end. IsPair code (activation on tables) on.dispatch place many one two
+    (λ instrs end. IsPair code (activation on tables) on.dispatch place cell many one two
     (pair_site code (activation on tables) many (next_label old + 1)) instrs end more last)
 
 -- ---- statements
@@ -568,7 +582,7 @@ LowersAll on as_told scope ss old new =
     (λ instrs end. Codes code (activation on tables) round names ss instrs end more
     last)
 
--- a branch, which goes on at a label, was written and closed; the open block was to be its first
+-- statements that go on at a label were written, and their block closed
 abbrev pub LowersBranch : Body → told.Round → Scope → List Stmt → ℕ → Output → Output → Type 0
 LowersBranch on as_told scope body exit old new =
     (code : Listing) (tables names : List (List ℕ)) (round : Round)
@@ -576,9 +590,11 @@ LowersBranch on as_told scope body exit old new =
     → SeesAs scope names tables round.registers
     → AllFit tables (entries on.callees.items) on.most round names body
     → Stands code new
-    → Stands code old × Branch code (activation on tables) round names body (label old) exit
+    → Leads code old
+    (λ instrs end. Codes code (activation on tables) round names body instrs end [] (to exit))
 
--- the same of a second branch, which may have no block; the exit is behind it
+-- a second branch was written, which may have no block; the open block was to be its first, and the
+-- exit is behind it
 abbrev pub LowersOther : Body → told.Round → Scope → List Stmt → ℕ → Output → Output → Type 0
 LowersOther on as_told scope body exit old new =
     (code : Listing) (tables names : List (List ℕ)) (round : Round)

@@ -15,17 +15,17 @@ use Rattle.tpal_syntax.specs.Listing.{Listing}
 use Rattle.expr_lower.specs.Standing.{AreAt}
 use Rattle.expr_lower.specs.Registers.{base_register}
 use Rattle.block_lower.specs.Calling.{call_exit, passed}
-use Rattle.block_lower.specs.Layout.{Activation, Entry, kept_cell, kept_mark}
-use Rattle.block_lower.specs.Layout.{kept_record, kept_value, levels_cell, return_cell}
+use Rattle.block_lower.specs.Layout.{Activation, Entry, kept_argument, kept_cell, kept_mark}
+use Rattle.block_lower.specs.Layout.{kept_record, levels_cell, return_cell}
 use Rattle.block_lower.specs.Opening.{Opens, OpensAs, load, store, to}
 use Rattle.handler_gen.specs.Blocks.{call_handler_blocks}
 use Rattle.handler_gen.specs.Sites.{IsCallSite, child_end_label, joined_label, target_label}
 use Rattle.join_gen.specs.Blocks.{call_join_blocks}
 
--- so many kept cells, from one on
+-- the kept cells of so many arguments, from one on
 abbrev pub kept_from : Activation → ℕ → ℕ → List ℕ
 kept_from act zero i = []
-kept_from act (suc n) i = kept_cell act i ∷ kept_from act n (suc i)
+kept_from act (suc n) i = kept_argument act i ∷ kept_from act n (suc i)
 
 -- the callee's levels, one less than register 0 has, and its label to return to
 abbrev pub call_given : ℕ → ℕ → ℕ → List Instr → List Instr
@@ -38,11 +38,11 @@ abbrev pub call_enters : ℕ → List Instr
 call_enters size = instr.Calc base_register base_register Add (value.Int (pos size)) ∷ []
 
 -- behind the first call, where the second wasn't cut off: the caller's activation, of so many
--- cells, runs again, the mark in a cell goes, and the value is kept in one; the callee's cells stay
+-- cells, runs again, the mark in a cell goes, and the value goes to one; the callee's cells stay
 abbrev pub first_exit : ℕ → ℕ → ℕ → List Instr → List Instr
-first_exit size mark kept more =
+first_exit size mark cell more =
     instr.Calc base_register base_register Sub (value.Int (pos size))
-    ∷ instr.PrmPop base_register mark ∷ store kept (value.Reg 0) ∷ more
+    ∷ instr.PrmPop base_register mark ∷ store cell (value.Reg 0) ∷ more
 
 -- The activation of a function that returned becomes that of another. Where both have as many cells
 -- these stay: nobody reads a cell of an activation before it is set.
@@ -71,11 +71,11 @@ module _ (code : Listing) (act : Activation) where
   abbrev pub second_call : ℕ → ℕ → ℕ → List Instr
   second_call many size back = instr.Salloc size ∷ passed_call many back
 
-  -- behind the join of both sides, whose values are in registers 0 and 1, all is as it is where the
-  -- second call returns
-  abbrev pub pair_joined : ℕ → List Instr
-  pair_joined size =
-      store (kept_cell act kept_value) (value.Reg 0) ∷ instr.Move 0 (value.Reg 1)
+  -- behind the join of both sides, whose values are in registers 0 and 1, the first one goes to a
+  -- cell, and all is as it is where the second call returns
+  abbrev pub pair_joined : ℕ → ℕ → List Instr
+  pair_joined cell size =
+      store cell (value.Reg 0) ∷ instr.Move 0 (value.Reg 1)
       ∷ instr.Salloc size ∷ call_enters act.size
 
   -- the site of a pair of calls at a label, the second of which has so many arguments
@@ -90,9 +90,10 @@ module _ (code : Listing) (act : Activation) where
         args = kept_from act many 0;
       }
 
-  -- Two calls, from the first one's tick on, and what stands behind the second. The second one can
-  -- be cut off as soon as the first is entered, at a block from which beats go to `dispatch`.
-  pub record IsPair (dispatch : ℕ) (place : Place) (many : ℕ) (first second : Entry)
+  -- Two calls, from the first one's tick on, and what stands behind the second. The first one's
+  -- value goes to a cell. The second one can be cut off as soon as the first is entered, at a block
+  -- from which beats go to `dispatch`.
+  pub record IsPair (dispatch : ℕ) (place : Place) (cell many : ℕ) (first second : Entry)
       (site : CallSite) (instrs : List Instr) (end : Term) (more : List Instr) (last : Term)
       : Type 0 where
     pub go : ℕ
@@ -105,12 +106,12 @@ module _ (code : Listing) (act : Activation) where
     pub enters : OpensAs code (note.Ready dispatch) go (call_enters act.size) (to first.label)
     pub handler : AreAt code site.label (call_handler_blocks site)
     pub join : AreAt code (target_label site.label) (call_join_blocks site)
-    pub joined : Opens code (joined_label site.label) (pair_joined second.size) (to return)
+    pub joined : Opens code (joined_label site.label) (pair_joined cell second.size) (to return)
     pub child : Opens code site.entry
         (second_call many second.size (child_end_label site.label))
         (to second.label)
     pub after : Opens code between
-        (first_exit act.size site.mark (kept_cell act kept_value)
+        (first_exit act.size site.mark cell
         (fitted first.size second.size ++ passed_call many return))
         (to second.label)
     pub behind : Opens code return (call_exit second.size act.size more) last

@@ -18,6 +18,7 @@ use Rattle.loop_rules.specs.Limits.{height}
 use Rattle.tp_value.specs.declared.limits.TheConstants.{MAX_EXPRESSION_HEIGHT}
 use Rattle.expr_lower.specs.Bodies.{trap_count}
 use Rattle.block_lower.specs.Layout.{kept_by_both}
+use Rattle.block_lower.specs.Opposite.{branch_blocks, opposite}
 use Rattle.block_lower.specs.Quiet.{all_is_quiet, is_leaf, list_is_quiet, row_is_leaf}
 
 -- ---- blocks
@@ -53,7 +54,8 @@ abbrev mutual
   added calls (Set x e) = trap_count e
   added calls (Put t a b e) = trap_count a + trap_count b + trap_count e + 1
   added calls (If' e p body q other) =
-      trap_count e + 1 + (added_by_all calls body + 1) + added_by_other calls other
+      trap_count e + branch_blocks (opposite e) + (added_by_all calls body + 1)
+      + added_by_other calls other
   added calls (While' e p body) = trap_count e + 1 + (added_by_all calls body + 1) + trap_count e
   added calls (Loop' x a b p body) = trap_count a + trap_count b + 1 + (added_by_all calls body + 1)
   added calls (Par' place x a b carry_place carries reduces p body) =
@@ -118,7 +120,7 @@ is_low_at r e = nat_le (r + height e) MAX_EXPRESSION_HEIGHT
 
 -- How many values a statement keeps in its activation while it computes others: the row and the
 -- column of a cell where there are no registers for them, and the arguments of the second of two
--- calls, with the value of the first, the mark and the record.
+-- calls, with the mark and the record.
 abbrev mutual
   pub kept : Stmt → ℕ
   kept (Let x e) = 0
@@ -130,7 +132,7 @@ abbrev mutual
   kept (Par' place x a b carry_place carries reduces p body) = kept_by_all body
   kept (Fold x e) = 0
   kept (Call x f) = 0
-  kept (Both x f y g) = kept_by_both
+  kept (Both x f y g) = kept_by_both (length g.args.items)
   kept (Print place e) = 0
   kept (Emit place t) = 0
 

@@ -45,6 +45,19 @@ pub struct Target {
     pub size: u16,
 }
 
+/// Two calls.
+#[derive(Clone, Copy)]
+pub struct Pair {
+    /// The cell to which the first one's value goes.
+    pub cell: u16,
+    /// Where the first one goes.
+    pub first: Target,
+    /// Where the second one goes.
+    pub second: Target,
+    /// How many arguments the second one has.
+    pub count: u16,
+}
+
 /// Where a call of the function of that name goes. Where there is none, it is no function's.
 pub fn target_of(on: &Body, name: &[u8]) -> Target
     ensures label { (entry : Entry)

@@ -18,8 +18,7 @@ ghost use Rattle.block_lower.specs.declared.round.Round.{Round};
 ghost use Rattle.block_lower.specs.Bodies.{HasRoomFor, activation};
 ghost use Rattle.block_lower.specs.Code as codes;
 ghost use Rattle.block_lower.specs.Heights.{AreLowArguments};
-ghost use Rattle.block_lower.specs.Layout.{kept_by_both, kept_value, levels_cell};
-ghost use Rattle.block_lower.specs.Layout.{value_cell};
+ghost use Rattle.block_lower.specs.Layout.{kept_by_both, levels_cell, value_cell};
 ghost use Rattle.block_lower.specs.Lowering.{Lowers, WritesArguments, WritesBothArguments};
 ghost use Rattle.block_lower.specs.Lowering.{WritesPassed, WritesCall, WritesFirst, WritesJoined};
 ghost use Rattle.block_lower.specs.Lowering.{WritesPassedCall, WritesSecond, WritesPair, pair_site};
@@ -28,8 +27,8 @@ ghost use Rattle.block_lower.specs.Sizes as sizes;
 ghost use Rattle.block_lower.specs.Writing as writing;
 ghost use Rattle.block_lower.specs.Writing.{IsFresh, Pushes, Appends, Stands, Continues};
 
-use crate::body::{Target, target_of};
-use crate::layout::{KEPT_MARK, KEPT_RECORD, KEPT_VALUE, LEVELS, RETURN};
+use crate::body::{Pair, Target, target_of};
+use crate::layout::{KEPT_MARK, KEPT_RECORD, LEVELS, RETURN};
 use crate::lowering::{Lowering, jump};
 use expr_lower::BASE;
 use handler_gen::{call_handler, child_end_label, joined_label};
@@ -63,9 +62,17 @@ impl Lowering {
         Ok(())
     }
 
+    /// The kept cell of an argument of a second call.
+    fn kept_argument(&self, number: u16) -> u16
+        requires { HasRoomFor self.now.on (kept_by_both number) }
+        ensures { result ≡ value_cell self.now.on.most + (2 + number) }
+    {
+        self.kept_cell(KEPT_RECORD) + 1 + number
+    }
+
     /// So many kept numbers, which become the arguments of a call.
     fn passed(&mut self, count: u16) -> Result<(), NoMemory>
-        requires room { HasRoomFor self.old.on kept_by_both }
+        requires room { HasRoomFor self.old.on (kept_by_both count) }
         requires few { count ≤ MAX_PARAMETERS }
         ensures labels { OnOk result
             (writing.next_label self.new.out ≡ writing.next_label self.old.out) }
@@ -74,7 +81,7 @@ impl Lowering {
         ensures scope { OnOk result (self.new.scope ≡ self.old.scope) }
     {
         for i in 0..count {
-            let kept = self.kept_cell(i);
+            let kept = self.kept_argument(i);
             let parameter = self.parameter_cell(i);
             self.load(0, kept)?;
             self.store(parameter, Value::Reg(0))?;
@@ -244,7 +251,7 @@ impl Lowering {
         requires labels { writing.next_label self.old.out
             + (sizes.trap_counts f.now.args.items + sizes.trap_counts g.now.args.items)
             ≤ MAX_BLOCKS }
-        requires room { HasRoomFor self.old.on kept_by_both }
+        requires room { HasRoomFor self.old.on (kept_by_both 0) }
         ensures labels { OnOk result
             (writing.next_label self.new.out
             ≡ writing.next_label self.old.out
@@ -256,7 +263,7 @@ impl Lowering {
         ensures scope { OnOk result (self.new.scope ≡ self.old.scope) }
     {
         let first = self.parameter_cell(0);
-        let kept = self.kept_cell(0);
+        let kept = self.kept_argument(0);
         self.arguments(&f.args, first, 2)?;
         self.arguments(&g.args, kept, 1)?;
         Ok(())
@@ -264,7 +271,7 @@ impl Lowering {
 
     /// The kept cells of the arguments of a second call, so many.
     fn kept_arguments(&self, count: u16) -> Result<Vec<u16>, NoMemory>
-        requires room { HasRoomFor self.now.on kept_by_both }
+        requires room { HasRoomFor self.now.on (kept_by_both count) }
         requires few { count ≤ MAX_PARAMETERS }
         ensures { IfOk result
             (λ v. (tables : List (List ℕ))
@@ -272,7 +279,7 @@ impl Lowering {
     {
         let mut all = Vec::new(self.alloc);
         for i in 0..count {
-            all.push(self.kept_cell(i))?;
+            all.push(self.kept_argument(i))?;
         }
         Ok(all)
     }
@@ -280,7 +287,7 @@ impl Lowering {
     /// The site of two calls at a label, the second of which has so many arguments. A child makes
     /// it behind the block behind the join.
     fn pair_site(&self, count: u16, label: u32) -> Result<CallSite, NoMemory>
-        requires room { HasRoomFor self.now.on kept_by_both }
+        requires room { HasRoomFor self.now.on (kept_by_both count) }
         requires few { count ≤ MAX_PARAMETERS }
         requires label { label < MAX_BLOCKS }
         ensures { IfOk result
@@ -343,21 +350,19 @@ impl Lowering {
         Ok(())
     }
 
-    /// Behind the join of two calls, whose values are in registers 0 and 1: all is made to be as
-    /// it is where the second call returns, at a label.
-    fn push_joined(&mut self, second: Target, back: u32) -> Result<(), NoMemory>
-        requires labels { writing.next_label self.old.out ≤ MAX_BLOCKS }
-        requires room { HasRoomFor self.old.on kept_by_both }
+    /// Behind the join of two calls, whose values are in registers 0 and 1: the first one goes to a
+    /// cell, and all is made to be as it is where the second call returns, at a label.
+    fn push_joined(&mut self, cell: u16, second: Target, back: u32) -> Result<(), NoMemory>
+        requires { writing.next_label self.old.out ≤ MAX_BLOCKS }
         ensures labels { OnOk result
             (writing.next_label self.new.out ≡ writing.next_label self.old.out + 1) }
         ensures fresh { OnOk result (IsFresh self.new.out) }
         ensures code { OnOk result
-            (WritesJoined self.old.on second back self.old.out self.new.out) }
+            (WritesJoined self.old.on cell second back self.old.out self.new.out) }
         ensures on { OnOk result (self.new.on ≡ self.old.on) }
         ensures scope { OnOk result (self.new.scope ≡ self.old.scope) }
     {
-        let kept = self.kept_cell(KEPT_VALUE);
-        self.store(kept, Value::Reg(0))?;
+        self.store(cell, Value::Reg(0))?;
         self.push(Instr::Move {
             to: 0,
             value: Value::Reg(1),
@@ -372,7 +377,7 @@ impl Lowering {
     /// cells of its activation are there. A level of calls is left, as one was for the first.
     fn push_passed_call(&mut self, count: u16, target: Target, back: u32) -> Result<(), NoMemory>
         requires labels { writing.next_label self.old.out ≤ MAX_BLOCKS }
-        requires room { HasRoomFor self.old.on kept_by_both }
+        requires room { HasRoomFor self.old.on (kept_by_both count) }
         requires few { count ≤ MAX_PARAMETERS }
         ensures labels { OnOk result
             (writing.next_label self.new.out ≡ writing.next_label self.old.out + 1) }
@@ -391,7 +396,7 @@ impl Lowering {
     /// The same, where its activation is made first.
     fn push_second(&mut self, count: u16, target: Target, back: u32) -> Result<(), NoMemory>
         requires labels { writing.next_label self.old.out ≤ MAX_BLOCKS }
-        requires room { HasRoomFor self.old.on kept_by_both }
+        requires room { HasRoomFor self.old.on (kept_by_both count) }
         requires few { count ≤ MAX_PARAMETERS }
         ensures labels { OnOk result
             (writing.next_label self.new.out ≡ writing.next_label self.old.out + 1) }
@@ -407,22 +412,19 @@ impl Lowering {
     }
 
     /// Behind the first of two calls, where the second wasn't cut off: the caller's activation runs
-    /// again, the mark goes, and the value is kept.
-    fn push_between(&mut self, site: &CallSite) -> Result<(), NoMemory>
-        requires room { HasRoomFor self.old.on kept_by_both }
+    /// again, the mark goes, and the value goes to a cell.
+    fn push_between(&mut self, site: &CallSite, cell: u16) -> Result<(), NoMemory>
         ensures pushed { OnOk result
-            (Pushes (pairs.first_exit self.old.on.size site.now.mark
-            (value_cell self.old.on.most + kept_value) [])
-            self.old.out self.new.out) }
+            (Pushes (pairs.first_exit self.old.on.size site.now.mark cell []) self.old.out
+            self.new.out) }
         ensures labels { OnOk result
             (writing.next_label self.new.out ≡ writing.next_label self.old.out) }
         ensures on { OnOk result (self.new.on ≡ self.old.on) }
         ensures scope { OnOk result (self.new.scope ≡ self.old.scope) }
     {
-        let kept = self.kept_cell(KEPT_VALUE);
         self.push_move(Alu::Sub)?;
         self.pop_mark(site.mark)?;
-        self.store(kept, Value::Reg(0))?;
+        self.store(cell, Value::Reg(0))?;
         Ok(())
     }
 
@@ -443,58 +445,37 @@ impl Lowering {
         Ok(())
     }
 
-    /// Two calls, the second of which has so many arguments, from the first one's tick on. The
-    /// block behind the second, in which its activation goes, is open.
-    fn push_pair(
-        &mut self,
-        place: Place,
-        first: Target,
-        second: Target,
-        count: u16,
-    ) -> Result<(), NoMemory>
+    /// Two calls, from the first one's tick on. The block behind the second, in which its activation
+    /// goes, is open.
+    fn push_pair(&mut self, place: Place, pair: Pair) -> Result<(), NoMemory>
         requires labels { writing.next_label self.old.out + 12 ≤ MAX_BLOCKS }
-        requires room { HasRoomFor self.old.on kept_by_both }
-        requires few { count ≤ MAX_PARAMETERS }
+        requires room { HasRoomFor self.old.on (kept_by_both pair.count) }
+        requires few { pair.count ≤ MAX_PARAMETERS }
         ensures labels { OnOk result
             (writing.next_label self.new.out ≡ writing.next_label self.old.out + 12) }
         ensures code { OnOk result
-            (WritesPair self.old.on place count first second self.old.out self.new.out) }
+            (WritesPair self.old.on place pair.cell pair.count pair.first pair.second self.old.out
+            self.new.out) }
         ensures on { OnOk result (self.new.on ≡ self.old.on) }
         ensures scope { OnOk result (self.new.scope ≡ self.old.scope) }
     {
+        let Pair {
+            cell,
+            first,
+            second,
+            count,
+        } = pair;
         let label = self.next_label() + 1;
         let site = self.pair_site(count, label)?;
         let last = site.entry + 2;
         self.push_first(place, first, &site)?;
         self.push_call_handler(&site)?;
-        self.push_joined(second, last)?;
+        self.push_joined(cell, second, last)?;
         self.push_second(count, second, child_end_label(site.label))?;
-        self.push_between(&site)?;
+        self.push_between(&site, cell)?;
         self.push_fitted(first, second)?;
         self.push_passed_call(count, second, last)?;
         self.push_exit(second)?;
-        Ok(())
-    }
-
-    /// The targets of two calls are set. The first value is kept, the second is in register 0.
-    fn push_values(&mut self, x: &Name, y: &Name) -> Result<(), NoMemory>
-        requires { HasRoomFor self.old.on kept_by_both }
-        ensures pushed { OnOk result
-            (Pushes (codes.load 1 (value_cell self.old.on.most + kept_value)
-            ∷ codes.store (offset_of self.old.scope x.now.text.items) (Value.Reg 1)
-            ∷ codes.store (offset_of self.old.scope y.now.text.items) (Value.Reg 0) ∷ [])
-            self.old.out self.new.out) }
-        ensures labels { OnOk result
-            (writing.next_label self.new.out ≡ writing.next_label self.old.out) }
-        ensures on { OnOk result (self.new.on ≡ self.old.on) }
-        ensures scope { OnOk result (self.new.scope ≡ self.old.scope) }
-    {
-        let kept = self.kept_cell(KEPT_VALUE);
-        let x_cell = self.offset(x);
-        let y_cell = self.offset(y);
-        self.load(1, kept)?;
-        self.store(x_cell, Value::Reg(1))?;
-        self.store(y_cell, Value::Reg(0))?;
         Ok(())
     }
 
@@ -506,7 +487,7 @@ impl Lowering {
         requires labels { writing.next_label self.old.out
             + (sizes.trap_counts f.now.args.items + sizes.trap_counts g.now.args.items + 12)
             ≤ MAX_BLOCKS }
-        requires room { HasRoomFor self.old.on kept_by_both }
+        requires room { HasRoomFor self.old.on (kept_by_both (length g.now.args.items)) }
         requires bare { self.old.scope.regs.items ≡ [] }
         ensures labels { OnOk result
             (writing.next_label self.new.out
@@ -521,10 +502,17 @@ impl Lowering {
     {
         let first = target_of(&self.on, &f.callee.text);
         let second = target_of(&self.on, &g.callee.text);
+        let pair = Pair {
+            cell: self.offset(x),
+            first,
+            second,
+            count: g.args.len() as u16,
+        };
+        let cell = self.offset(y);
         self.push(Instr::Salloc(first.size))?;
         self.both_arguments(f, g)?;
-        self.push_pair(f.callee.place, first, second, g.args.len() as u16)?;
-        self.push_values(x, y)?;
+        self.push_pair(f.callee.place, pair)?;
+        self.store(cell, Value::Reg(0))?;
         Ok(())
     }
 }

@@ -39,7 +39,8 @@ fn most_of(f: &Func) -> usize
 /// How many cells it has.
 #[tactic(auto, using(crate::proofs::Counts::Adding::few_kept_by_list))]
 fn size_of(f: &Func) -> u16
-    requires { FuncIsSmall f.now }
+    requires small { FuncIsSmall f.now }
+    requires low { FuncIsLow f.now }
     ensures { result ≡ programs.size_of f.now }
 {
     value_cell(most_of(f)) + kept_by_list(&f.body)
@@ -54,6 +55,7 @@ pub fn callees_of(
 ) -> Result<Vec<Callee>, NoMemory>
     requires labels { first + programs.added_by_funcs calls fs.now ≤ MAX_BLOCKS }
     requires small { AllByRecursion FuncIsSmall fs.now }
+    requires low { AllByRecursion FuncIsLow fs.now }
     ensures { IfOk result
         (λ callees. entries callees.items ≡ programs.entries_from calls first fs.now) }
 {

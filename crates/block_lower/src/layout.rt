@@ -1,9 +1,10 @@
 // Where the words of an activation stand.
 
 ghost use Rattle.std.specs.Prelude.{◌≡◌, ◌<◌, ◌≤◌};
+ghost use Rattle.tp_value.specs.declared.limits.TheConstants.{MAX_PARAMETERS};
 ghost use Rattle.block_lower.specs.Layout as layout;
 
-use tp_value::{MAX_DECLARED_VARIABLES, MAX_PAR_NESTING, MAX_PARAMETERS};
+use tp_value::{MAX_DECLARED_VARIABLES, MAX_PAR_NESTING};
 
 /// The cell with the label to return to.
 pub const RETURN: u16 = 0;
@@ -18,17 +19,19 @@ const LOOPS: u16 = 3;
 /// How many cells each `par` loop has, and each variable with the bound of a loop over it.
 const CELLS: u16 = 2;
 
-/// The kept value of a `both` behind the arguments of its second call: the first call's value.
-pub const KEPT_VALUE: u16 = MAX_PARAMETERS as u16;
-
 /// The kept value of a `both` on which its mark stands.
-pub const KEPT_MARK: u16 = MAX_PARAMETERS as u16 + 1;
+pub const KEPT_MARK: u16 = 0;
 
 /// The kept value of a `both` that is its record.
-pub const KEPT_RECORD: u16 = MAX_PARAMETERS as u16 + 2;
+pub const KEPT_RECORD: u16 = 1;
 
-/// How many values a `both` keeps.
-pub const KEPT_BY_BOTH: u16 = MAX_PARAMETERS as u16 + 3;
+/// How many values a `both` keeps whose second call has so many arguments.
+pub fn kept_by_both(count: u16) -> u16
+    requires { count ≤ MAX_PARAMETERS }
+    ensures { result ≡ layout.kept_by_both count }
+{
+    KEPT_RECORD + 1 + count
+}
 
 /// The cell of the next iteration that isn't begun, of the `par` loop that stands inside so many
 /// others of its function.

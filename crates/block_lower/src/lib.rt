@@ -18,6 +18,7 @@ mod layout;
 mod leaf;
 mod lowering;
 mod make;
+mod opposite;
 mod output;
 mod par;
 mod program;

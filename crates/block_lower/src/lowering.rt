@@ -9,7 +9,9 @@ ghost use Rattle.tp_value.specs.declared.limits.TheConstants.{MAX_DECLARED_VARIA
 ghost use Rattle.tp_value.specs.declared.limits.TheConstants.{MAX_PARAMETERS};
 ghost use Rattle.loop_rules.specs.Limits.{height};
 ghost use Rattle.expr_lower.specs.Bodies.{trap_count};
+ghost use Rattle.expr_lower.specs.Nodes.{IsNode, operation_height, operation_traps};
 ghost use Rattle.expr_lower.specs.Registers.{base_register};
+ghost use Rattle.loop_syntax.specs.declared.Expr.{Expr};
 ghost use Rattle.block_lower.specs.Code as codes;
 ghost use Rattle.block_lower.specs.Lowering.{WritesOperand, WritesValue};
 ghost use Rattle.block_lower.specs.Writing as writing;
@@ -21,9 +23,9 @@ ghost use Rattle.block_lower.specs.Layout.{value_cell};
 ghost use Rattle.block_lower.specs.Names.{SeesAfter};
 
 use crate::body::{Body, kept_cell, parameter_cell};
-use crate::output::{Output, close, next_label, push, push_trap_block, push_value};
+use crate::output::{Output, close, next_label, push, push_operation, push_trap_block, push_value};
 use crate::scope::{declare, leave};
-use expr_lower::{BASE, Scope, home_of, literal, offset_of, register_of, table_number};
+use expr_lower::{BASE, Operation, Scope, home_of, literal, offset_of, register_of, table_number};
 use loop_syntax::{Expr, Name};
 use std::alloc::Global;
 use tp_value::{NoMemory, Place, TrapKind};
@@ -181,6 +183,24 @@ impl Lowering {
         ensures scope { OnOk result (self.new.scope ≡ self.old.scope) }
     {
         push_value(self.alloc, &mut self.out, &self.scope, expr, to)
+    }
+
+    /// Appends the instructions that leave the value of an operation in a register.
+    pub fn operation(&mut self, operation: Operation, to: u8) -> Result<(), NoMemory>
+        requires few_tables { length self.old.scope.tables.items ≤ MAX_TABLES }
+        requires registers { to + operation_height operation ≤ MAX_EXPRESSION_HEIGHT }
+        requires labels { writing.next_label self.old.out + operation_traps operation
+            ≤ MAX_BLOCKS }
+        ensures labels { OnOk result
+            (writing.next_label self.new.out
+            ≡ writing.next_label self.old.out + operation_traps operation.entry) }
+        ensures code { OnOk result
+            ((e : Expr) → IsNode operation.entry e
+            → WritesValue self.old.scope e to self.old.out self.new.out) }
+        ensures on { OnOk result (self.new.on ≡ self.old.on) }
+        ensures scope { OnOk result (self.new.scope ≡ self.old.scope) }
+    {
+        push_operation(self.alloc, &mut self.out, &self.scope, operation, to)
     }
 
     /// The operand that is an expression's value: a number where it is a literal, the register of a

@@ -4,12 +4,14 @@ ghost use Rattle.std.specs.Prelude.{◌≡◌, ◌+◌, ◌<◌, ◌≤◌, ◌^
 ghost use Rattle.tp_value.specs.declared.limits.TheConstants.{MAX_BLOCKS, MAX_EXPRESSION_HEIGHT};
 ghost use Rattle.tp_value.specs.declared.limits.TheConstants.{MAX_TABLES};
 ghost use Rattle.expr_lower.specs.Bodies.{body_of, traps_of, trap_count};
+ghost use Rattle.expr_lower.specs.Nodes.{IsNode, operation_height, operation_traps};
 ghost use Rattle.loop_rules.specs.Limits.{height};
+ghost use Rattle.loop_syntax.specs.declared.Expr.{Expr};
 ghost use Rattle.block_lower.specs.Lowering.{WritesValue};
 ghost use Rattle.block_lower.specs.Writing as writing;
 ghost use Rattle.block_lower.specs.Writing.{IsFresh, Pushes, Traps, Closes};
 
-use expr_lower::{Scope, Site, name_of, push_expr, push_trap};
+use expr_lower::{Operation, Scope, Site, name_of, push_binary, push_expr, push_trap};
 use loop_syntax::Expr;
 use std::alloc::Global;
 use std::mem;
@@ -93,6 +95,30 @@ pub fn push_value(
     let first = label(out) + 1;
     let site = Site { to, first };
     push_expr(alloc, &mut out.body, &mut out.traps, expr, scope, site)?;
+    Ok(())
+}
+
+/// Appends the instructions that leave the value of an operation in register `to`, and its trap
+/// blocks.
+pub fn push_operation(
+    alloc: Global,
+    out: &mut Output,
+    scope: &Scope,
+    operation: Operation,
+    to: u8,
+) -> Result<(), NoMemory>
+    requires few_tables { length scope.now.tables.items ≤ MAX_TABLES }
+    requires registers { to + operation_height operation ≤ MAX_EXPRESSION_HEIGHT }
+    requires labels { writing.next_label out.old + operation_traps operation ≤ MAX_BLOCKS }
+    ensures labels { OnOk result
+        (writing.next_label out.new
+        ≡ writing.next_label out.old + operation_traps operation.entry) }
+    ensures code { OnOk result
+        ((e : Expr) → IsNode operation.entry e → WritesValue scope.now e to out.old out.new) }
+{
+    let first = label(out) + 1;
+    let site = Site { to, first };
+    push_binary(alloc, &mut out.body, &mut out.traps, operation, scope, site)?;
     Ok(())
 }
 

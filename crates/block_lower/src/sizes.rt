@@ -4,9 +4,11 @@
 ghost use Rattle.std.specs.Prelude.{◌≡◌, ◌+◌, min};
 ghost use Rattle.std.specs.List.{list_any};
 ghost use Rattle.expr_lower.specs.Bodies.{trap_count};
+ghost use Rattle.block_lower.specs.Heights.{AllAreLow, AreLow};
 ghost use Rattle.block_lower.specs.Sizes as sizes;
 
-use crate::layout::KEPT_BY_BOTH;
+use crate::layout::kept_by_both;
+use crate::opposite::branch_blocks;
 use crate::quiet::{is_leaf, list_is_quiet};
 use expr_lower::trap_count;
 use loop_syntax::{Carry, Expr, Func, ParLoop, Stmt, TableDecl};
@@ -42,7 +44,7 @@ fn added(calls: bool, s: &Stmt) -> u32
             .saturating_add(trap_count(e))
             .saturating_add(1),
         Stmt::If(e, body, other) => trap_count(e)
-            .saturating_add(1)
+            .saturating_add(branch_blocks(e))
             .saturating_add(added_by_body(calls, body))
             .saturating_add(added_by_second(calls, other)),
         Stmt::While(e, body) => trap_count(e)
@@ -219,10 +221,10 @@ pub fn is_low_at(to: u32, e: &Expr) -> bool
     }
 }
 
-/// How many values a statement keeps in its activation while it computes others. There are at most
-/// `KEPT_BY_BOTH`.
+/// How many values a statement keeps in its activation while it computes others.
 #[cycle(kept)]
 fn kept(s: &Stmt) -> u16
+    requires { AreLow s.now }
     ensures { result ≡ sizes.kept s.now }
 {
     match s {
@@ -241,7 +243,7 @@ fn kept(s: &Stmt) -> u16
         Stmt::Par(l) => kept_by_list(&l.body),
         Stmt::Fold(_, _) => 0,
         Stmt::Call(_, _) => 0,
-        Stmt::Both(_, _, _, _) => KEPT_BY_BOTH,
+        Stmt::Both(_, _, _, g) => kept_by_both(g.args.len() as u16),
         Stmt::Print(_, _) => 0,
         Stmt::Emit(_, _) => 0,
     }
@@ -250,6 +252,7 @@ fn kept(s: &Stmt) -> u16
 /// How many values statements keep: as many as the one that keeps most.
 #[cycle(kept)]
 pub fn kept_by_list(body: &[Stmt]) -> u16
+    requires { AllAreLow body.now }
     ensures { result ≡ sizes.kept_by_list body.now }
 {
     let mut most: u16 = 0;

@@ -12,16 +12,19 @@ ghost use Rattle.block_lower.specs.declared.round.Round.{Round};
 ghost use Rattle.block_lower.specs.Bodies.{HasRoomFor};
 ghost use Rattle.block_lower.specs.Heights.{AreLow, AllAreLow};
 ghost use Rattle.block_lower.specs.Lowering.{Lowers, WithBody, LowersAll, LowersBranch};
-ghost use Rattle.block_lower.specs.Lowering.{LowersOther, FitsIn, WritesTest, folded_in_cell};
+ghost use Rattle.block_lower.specs.Lowering.{LowersOther, FitsIn, WritesChoice, WritesTest};
+ghost use Rattle.block_lower.specs.Lowering.{folded_in_cell};
 ghost use Rattle.block_lower.specs.Names.{SeesAfter, names_after, names_after_list};
+ghost use Rattle.block_lower.specs.Opposite.{branch_blocks, opposite};
 ghost use Rattle.block_lower.specs.Sizes as sizes;
 ghost use Rattle.block_lower.specs.Writing as writing;
 ghost use Rattle.block_lower.specs.Writing.{IsFresh, Pushes};
 
 use crate::layout::value_cell;
 use crate::lowering::{Lowering, jump};
+use crate::opposite::{branch_blocks, opposite};
 use crate::round::Round;
-use crate::sizes::{added_by_body, added_by_second};
+use crate::sizes::{added_by_list, added_by_second};
 use expr_lower::trap_count;
 use join_gen::alu_of;
 use loop_syntax::{Expr, Name, Reduce, Stmt};
@@ -185,7 +188,35 @@ impl Lowering {
         Ok(())
     }
 
-    /// Statements in an open block of their own, which goes on at a label.
+    /// The test of an `if`, whose first branch goes on in the open block: in that of the test where
+    /// the test has an opposite, else in the one behind it. The second branch has a label.
+    fn choice(&mut self, e: &Expr, second: u32) -> Result<(), NoMemory>
+        requires few_tables { length self.old.scope.tables.items ≤ MAX_TABLES }
+        requires registers { height e.now ≤ MAX_EXPRESSION_HEIGHT }
+        requires labels { writing.next_label self.old.out + trap_count e.now ≤ MAX_BLOCKS }
+        ensures labels { OnOk result
+            (writing.next_label self.new.out
+            ≡ writing.next_label self.old.out + trap_count e.now
+            + branch_blocks (opposite e.now)) }
+        ensures code { OnOk result
+            (WritesChoice self.old.scope e.now second self.old.out self.new.out) }
+        ensures on { OnOk result (self.new.on ≡ self.old.on) }
+        ensures scope { OnOk result (self.new.scope ≡ self.old.scope) }
+    {
+        match opposite(e) {
+            Some(other) => {
+                self.operation(other, 0)?;
+                self.jump_if(0, second)?;
+            }
+            None => {
+                let first = self.next_label() + trap_count(e);
+                self.test(e, first, second)?;
+            }
+        }
+        Ok(())
+    }
+
+    /// Statements that go on at a label, where their block is closed.
     #[cycle(lower)]
     fn lower_branch(&mut self, round: Round, body: &[Stmt], exit: u32) -> Result<(), NoMemory>
         requires few_tables { length self.old.scope.tables.items ≤ MAX_TABLES }
@@ -196,7 +227,6 @@ impl Lowering {
         requires room { HasRoomFor self.old.on (sizes.kept_by_list body.now) }
         requires cells { length self.old.scope.cells.items + sizes.declared_by_list body.now
             ≤ MAX_DECLARED_VARIABLES }
-        requires fresh { IsFresh self.old.out }
         requires fits { FitsIn self.old.on self.old.scope round body.now }
         ensures labels { OnOk result
             (writing.next_label self.new.out
@@ -268,7 +298,8 @@ impl Lowering {
         requires low { (height e.now ≤ MAX_EXPRESSION_HEIGHT) × AllAreLow body.now
             × AllAreLow other.now }
         requires labels { writing.next_label self.old.out
-            + (trap_count e.now + 1 + (sizes.added_by_list self.old.on.quiet_calls body.now + 1)
+            + (trap_count e.now + branch_blocks (opposite e.now)
+            + (sizes.added_by_list self.old.on.quiet_calls body.now + 1)
             + sizes.added_by_second self.old.on.quiet_calls other.now)
             ≤ MAX_BLOCKS }
         requires room { HasRoomFor self.old.on (sizes.kept_by_list body.now)
@@ -281,7 +312,8 @@ impl Lowering {
         ensures labels { OnOk result
             (writing.next_label self.new.out
             ≡ writing.next_label self.old.out
-            + (trap_count e.now + 1 + (sizes.added_by_list self.old.on.quiet_calls body.now + 1)
+            + (trap_count e.now + branch_blocks (opposite e.now)
+            + (sizes.added_by_list self.old.on.quiet_calls body.now + 1)
             + sizes.added_by_second self.old.on.quiet_calls other.now)) }
         ensures cells { OnOk result
             (length self.new.scope.cells.items ≤ length self.old.scope.cells.items) }
@@ -295,10 +327,10 @@ impl Lowering {
             self.old.out self.new.out))) }
         ensures on { OnOk result (self.new.on ≡ self.old.on) }
     {
-        let first = self.next_label() + trap_count(e);
-        let second = first + added_by_body(self.on.quiet_calls, body);
+        let first = self.next_label() + trap_count(e) + branch_blocks(e);
+        let second = first + added_by_list(self.on.quiet_calls, body);
         let exit = second + added_by_second(self.on.quiet_calls, other);
-        self.test(e, first, second)?;
+        self.choice(e, second)?;
         self.lower_branch(round, body, exit)?;
         self.lower_other(round, other, exit)?;
         Ok(())

@@ -28,7 +28,7 @@ use Rattle.expr_lower.proofs.Standing.{behind, next, regrouped}
 use Rattle.handler_gen.specs.CallCuts.{call_mark}
 use Rattle.handler_gen.proofs.Ready.{goes_in}
 use Rattle.block_lower.specs.Code.{load, parameter_cell}
-use Rattle.block_lower.specs.Layout.{Activation, kept_cell, levels_cell}
+use Rattle.block_lower.specs.Layout.{Activation, levels_cell, kept_argument}
 use Rattle.block_lower.specs.Pairs.{call_given, pair_begins}
 use Rattle.block_lower.proofs.Forms.Arguments.{AreIn, wider}
 use Rattle.block_lower.proofs.Forms.Called.{body_set, enter_is, open_call}
@@ -56,7 +56,7 @@ module _ {code : Listing} {heartbeat z : ℕ} {act : Activation} (q : PairAt cod
     (shows : ShowsIn code heartbeat z (wider act q.first.size) q.fuel q.S w.world q.names w.state
     task)
     (params : AreIn task.stack z (parameter_cell code act) 0 w.value.numbers)
-    (also : AreIn task.stack z (kept_cell act) 0 w.value.kept_numbers)
+    (also : AreIn task.stack z (kept_argument act) 0 w.value.kept_numbers)
     (stands : Remains code task.block task.at q.instrs q.end) where
   abbrev later : meaning.State
   later = later_of q there w.state
@@ -204,7 +204,7 @@ module _ {code : Listing} {heartbeat z : ℕ} {act : Activation} (q : PairAt cod
     up_to_here =
         up_to_test code heartbeat z act q.fuel q.first.size q.S w.world q.names q.lowest w.few
         q.site
-        q.cells q.mark_is q.fits q.f.place q.code_is.between q.code_is.go
+        q.cells q.mark_is q.mark_fits q.f.place q.code_is.between q.code_is.go
         (omega (arith, there.has_room.room)) (pos q.room) is_less later one shows_one at_load K
         test_owed
 

@@ -21,7 +21,7 @@ use Rattle.block_lower.specs.Layout.{Activation}
 use Rattle.block_lower.proofs.Forms.Called.{with_value}
 use Rattle.block_lower.proofs.CallPairs.PairChildren.{child_part}
 use Rattle.block_lower.proofs.CallPairs.PairCuts.{pair_rest}
-use Rattle.block_lower.proofs.CallPairs.PairPlaces.{PairAt, PairCut, after_first}
+use Rattle.block_lower.proofs.CallPairs.PairPlaces.{PairAt, PairCut, after_first, finish}
 use Rattle.block_lower.proofs.CallPairs.PairPromises.{begun_rest, end_begun, end_in_range}
 use Rattle.block_lower.proofs.CallPairs.PairPromises.{end_later}
 use Rattle.block_lower.proofs.CallPairs.PairPromises.{is_end_of, output_of}
@@ -151,7 +151,7 @@ module _ {code : Listing} {heartbeat z : ℕ} {act : Activation} (q : PairAt cod
             ap (λ (end : End). record { notes = R.notes; end = end })
             (early_is q.p q.modes q.fuel (suc q.room) q.f.text.items q.g.text.items q.f.place
             q.g.place q.rules c.w.value.numbers c.w.value.kept_numbers c.w.state c.given.within
-            q.finish q.k c.r c.given.ends early)
+            (finish q) q.k c.r c.given.ends early)
             ∙ sym (out_noting R.notes Both.stop Both.state)
 
   -- ---- where both are done
@@ -226,10 +226,10 @@ module _ {code : Listing} {heartbeat z : ℕ} {act : Activation} (q : PairAt cod
 
     -- what follows the first call is what ends the pair, with notes before
     pub both_done : R ≡ noting (c.r.notes ++ Next.ran.notes)
-        (then (result (q.finish Low.value Next.value Both.state)) q.k)
+        (then (result (finish q Low.value Next.value Both.state)) q.k)
     both_done = done_is q.p q.modes q.fuel (suc q.room) q.f.text.items q.g.text.items q.f.place
-        q.g.place q.rules c.w.value.numbers c.w.value.kept_numbers c.w.state c.given.within q.finish
-        q.k c.r c.given.ends done
+        q.g.place q.rules c.w.value.numbers c.w.value.kept_numbers c.w.state c.given.within
+        (finish q) q.k c.r c.given.ends done
 
     -- what the ends of both sides tell
     pub left_later : (n : ℕ) → is_end_of (left_of n) (call_end Low) ≡ true

@@ -27,6 +27,7 @@ use Rattle.frame_machine.proofs.Pairs.{call_keeps}
 use Rattle.handler_gen.specs.CallCuts.{child_call_cells}
 use Rattle.handler_gen.specs.Sites.{child_end_label}
 use Rattle.block_lower.specs.Layout.{Activation, kept_cell, kept_record, levels_cell, value_cell}
+use Rattle.block_lower.specs.Layout.{kept_argument}
 use Rattle.block_lower.proofs.Forms.Arguments.{AreIn, are_in_same}
 use Rattle.block_lower.proofs.Forms.Called.{with_value}
 use Rattle.block_lower.proofs.Forms.Callees.{Returns}
@@ -157,11 +158,11 @@ module _ {code : Listing} {heartbeat z : ℕ} {act : Activation} (q : PairAt cod
           cell off below apart = cuts.has.others off (omega (arith, below, q.cells))
               (λ e. apart (e ∙ q.rec_is))
 
-          are_there : AreIn (child_call_cells q.site z n state.stack) z (kept_cell act) 0 ms
+          are_there : AreIn (child_call_cells q.site z n state.stack) z (kept_argument act) 0 ms
           are_there = are_in_same state.stack (child_call_cells q.site z n state.stack) z
-              (kept_cell act) 0 ms
+              (kept_argument act) 0 ms
               (λ j from below.
-              cell (kept_cell act j) (omega (arith, below, cuts.many, q.eight, q.fits))
+              cell (kept_argument act j) (omega (arith, below, cuts.many, q.eight, q.fits))
               (λ e. absurd (omega (arith, e, below, cuts.many, q.eight)))) cuts.args
 
           held_parts : AreShown (shared_region region) (each_part child_of [] 0 state.tables) ts

@@ -151,8 +151,8 @@ module _ {code : Listing} {heartbeat z : ℕ} {act : Activation} (q : PairAt cod
     unmarked = subst (λ (ms : List Mark). is_marked_from ms (z + act.size + q.first.size) ≡ false)
         (sym (h.runs.marked ∙ append-nil (C.marks i)))
         (clear_first code heartbeat z act q.fuel q.S q.names q.lowest q.has_room (Args q) (kept q)
-        (next_in q) q.k q.room q.code_is.between q.site q.mark_is q.fits (first_call q) q.modes i
-        (z + act.size + q.first.size) (omega arith));
+        (next_in q) q.k q.room q.code_is.between q.site q.mark_is q.mark_fits (first_call q) q.modes
+        i (z + act.size + q.first.size) (omega arith));
     top = h.top;
     low = h.runs.low;
     room = omega (arith, h.top, there.has_room.room);

@@ -1,16 +1,17 @@
 -- The task that both sides of a pair of calls merge to owes what the whole task does.
 use Rattle.std.proofs.Common.{◌≡◌, ℕ, ◌+◌, ◌<◌, false, true, All, List, [], ◌++◌, length, None}
-use Rattle.std.proofs.Common.{Some, refl, sym, ap, subst, ◌∙◌, arith}
+use Rattle.std.proofs.Common.{refl, sym, ap, subst, ◌∙◌, arith}
 use Rattle.std.specs.Prelude.{ℤ, pos}
 use Rattle.beat_count.specs.BeatState.{BeatState}
 use Rattle.slices.specs.Holding.{Holding}
 use Rattle.stack_marks.specs.Causes.{Holds}
-use Rattle.stack_marks.specs.Stacks.{StackValue, rest_of, with_word, word_at}
+use Rattle.stack_marks.specs.Stacks.{StackValue, rest_of, word_at}
 use Rattle.tp_value.specs.declared.Stop.TheVariants.{Done}
 use Rattle.tp_value.specs.declared.Table.{Table}
 use Rattle.loop_meaning.specs.InRange.{InRange, TableInRange}
 use Rattle.loop_meaning.specs.State as meaning
 use Rattle.loop_meaning.specs.declared.value.Variable.{Variable}
+use Rattle.loop_meaning.specs.Statements.{set_var}
 use Rattle.tpal_syntax.specs.declared.words.Word.{Word}
 use Rattle.tpal_syntax.specs.declared.words.Word.TheVariants as word
 use Rattle.tpal_syntax.specs.Listing.{Listing}
@@ -24,8 +25,7 @@ use Rattle.tpal_machine.specs.State as machine
 use Rattle.expr_lower.specs.Standing.{Remains}
 use Rattle.handler_gen.specs.Blocks.{call_target}
 use Rattle.join_gen.specs.CallJoins.{AreSidesOfCalls}
-use Rattle.handler_gen.proofs.Words.{word_other, word_same, words_as_many}
-use Rattle.block_lower.specs.Layout.{Activation, kept_cell, kept_value, levels_cell, value_cell}
+use Rattle.block_lower.specs.Layout.{Activation, levels_cell, value_cell}
 use Rattle.block_lower.proofs.Forms.Called.{with_value}
 use Rattle.block_lower.proofs.Merges.MergedStacks.{rest_many, rest_word}
 use Rattle.block_lower.proofs.CallPairs.PairBoth.{Both, Low, Next, R, Up, both_done, both_later}
@@ -39,7 +39,7 @@ use Rattle.block_lower.proofs.CallPairs.PairBoth.{right_side}
 use Rattle.block_lower.proofs.CallPairs.PairBoth.{same_value, limit_is, up_is_done}
 use Rattle.block_lower.proofs.CallPairs.PairChildren.{uncut}
 use Rattle.block_lower.proofs.CallPairs.PairMeets.{meets_then}
-use Rattle.block_lower.proofs.CallPairs.PairPlaces.{PairAt, PairCut}
+use Rattle.block_lower.proofs.CallPairs.PairPlaces.{PairAt, PairCut, finish}
 use Rattle.block_lower.proofs.CallPairs.PairPromises.{is_end_of}
 use Rattle.block_lower.proofs.CallPairs.PairRuns.{call_end, side_slices, side_words}
 use Rattle.block_lower.proofs.Cuts.Parts.{parts_shown, rest_extent, rest_shown}
@@ -47,22 +47,21 @@ use Rattle.block_lower.proofs.Scenes.Promises.{CanRun, lesser}
 use Rattle.block_lower.proofs.Scenes.Regions.{AreShown}
 use Rattle.block_lower.proofs.Scenes.Results.{Result, noting, result, then}
 use Rattle.block_lower.proofs.Scenes.Scene.{ShowsIn}
-use Rattle.block_lower.proofs.Scenes.Showing.{as_many}
+use Rattle.block_lower.proofs.Scenes.Showing.{as_many, shows_assigned}
 use Rattle.block_lower.proofs.Scenes.Tables.{table_names}
 use Rattle.block_lower.proofs.Scenes.Variables.{AreHeld, held_same, var_names}
 
 module _ {code : Listing} {heartbeat z : ℕ} {act : Activation} (q : PairAt code heartbeat z act)
   where
-    -- what a task owes behind the second call, where the first one's value is kept and the second
-    -- one's is in register 0
+    -- what a task owes behind the second call, where the first one's value is in its variable and
+    -- the second one's in register 0
     abbrev pub BehindOwed : Type 0
     BehindOwed =
-        (w : q.S.World) (v u : ℤ) (st : meaning.State) (task : machine.State) → InRange v → InRange u
+        (w : q.S.World) (u : ℤ) (st : meaning.State) (task : machine.State) → InRange u
         → ShowsIn code heartbeat z act q.fuel q.S w q.names st task
-        → word_at task.stack (pos (z + kept_cell act kept_value)) ≡ Some (word.Int v)
         → register task.registers 0 ≡ word.Int u
         → Remains code task.block task.at q.more q.last
-        → (q.S.owing w (then (result (q.finish v u st)) q.k)).Holds task
+        → (q.S.owing w (then (result (q.ends u st)) q.k)).Holds task
 
     module _ (c : PairCut q) (n : ℕ) (left_ends : is_end_of (left_of q c n) (call_end (Low q c))
         ≡ true)
@@ -96,23 +95,12 @@ module _ {code : Listing} {heartbeat z : ℕ} {act : Activation} (q : PairAt cod
       abbrev below : StackValue
       below = rest_of c.state.stack z q.site.cells
 
-      abbrev stack : StackValue
-      stack = with_word below (pos (z + kept_cell act kept_value)) (word.Int V)
-
       top_below : below.base + length below.cells ≡ z + act.size
       top_below = omega (arith, rest_many c.state.stack z q.site.cells held, held.0, held.1, q.cells)
 
-      top : stack.base + length stack.cells ≡ z + act.size
-      top = omega (arith, top_below, words_as_many below (z + kept_cell act kept_value) (word.Int V))
-
-      -- all below the kept cells is as it was
-      cell : (a : ℕ) → a < z + value_cell act.most
-          → word_at stack (pos a) ≡ word_at c.state.stack (pos a)
-      cell a lower =
-          word_other below (z + kept_cell act kept_value) a (word.Int V)
-          (omega (arith, c.runs.keeps.low)) (λ e. absurd (omega (arith, e, lower)))
-          ∙ rest_word c.state.stack z q.site.cells held a
-          (omega (arith, lower, q.cells, q.has_room.room))
+      -- all its cells are as they were
+      cell : (a : ℕ) → a < z + act.size → word_at below (pos a) ≡ word_at c.state.stack (pos a)
+      cell a lower = rest_word c.state.stack z q.site.cells held a (omega (arith, lower, q.cells))
 
       -- ---- what it shows
 
@@ -140,7 +128,7 @@ module _ {code : Listing} {heartbeat z : ℕ} {act : Activation} (q : PairAt cod
           → ShowsIn code heartbeat z act q.fuel q.S c.w.world q.names (Both q c).state
           (record merged {
             registers = words;
-            stack = stack;
+            stack = below;
             beat = beat;
             block = q.code_is.return;
             at = at;
@@ -167,41 +155,50 @@ module _ {code : Listing} {heartbeat z : ℕ} {act : Activation} (q : PairAt cod
             (Both q c).state.tables) (sym tables_are) held_rest;
         can = subst (q.S.can c.w.world) same_tables c.runs.can.0;
         ranged = subst (λ (ts : List Table). All TableInRange ts) same_tables c.runs.ranged;
-        levels = cell (z + levels_cell) (omega (arith, c.w.few)) ∙ c.runs.keeps.levels;
+        levels = cell (z + levels_cell) (omega (arith, q.has_room.room)) ∙ c.runs.keeps.levels;
         unmarked = refl;
-        top = top;
+        top = top_below;
         low = c.runs.keeps.low;
-        room = omega (arith, top, q.has_room.room);
-        vars = subst (λ (vs : List Variable). AreHeld stack z 0 vs) (sym (both_vars q c done))
-            (held_same c.state.stack stack z 0 c.w.state.vars
+        room = omega (arith, top_below, q.has_room.room);
+        vars = subst (λ (vs : List Variable). AreHeld below z 0 vs) (sym (both_vars q c done))
+            (held_same c.state.stack below z 0 c.w.state.vars
             (λ x from inside. cell (z + value_cell x)
-            (omega (arith, inside, as_many c.w.state.vars q.names c.w.named, c.w.few)))
+            (omega (
+              arith,
+              inside,
+              as_many c.w.state.vars q.names c.w.named,
+              c.w.few,
+              q.has_room.room,
+            )))
             c.runs.keeps.vars);
-        keeps = q.S.stable c.w.world (length q.names) c.state.stack stack q.lowest
+        keeps = q.S.stable c.w.world (length q.names) c.state.stack below q.lowest
             (record {
               base = refl;
-              at = λ a lower others. cell a (omega (arith, lower, c.w.few));
+              at = λ a lower others. cell a (omega (arith, lower, c.w.few, q.has_room.room));
             }) c.runs.keeps.keeps;
       }
 
       -- ---- what it owes
 
       abbrev R_there : Result
-      R_there = then (result (q.finish V (Next q c).value (Both q c).state)) q.k
+      R_there = then (result (finish q V (Next q c).value (Both q c).state)) q.k
+
+      inside : q.cell < act.size
+      inside = omega (arith, q.is_cell.at_level, q.is_cell.below, q.has_room.room)
 
       module _ (post : BehindOwed) (given : q.S.given c.w.world (R q c)) where
         owes : (q.S.owing c.w.world R_there).Holds merged
         owes =
             meets_then code heartbeat z act q.site q.joins q.second.size q.code_is.return
-            q.code_is.joined q.more q.last q.code_is.behind q.high q.fits
+            q.cell q.code_is.joined q.more q.last q.code_is.behind q.high inside
             (q.S.owing c.w.world R_there) (rest q c n) (left_side q c n) (right_side q c n)
             (Both q c).state.ticks (printed_both q c) V U refl c.runs.keeps.low top_below refl sides
             (λ words beat at size base value_is stands.
-            post c.w.world V (Next q c).value (Both q c).state _ (left_in_range q c done n left_ends)
+            post c.w.world (Next q c).value (set_var q.x V (Both q c).state) _
             (subst InRange (sym (same_value q c done)) (right_in_range q c done n right_ends))
-            (shows words beat at size base)
-            (word_same below (z + kept_cell act kept_value) (word.Int V)
-            (omega (arith, c.runs.keeps.low)) (omega (arith, top_below, q.fits)))
+            (shows_assigned code heartbeat z act q.fuel q.S c.w.world
+            (shows words beat at size base) q.fixed q.x.text.items q.cell V q.is_cell q.may q.lowest
+            (left_in_range q c done n left_ends))
             (value_is ∙ ap (λ (m : ℤ). word.Int m) (sym (same_value q c done))) stands)
 
         pub joined_owes : CanRun code merged

@@ -1,6 +1,6 @@
 -- Behind the join of a pair of calls all is as it is where the second call returns.
-use Rattle.std.proofs.Common.{◌≡◌, ℕ, ◌+◌, ◌-◌, ◌≤◌, ◌^◌, false, List, [], ◌∷◌, length, None, Ok}
-use Rattle.std.proofs.Common.{refl, sym, ap, subst, ◌∙◌, arith}
+use Rattle.std.proofs.Common.{◌<◌, ◌≡◌, ℕ, ◌+◌, ◌-◌, ◌≤◌, ◌^◌, false, List, [], ◌∷◌, length, None}
+use Rattle.std.proofs.Common.{Ok, refl, sym, ap, subst, ◌∙◌, arith}
 use Rattle.std.specs.Prelude.{ℤ, pos, slice_set}
 use Rattle.std.proofs.lemmas.List.{length-set}
 use Rattle.beat_count.specs.BeatState.{BeatState}
@@ -32,7 +32,7 @@ use Rattle.handler_gen.proofs.Reaching.{reached}
 use Rattle.join_gen.specs.CallJoins.{AreSidesOfCalls, JoinsCalls, Meets}
 use Rattle.handler_gen.proofs.Words.{words_as_many}
 use Rattle.block_lower.specs.Code.{Opens, call_exit, to}
-use Rattle.block_lower.specs.Layout.{Activation, kept_by_both, kept_cell, kept_value}
+use Rattle.block_lower.specs.Layout.{Activation}
 use Rattle.block_lower.specs.Pairs.{call_enters, pair_joined}
 use Rattle.block_lower.proofs.Scenes.Activations.{popped_pushed, pushed_length}
 use Rattle.block_lower.proofs.Forms.Calls.{base_less, base_more}
@@ -41,10 +41,11 @@ use Rattle.block_lower.proofs.Forms.Simple.{stores_in}
 
 module _ (code : Listing) (heartbeat z : ℕ) (act : Activation) (site : CallSite)
     (joins : JoinsCalls code heartbeat site) (size return : ℕ)
-    (joined : Opens code (joined_label site.label) (pair_joined code act size) (to return))
+    (cell : ℕ) (joined : Opens code (joined_label site.label) (pair_joined code act cell size)
+    (to return))
     (more : List Instr) (last : Term)
     (returns : Opens code return (call_exit size act.size more) last)
-    (high : z + (act.size + size) ≤ 2 ^ 62) (fits : kept_cell act kept_by_both ≤ act.size) where
+    (high : z + (act.size + size) ≤ 2 ^ 62) (fits : cell < act.size) where
   pub meets_then : (K : Back code heartbeat) (rest : RestState) (left right : Side) (ticks : ℕ)
       (output : List ℕ) (v u : ℤ) → rest.base ≡ z → rest.stack.base ≤ z
       → rest.stack.base + length rest.stack.cells ≡ z + act.size → rest.stack.marks ≡ []
@@ -54,7 +55,7 @@ module _ (code : Listing) (heartbeat z : ℕ) (act : Activation) (site : CallSit
       → Remains code return at more last
       → K.Holds (record (merged_task (call_target site) rest left right ticks output) {
         registers = words;
-        stack = with_word rest.stack (pos (z + kept_cell act kept_value)) (word.Int v);
+        stack = with_word rest.stack (pos (z + cell)) (word.Int v);
         beat = beat;
         block = return;
         at = at;
@@ -63,11 +64,11 @@ module _ (code : Listing) (heartbeat z : ℕ) (act : Activation) (site : CallSit
       → K.Holds (merged_task (call_target site) rest left right ticks output)
   meets_then K rest left right ticks output v u base low top unmarked are go =
       reached code heartbeat K merged one m.comes
-      (stores_in code heartbeat z act 0 K one (kept_cell act kept_value) (value.Reg 0) _
+      (stores_in code heartbeat z act 0 K one cell (value.Reg 0) _
       (to return) (opened code (joined_label site.label) _ _ joined) base_one low
       (omega (arith, top, fits))
       (subst (λ (w : Word). K.Holds (effect.with_stack (advanced one)
-      (with_word rest.stack (pos (z + kept_cell act kept_value)) w))) (sym m.first_value)
+      (with_word rest.stack (pos (z + cell)) w))) (sym m.first_value)
       (on_move code heartbeat K two 0 (value.Reg 1) (next code two _ _ (to return) second)
       (on_salloc code heartbeat K three size (next code three _ _ (to return) third)
       (omega (arith, top, high, as_many))
@@ -105,10 +106,10 @@ module _ (code : Listing) (heartbeat z : ℕ) (act : Activation) (site : CallSit
       base_one = m.base ∙ ap (λ (n : ℕ). word.Int (pos n)) base
 
       stack : StackValue
-      stack = with_word rest.stack (pos (z + kept_cell act kept_value)) (word.Int v)
+      stack = with_word rest.stack (pos (z + cell)) (word.Int v)
 
       as_many : length stack.cells ≡ length rest.stack.cells
-      as_many = words_as_many rest.stack (z + kept_cell act kept_value) (word.Int v)
+      as_many = words_as_many rest.stack (z + cell) (word.Int v)
 
       two : machine.State
       two = effect.with_stack (advanced one) stack

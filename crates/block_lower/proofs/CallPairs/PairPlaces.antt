@@ -1,7 +1,7 @@
 -- A pair of calls in a scene, with what follows it, and a task of its first function that was
 -- diverted where the pair's mark is the oldest.
-use Rattle.std.proofs.Common.{◌≡◌, ℕ, suc, ◌+◌, ◌≤◌, ◌^◌, false, All, List, [], ◌∷◌, length, Some}
-use Rattle.std.proofs.Common.{arith}
+use Rattle.std.proofs.Common.{◌<◌, ◌≡◌, ℕ, suc, ◌+◌, ◌≤◌, ◌^◌, false, All, List, [], ◌∷◌, length}
+use Rattle.std.proofs.Common.{Some, arith}
 use Rattle.std.specs.Prelude.{ℤ, pos}
 use Rattle.std.specs.List.{AllByRecursion}
 use Rattle.beat_count.specs.BeatState.{BeatState}
@@ -17,7 +17,7 @@ use Rattle.loop_meaning.specs.declared.value.Variable.{Variable}
 use Rattle.loop_meaning.specs.InRange.{TableInRange}
 use Rattle.loop_meaning.specs.State as meaning
 use Rattle.loop_meaning.specs.State.{Chance, Note, Ran}
-use Rattle.loop_meaning.specs.Statements.{Called, with_call}
+use Rattle.loop_meaning.specs.Statements.{Called, set_var, with_call}
 use Rattle.tpal_syntax.specs.declared.instructions.Instr.{Instr}
 use Rattle.tpal_syntax.specs.declared.instructions.Term.{Term}
 use Rattle.tpal_syntax.specs.declared.sites.CallSite.{CallSite}
@@ -30,8 +30,9 @@ use Rattle.frame_machine.specs.FrameLaws.{LawfulCalls, child_start}
 use Rattle.frame_machine.specs.Modes.{Modes}
 use Rattle.handler_gen.specs.CallCuts.{child_call_cells}
 use Rattle.join_gen.specs.CallJoins.{JoinsCalls}
+use Rattle.block_lower.specs.Code.{IsCell}
 use Rattle.block_lower.specs.Layout.{Activation, Entry, kept_by_both, kept_cell, kept_mark}
-use Rattle.block_lower.specs.Layout.{kept_record, levels_cell, value_cell}
+use Rattle.block_lower.specs.Layout.{kept_record, levels_cell, value_cell, kept_argument}
 use Rattle.block_lower.specs.Main.{HasRoom}
 use Rattle.block_lower.specs.Pairs.{IsPair}
 use Rattle.block_lower.proofs.Scenes.Activations.{StandsFrom}
@@ -85,35 +86,46 @@ pub record PairAt (code : Listing) (heartbeat z : ℕ) (act : Activation) : Type
   pub second : Entry
   pub eight : second.parameters ≤ MAX_PARAMETERS
   pub high : z + (act.size + second.size) ≤ 2 ^ 62
+  -- the variable that is given the first call's value
+  pub x : Name
+  pub fixed : List ℕ
+  pub cell : ℕ
+  pub is_cell : IsCell code act names fixed x.text.items cell
+  pub may : S.may cell
   -- the code of the pair
   pub site : CallSite
   pub instrs : List Instr
   pub end : Term
   pub more : List Instr
   pub last : Term
-  pub code_is :
-      IsPair code act S.dispatch f.place second.parameters first second site instrs end more last
+  pub code_is : IsPair code act S.dispatch f.place cell second.parameters first second site instrs
+      end more last
   pub place : IsCutPair code S.dispatch site
   pub joins : JoinsCalls code heartbeat site
   pub cells : site.cells ≡ act.size
   pub mark_is : site.mark ≡ kept_cell act kept_mark
   pub rec_is : site.rec ≡ kept_cell act kept_record
-  pub fits : kept_cell act kept_by_both ≤ act.size
-  -- what ends it, and what follows
-  pub finish : ℤ → ℤ → meaning.State → Ran
+  pub fits : kept_cell act (kept_by_both second.parameters) ≤ act.size
+  pub mark_fits : site.mark < act.size
+  -- what ends it by the second call's value, and what follows
+  pub ends : ℤ → meaning.State → Ran
   pub k : meaning.State → Result
 
 module _ {code : Listing} {heartbeat z : ℕ} {act : Activation} (q : PairAt code heartbeat z act)
   where
+    -- what ends it by both values
+    abbrev pub finish : ℤ → ℤ → meaning.State → Ran
+    finish v u t = q.ends u (set_var q.x v t)
+
     abbrev pub Args : Type 0
     Args = Arguments q.first.parameters q.second.parameters
 
     -- the second call's arguments are kept
     abbrev pub kept : Keeping code heartbeat z act q.fuel q.S q.names Args
     kept = record {
-      Holds = λ a s. AreIn s z (kept_cell act) 0 a.kept_numbers;
-      same = λ most a s t alike are. are_in_same s t z (kept_cell act) 0 a.kept_numbers
-          (λ j from below. alike (z + kept_cell act j) (omega (arith, most))
+      Holds = λ a s. AreIn s z (kept_argument act) 0 a.kept_numbers;
+      same = λ most a s t alike are. are_in_same s t z (kept_argument act) 0 a.kept_numbers
+          (λ j from below. alike (z + kept_argument act j) (omega (arith, most))
           (omega (arith, below, a.kept_many, q.eight, q.fits))) are;
     }
 
@@ -126,7 +138,7 @@ module _ {code : Listing} {heartbeat z : ℕ} {act : Activation} (q : PairAt cod
 
     -- the second call, and what ends the pair, where the first call gave a value
     abbrev pub next_in : Args → ℤ → meaning.State → Ran
-    next_in a v t = with_call (calls q.g.text.items q.g.place a.kept_numbers [] t) (q.finish v)
+    next_in a v t = with_call (calls q.g.text.items q.g.place a.kept_numbers [] t) (finish v)
 
     abbrev pub Waiting : Type 0
     Waiting = Caller code heartbeat z act q.fuel q.S q.names Args
@@ -136,20 +148,20 @@ module _ {code : Listing} {heartbeat z : ℕ} {act : Activation} (q : PairAt cod
 
     abbrev pub Runs : Worlds → List Mark → meaning.State → machine.State → Type 0
     Runs = RunsFirst code heartbeat z act q.fuel q.S q.names q.lowest q.has_room Args kept next_in
-        q.k q.room q.code_is.between q.site q.mark_is q.fits first_call q.modes
+        q.k q.room q.code_is.between q.site q.mark_is q.mark_fits first_call q.modes
 
     abbrev pub First : Waiting → Result → Type 0
     First = IsFirst code heartbeat z act q.fuel q.S q.names q.lowest q.has_room Args kept next_in q.k
-        q.room q.code_is.between q.site q.mark_is q.fits first_call q.modes
+        q.room q.code_is.between q.site q.mark_is q.mark_fits first_call q.modes
 
     abbrev pub Firsts : Promise code heartbeat Worlds
     Firsts = firsts code heartbeat z act q.fuel q.S q.names q.lowest q.has_room Args kept next_in q.k
-        q.room q.code_is.between q.site q.mark_is q.fits first_call q.modes
+        q.room q.code_is.between q.site q.mark_is q.mark_fits first_call q.modes
 
     -- what follows the first call
     abbrev pub after_first : Waiting → meaning.State → Result
     after_first = behind_first code heartbeat z act q.fuel q.S q.names q.lowest q.has_room Args kept
-        next_in q.k q.room q.code_is.between q.site q.mark_is q.fits first_call q.modes
+        next_in q.k q.room q.code_is.between q.site q.mark_is q.mark_fits first_call q.modes
 
     abbrev pub KeptIn : Waiting → StackValue → Type 0
     KeptIn = Kept code heartbeat z act q.fuel q.S q.names q.lowest q.has_room Args kept next_in q.k
@@ -157,11 +169,11 @@ module _ {code : Listing} {heartbeat z : ℕ} {act : Activation} (q : PairAt cod
 
     abbrev pub CutsOwed : Type 0
     CutsOwed = OwnCutOwed code heartbeat z act q.fuel q.S q.names q.lowest q.has_room Args kept
-        next_in q.k q.room q.code_is.between q.site q.mark_is q.fits first_call q.modes
+        next_in q.k q.room q.code_is.between q.site q.mark_is q.mark_fits first_call q.modes
 
     abbrev pub scene_in : CutsOwed → Scene code heartbeat (z + act.size)
     scene_in = first_scene code heartbeat z act q.fuel q.S q.names q.lowest q.has_room Args kept
-        next_in q.k q.room q.code_is.between q.site q.mark_is q.fits first_call q.modes
+        next_in q.k q.room q.code_is.between q.site q.mark_is q.mark_fits first_call q.modes
 
     -- a diverted task of the first function whose oldest mark is the pair's; more marks may stand
     -- above it, and the result is that of the first call
@@ -193,7 +205,7 @@ module _ {code : Listing} {heartbeat z : ℕ} {act : Activation} (q : PairAt cod
       pub has : HasSecond q.site z n state.stack (child_call_cells q.site z n state.stack)
       pub levels : word_at state.stack (pos (z + levels_cell)) ≡ Some (word.Int (pos (suc q.room)))
       pub vars : AreHeld state.stack z 0 vs
-      pub args : AreIn state.stack z (kept_cell act) 0 ms
+      pub args : AreIn state.stack z (kept_argument act) 0 ms
 
     -- what the child owes under each record
     abbrev pub ChildOwed : Type 0

@@ -2,7 +2,7 @@
 -- and the left of a cut ends.
 use Rattle.std.proofs.Common.{◌≡◌, ℕ, ◌+◌, ◌<◌, Bool, true, false, List, [], ◌∷◌, ◌++◌, length}
 use Rattle.std.proofs.Common.{Some, Ok, refl, sym, ap, subst, ◌∙◌, arith}
-use Rattle.std.specs.Prelude.{ℤ, pos, cond, nat_eq, filter, slice_set}
+use Rattle.std.specs.Prelude.{ℤ, pos, ⊤, cond, nat_eq, filter, slice_set}
 use Rattle.std.specs.Ordering.{int_eq}
 use Rattle.std.proofs.lemmas.Bool.{eqb-true}
 use Rattle.std.proofs.lemmas.Bool.Decides.{Decides-int_eq}
@@ -12,6 +12,7 @@ use Rattle.stack_marks.specs.declared.mark.Mark.{Mark}
 use Rattle.stack_marks.specs.Stacks.{StackValue, popped, unmarked, with_word, word_at}
 use Rattle.loop_meaning.specs.InRange.{InRange}
 use Rattle.loop_meaning.specs.State as meaning
+use Rattle.loop_meaning.specs.Statements.{set_var, with_call}
 use Rattle.tpal_syntax.specs.declared.instructions.Alu.TheVariants as alu
 use Rattle.tpal_syntax.specs.declared.instructions.Instr.{Instr}
 use Rattle.tpal_syntax.specs.declared.instructions.Instr.TheVariants as instr
@@ -33,55 +34,45 @@ use Rattle.handler_gen.specs.CallCuts.{call_mark}
 use Rattle.handler_gen.specs.Sites.{left_end_label}
 use Rattle.handler_gen.proofs.Marks.{on_prmpop}
 use Rattle.expr_lower.specs.Registers.{base_register}
-use Rattle.handler_gen.proofs.Words.{word_other, word_same, word_there}
-use Rattle.block_lower.specs.Code.{store, to}
-use Rattle.block_lower.specs.Layout.{Activation, kept_cell, kept_value, return_cell}
-use Rattle.block_lower.specs.Layout.{value_cell}
+use Rattle.handler_gen.proofs.Words.{word_other, word_there}
+use Rattle.block_lower.specs.Code.{IsCell, store, to}
+use Rattle.block_lower.specs.Layout.{Activation, return_cell, value_cell, kept_argument}
 use Rattle.block_lower.specs.Pairs.{first_exit, fitted, passed_call}
 use Rattle.block_lower.proofs.Scenes.Activations.{clear_above, word_popped}
 use Rattle.block_lower.proofs.Forms.Arguments.{AreIn, are_in_same, wider}
-use Rattle.block_lower.proofs.Forms.Called.{back_with, with_value}
+use Rattle.block_lower.proofs.Forms.Called.{back_with, set_before, with_value}
 use Rattle.block_lower.proofs.Forms.Callees.{Returns, shows_popped}
 use Rattle.block_lower.proofs.Forms.Calls.{Caller, Keeping, base_less, callee, clear, kept_same}
 use Rattle.block_lower.proofs.Forms.Calls.{shows_below}
 use Rattle.block_lower.proofs.Scenes.Moves.{calm, opened}
 use Rattle.block_lower.proofs.CallPairs.PairPlaces.{Args, CutsOwed, KeptIn, PairAt, Waiting, Worlds}
-use Rattle.block_lower.proofs.CallPairs.PairPlaces.{kept}
+use Rattle.block_lower.proofs.CallPairs.PairPlaces.{calls, kept}
 use Rattle.block_lower.proofs.CallPairs.PairPlaces.{next_in, scene_in}
 use Rattle.block_lower.proofs.CallPairs.PairPromises.{side_ends}
 use Rattle.block_lower.proofs.CallPairs.PairSeconds.{CalledAt, FunctionOwed, calls_second}
 use Rattle.block_lower.proofs.CallPairs.PairSeconds.{passes_second}
 use Rattle.block_lower.proofs.Scenes.Pieces.{Apart, Host}
 use Rattle.block_lower.proofs.QuietPars.QuietEnds.{not_at, unmarked_is}
-use Rattle.block_lower.proofs.Scenes.Results.{fin, result, then}
+use Rattle.block_lower.proofs.Scenes.Results.{Result, fin, result, then}
 use Rattle.block_lower.proofs.Scenes.Scene.{Scene, Shows, ShowsIn}
-use Rattle.block_lower.proofs.Scenes.Showing.{shows_new}
+use Rattle.block_lower.proofs.Scenes.Showing.{shows_assigned}
 use Rattle.block_lower.proofs.Cuts.Sides.{Part}
 use Rattle.block_lower.proofs.Forms.Simple.{stores_in}
 
--- the value of the first call
-pub record FirstValue : Type 0 where
-  pub value : ℤ
-  pub fits : InRange value
-
 module _ {code : Listing} {heartbeat z : ℕ} {act : Activation} (q : PairAt code heartbeat z act)
   where
-    -- it is kept
-    abbrev pub kept_first : Keeping code heartbeat z act q.fuel q.S q.names FirstValue
-    kept_first = record {
-      Holds = λ a s. word_at s (pos (z + kept_cell act kept_value)) ≡ Some (word.Int a.value);
-      same = λ most a s t alike is. alike (z + kept_cell act kept_value) (omega (arith, most))
-          (omega (arith, q.fits)) ∙ is;
-    }
+    -- the first call's value is in its variable: no other is kept
+    abbrev pub nothing_kept : Keeping code heartbeat z act q.fuel q.S q.names ⊤
+    nothing_kept = record { Holds = λ a s. ⊤; same = λ most a s t alike holds. tt }
 
-    abbrev pub next_second : FirstValue → ℤ → meaning.State → meaning.Ran
-    next_second a u t = q.finish a.value u t
+    abbrev pub next_second : ⊤ → ℤ → meaning.State → meaning.Ran
+    next_second a = q.ends
 
     module _ (there : CalledAt code act q.p.funcs.items q.g.text.items q.second) where
       -- what the second function owes where nothing was cut off
       abbrev pub SecondOwed : Type 0
       SecondOwed = FunctionOwed code heartbeat z act q.fuel q.S q.names q.lowest q.has_room q.low
-          FirstValue kept_first next_second q.k q.room q.code_is.return q.levels q.few
+          ⊤ nothing_kept next_second q.k q.room q.code_is.return q.levels q.few
           q.p.funcs.items q.g q.second there
 
       module _ (owed : SecondOwed) (own : CutsOwed q) (most : ℕ) where
@@ -207,16 +198,16 @@ module _ {code : Listing} {heartbeat z : ℕ} {act : Activation} (q : PairAt cod
           last = fitted q.first.size q.second.size ++ call
 
           one : Remains code q.code_is.between 0
-              (first_exit act.size q.site.mark (kept_cell act kept_value) last) end
+              (first_exit act.size q.site.mark q.cell last) end
           one = opened code q.code_is.between _ end q.code_is.after
 
           two : Remains code q.code_is.between (0 + 1)
               (instr.PrmPop base_register q.site.mark
-              ∷ store (kept_cell act kept_value) (value.Reg 0) ∷ last) end
+              ∷ store q.cell (value.Reg 0) ∷ last) end
           two = behind code q.code_is.between 0 _ _ end one
 
           three : Remains code q.code_is.between (0 + 1 + 1)
-              (store (kept_cell act kept_value) (value.Reg 0) ∷ last) end
+              (store q.cell (value.Reg 0) ∷ last) end
           three = behind code q.code_is.between (0 + 1) _ _ end two
 
           four : Remains code q.code_is.between (0 + 1 + 1 + 1) last end
@@ -231,7 +222,7 @@ module _ {code : Listing} {heartbeat z : ℕ} {act : Activation} (q : PairAt cod
           unset = effect.with_stack (advanced lowered) bare
 
           abbrev stack : StackValue
-          stack = with_word bare (pos (z + kept_cell act kept_value)) (word.Int v)
+          stack = with_word bare (pos (z + q.cell)) (word.Int v)
 
           abbrev stored : machine.State
           stored = effect.with_stack (advanced unset) stack
@@ -239,50 +230,71 @@ module _ {code : Listing} {heartbeat z : ℕ} {act : Activation} (q : PairAt cod
           abbrev freed : machine.State
           freed = effect.with_stack (advanced stored) (popped stack q.first.size)
 
-          inside : z + kept_cell act kept_value < bare.base + length bare.cells
-          inside = omega (arith, shows_caller.top, q.fits)
+          inside : z + q.cell < bare.base + length bare.cells
+          inside = omega (
+            arith,
+            shows_caller.top,
+            q.is_cell.at_level,
+            q.is_cell.below,
+            q.has_room.room,
+          )
 
-          -- ---- the second call, where the first one's value is kept
+          -- ---- the second call, where the first one's value is in its variable
 
-          abbrev caller : Caller code heartbeat z act q.fuel q.S q.names FirstValue
+          abbrev set : meaning.State
+          set = set_var q.x v (back_with w.state.vars st)
+
+          -- what it owes
+          abbrev L : Back code heartbeat
+          L = q.S.owing w.world (then (result (with_call
+              (calls q q.g.text.items q.g.place w.value.kept_numbers [] set) q.ends)) q.k)
+
+          is_wider : IsCell code (wider act q.first.size) q.names q.fixed q.x.text.items q.cell
+          is_wider = record {
+            scope = q.is_cell.scope;
+            sees = q.is_cell.sees;
+            inside = q.is_cell.inside;
+            is = q.is_cell.is;
+            level = q.is_cell.level;
+            at_level = q.is_cell.at_level;
+            below = q.is_cell.below;
+            free = q.is_cell.free;
+          }
+
+          shows_stored : ShowsIn code heartbeat z (wider act q.first.size) q.fuel q.S w.world
+              q.names set stored
+          shows_stored =
+              shows_assigned code heartbeat z (wider act q.first.size) q.fuel q.S w.world
+              shows_caller q.fixed q.x.text.items q.cell v is_wider q.may q.lowest fits_v
+
+          abbrev caller : Caller code heartbeat z act q.fuel q.S q.names ⊤
           caller = record {
             world = w.world;
-            state = back_with w.state.vars st;
-            value = record { value = v; fits = fits_v };
-            named = w.named;
+            state = set;
+            value = tt;
+            named = shows_stored.named;
             few = w.few;
             tall = w.tall;
           }
 
-          shows_stored : ShowsIn code heartbeat z (wider act q.first.size) q.fuel q.S w.world
-              q.names caller.state stored
-          shows_stored =
-              shows_new code heartbeat z (wider act q.first.size) q.fuel q.S w.world shows_caller
-              (kept_cell act kept_value) (word.Int v) (omega (arith, w.few)) q.lowest
-
-          are_stored : AreIn stack z (kept_cell act) 0 w.value.kept_numbers
+          are_stored : AreIn stack z (kept_argument act) 0 w.value.kept_numbers
           are_stored =
-              are_in_same bare stack z (kept_cell act) 0 w.value.kept_numbers
-              (λ j from below. word_other bare (z + kept_cell act kept_value) (z + kept_cell act j)
+              are_in_same bare stack z (kept_argument act) 0 w.value.kept_numbers
+              (λ j from below. word_other bare (z + q.cell) (z + kept_argument act j)
               (word.Int v) (omega (arith, shows_caller.low))
-              (λ e. absurd (omega (arith, e, below, w.value.kept_many, q.eight)))) kept_there.also
-
-          value_stored : kept_first.Holds caller.value stack
-          value_stored =
-              word_same bare (z + kept_cell act kept_value) (word.Int v)
-              (omega (arith, shows_caller.low)) inside
+              (λ e. absurd (omega (arith, e, q.is_cell.at_level, q.is_cell.below)))) kept_there.also
 
           -- in the cells of the first function, where the second has as many
           goes_in_place : q.first.size ≡ q.second.size
-              → Remains code q.code_is.between (0 + 1 + 1 + 1) call end → K.Holds stored
+              → Remains code q.code_is.between (0 + 1 + 1 + 1) call end → L.Holds stored
           goes_in_place as_many here =
               passes_second code heartbeat z act q.fuel q.S q.names q.lowest q.has_room q.low
-              FirstValue kept_first next_second q.k q.room q.code_is.return q.levels q.few
+              ⊤ nothing_kept next_second q.k q.room q.code_is.return q.levels q.few
               q.p.funcs.items q.g q.second there owed caller stored q.second.parameters
               w.value.kept_numbers w.value.kept_many refl q.eight q.fits
               (subst (λ (n : ℕ). ShowsIn code heartbeat z (wider act n) q.fuel q.S w.world q.names
               caller.state stored) as_many shows_stored)
-              are_stored value_stored here
+              are_stored tt here
 
           clear_stored : is_marked_from stack.marks (z + act.size) ≡ false
           clear_stored =
@@ -298,33 +310,36 @@ module _ {code : Listing} {heartbeat z : ℕ} {act : Activation} (q : PairAt cod
 
           -- in others
           goes_anew : Remains code q.code_is.between (0 + 1 + 1 + 1)
-              (instr.Sfree q.first.size ∷ instr.Salloc q.second.size ∷ call) end → K.Holds stored
+              (instr.Sfree q.first.size ∷ instr.Salloc q.second.size ∷ call) end → L.Holds stored
           goes_anew here =
-              on_sfree code heartbeat K stored q.first.size (next code stored _ _ end here)
+              on_sfree code heartbeat L stored q.first.size (next code stored _ _ end here)
               (omega (arith, shows_stored.top, shows_stored.low))
               (subst (λ (a : ℕ). is_marked_from stack.marks a ≡ false)
               (omega (arith, shows_stored.top, shows_stored.low)) clear_stored)
               (calls_second code heartbeat z act q.fuel q.S q.names q.lowest q.has_room q.low
-              FirstValue kept_first next_second q.k q.room q.code_is.return q.levels q.few
+              ⊤ nothing_kept next_second q.k q.room q.code_is.return q.levels q.few
               q.p.funcs.items q.g q.second there owed caller freed q.second.parameters
               w.value.kept_numbers w.value.kept_many refl q.eight q.fits q.high
               (shows_popped code heartbeat z act q.first.size q.fuel q.S w.world q.names q.lowest
               caller.state q.has_room w.tall clear_stored shows_stored)
-              (are_in_same stack freed.stack z (kept_cell act) 0 w.value.kept_numbers
-              (λ j from below. as_before (z + kept_cell act j)
+              (are_in_same stack freed.stack z (kept_argument act) 0 w.value.kept_numbers
+              (λ j from below. as_before (z + kept_argument act j)
               (omega (arith, below, w.value.kept_many, q.eight, q.fits))) are_stored)
-              (kept_first.same w.few caller.value stack freed.stack
-              (λ a from below. as_before a below) value_stored)
+              tt
               (behind code q.code_is.between (0 + 1 + 1 + 1) _ _ end here))
 
           goes_second : K.Holds stored
-          goes_second = by_size (nat_eq q.first.size q.second.size) refl four
+          goes_second =
+              subst (λ (r : Result). (q.S.owing w.world r).Holds stored)
+              (set_before q.p.funcs.items q.fuel q.g.text.items q.g.place w.value.kept_numbers
+              (back_with w.state.vars st) q.ends q.k q.x v q.room there.func there.named)
+              (by_size (nat_eq q.first.size q.second.size) refl four)
             where
               by_size : (same : Bool) → nat_eq q.first.size q.second.size ≡ same
                   → Remains code q.code_is.between (0 + 1 + 1 + 1)
                   (cond same [] (instr.Sfree q.first.size ∷ instr.Salloc q.second.size ∷ [])
                   ++ call) end
-                  → K.Holds stored
+                  → L.Holds stored
               by_size true e here = goes_in_place (eqb-true q.first.size q.second.size e) here
               by_size false e here = goes_anew here
 
@@ -337,10 +352,10 @@ module _ {code : Listing} {heartbeat z : ℕ} {act : Activation} (q : PairAt cod
               (next code lowered _ _ end two) base
               (word_there state.stack place (omega (arith, shows_caller.low))
               (omega (arith, shows_caller.top, q.mark_is, q.fits)))
-              (stores_in code heartbeat z act q.fuel K unset (kept_cell act kept_value)
+              (stores_in code heartbeat z act q.fuel K unset q.cell
               (value.Reg 0) _ end three base shows_caller.low inside
               (subst (λ (x : Word). K.Holds (effect.with_stack (advanced unset)
-              (with_word bare (pos (z + kept_cell act kept_value)) x))) (sym value_there)
+              (with_word bare (pos (z + q.cell)) x))) (sym value_there)
               goes_second)))
 
         -- ---- both worlds

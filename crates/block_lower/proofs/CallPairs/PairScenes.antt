@@ -1,6 +1,6 @@
 -- The scene of the first function of a pair of calls: in front of its caller, whose mark stands, or
 -- as the left of a cut, which has nothing of its caller.
-use Rattle.std.proofs.Common.{◌≡◌, ℕ, ◌+◌, ◌≤◌, Bool, true, false, List, [], ◌∷◌, ◌++◌, Some}
+use Rattle.std.proofs.Common.{◌<◌, ◌≡◌, ℕ, ◌+◌, ◌≤◌, Bool, true, false, List, [], ◌∷◌, ◌++◌, Some}
 use Rattle.std.proofs.Common.{length, refl, sym, subst, ◌∙◌, append_assoc, arith}
 use Rattle.std.specs.Prelude.{ℤ, pos, nat_le, ⊤}
 use Rattle.std.specs.List.{AllByRecursion}
@@ -30,8 +30,7 @@ use Rattle.frame_machine.specs.Modes as mode
 use Rattle.frame_machine.specs.Parts.{NotesKeep}
 use Rattle.handler_gen.specs.CallCuts.{call_mark}
 use Rattle.handler_gen.specs.Sites.{left_end_label, target_label}
-use Rattle.block_lower.specs.Layout.{Activation, kept_by_both, kept_cell, kept_mark, return_cell}
-use Rattle.block_lower.specs.Layout.{value_cell}
+use Rattle.block_lower.specs.Layout.{Activation, kept_cell, kept_mark, return_cell, value_cell}
 use Rattle.block_lower.specs.Main.{HasRoom}
 use Rattle.block_lower.proofs.Scenes.Activations.{StandsFrom, marks_from}
 use Rattle.block_lower.proofs.Forms.Calls.{Caller, Kept, Keeping, clear, follows, kept_near}
@@ -94,7 +93,7 @@ module _ (code : Listing) (heartbeat z : ℕ) (act : Activation) (fuel : ℕ)
     (has_room : HasRoom act) (A : Type 0) (kept : Keeping code heartbeat z act fuel S names A)
     (next_in : A → ℤ → meaning.State → Ran) (k : meaning.State → Result) (room between : ℕ)
     (site : CallSite) (mark_is : site.mark ≡ kept_cell act kept_mark)
-    (fits : kept_cell act kept_by_both ≤ act.size) (first_call : A → meaning.State → Called)
+    (fits : site.mark < act.size) (first_call : A → meaning.State → Called)
     (modes : Modes) where
   abbrev pub Calling : Type 0
   Calling = Caller code heartbeat z act fuel S names A

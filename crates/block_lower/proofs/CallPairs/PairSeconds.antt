@@ -29,7 +29,7 @@ use Rattle.expr_lower.proofs.Keeping.{register_other, register_set}
 use Rattle.expr_lower.proofs.Standing.{behind, next, regrouped}
 use Rattle.block_lower.specs.Code.{Opens, load, passed, to}
 use Rattle.block_lower.specs.Layout.{Activation, Entry, kept_by_both, kept_cell, levels_cell}
-use Rattle.block_lower.specs.Layout.{value_cell}
+use Rattle.block_lower.specs.Layout.{value_cell, kept_argument}
 use Rattle.block_lower.specs.Main.{HasRoom}
 use Rattle.block_lower.specs.Pairs.{call_enters, call_given, passed_call, second_call}
 use Rattle.block_lower.proofs.Forms.Arguments.{AreIn, are_in_same, passed_law, wider}
@@ -176,9 +176,9 @@ module _ (code : Listing) (heartbeat z : ℕ) (act : Activation) (fuel : ℕ)
     -- from its arguments on, which are kept in the caller's activation
     pub passes_second : (w : Waiting) (task : machine.State) (many : ℕ) (ms : List ℤ)
         → length ms ≡ many → many ≡ entry.parameters → many ≤ MAX_PARAMETERS
-        → kept_cell act kept_by_both ≤ act.size
+        → kept_cell act (kept_by_both many) ≤ act.size
         → ShowsIn code heartbeat z (wider act entry.size) fuel S w.world names w.state task
-        → AreIn task.stack z (kept_cell act) 0 ms → kept.Holds w.value task.stack
+        → AreIn task.stack z (kept_argument act) 0 ms → kept.Holds w.value task.stack
         → Remains code task.block task.at (passed_call code act many back) (to entry.label)
         → (S.owing w.world (then (result (with_call (call_at fs fuel (suc room) g.text.items g.place
         ms [] w.state) (next_in w.value))) k)).Holds task
@@ -220,10 +220,10 @@ module _ (code : Listing) (heartbeat z : ℕ) (act : Activation) (fuel : ℕ)
     -- from its activation on
     pub calls_second : (w : Waiting) (task : machine.State) (many : ℕ) (ms : List ℤ)
         → length ms ≡ many → many ≡ entry.parameters → many ≤ MAX_PARAMETERS
-        → kept_cell act kept_by_both ≤ act.size
+        → kept_cell act (kept_by_both many) ≤ act.size
         → z + (act.size + entry.size) ≤ 2 ^ 62
         → ShowsIn code heartbeat z act fuel S w.world names w.state task
-        → AreIn task.stack z (kept_cell act) 0 ms → kept.Holds w.value task.stack
+        → AreIn task.stack z (kept_argument act) 0 ms → kept.Holds w.value task.stack
         → Remains code task.block task.at (second_call code act many entry.size back)
         (to entry.label)
         → (S.owing w.world (then (result (with_call (call_at fs fuel (suc room) g.text.items g.place
@@ -233,8 +233,8 @@ module _ (code : Listing) (heartbeat z : ℕ) (act : Activation) (fuel : ℕ)
         (omega (arith, shows.top, high))
         (passes_second w one many ms as_many arity eight room_kept
         (shows_pushed code heartbeat z act entry.size fuel S w.world names lowest w.state shows)
-        (are_in_same task.stack one.stack z (kept_cell act) 0 ms
-        (λ j from below. as_before (z + kept_cell act j)
+        (are_in_same task.stack one.stack z (kept_argument act) 0 ms
+        (λ j from below. as_before (z + kept_argument act j)
         (omega (arith, below, as_many, eight, room_kept))) are)
         (kept.same shows.few w.value task.stack one.stack (λ c from below. as_before c below) also)
         (behind code task.block task.at _ _ (to entry.label) stands))

@@ -1,10 +1,9 @@
 -- The law of the code of two calls that can be cut, as the law of statements uses it.
 use Rattle.std.proofs.Common.{◌≡◌, ℕ, zero, suc, ◌+◌, ◌<◌, ◌≤◌, true, List, [], ◌∷◌, length}
 use Rattle.std.proofs.Common.{Some, refl, sym, ap, subst, ◌∙◌, arith}
-use Rattle.std.specs.Prelude.{ℤ, pos, ◌-ℤ◌, slice_set}
-use Rattle.std.proofs.lemmas.List.{length-set}
+use Rattle.std.specs.Prelude.{ℤ, pos, ⊤, ◌-ℤ◌}
 use Rattle.beat_count.specs.Ticks.{ticked}
-use Rattle.stack_marks.specs.Stacks.{StackValue, pushed, word_at}
+use Rattle.stack_marks.specs.Stacks.{StackValue, pushed}
 use Rattle.tp_value.specs.declared.limits.TheConstants.{MAX_PARAMETERS}
 use Rattle.tp_value.specs.declared.Stop.TheVariants.{Trap}
 use Rattle.tp_value.specs.declared.TrapKind.TheVariants.{Deep}
@@ -30,21 +29,20 @@ use Rattle.tpal_syntax.specs.declared.words.Word.TheVariants as word
 use Rattle.tpal_syntax.specs.Conditions.{is_ready}
 use Rattle.tpal_syntax.specs.Listing.{Listing}
 use Rattle.tpal_machine.specs.Effect as effect
-use Rattle.tpal_machine.specs.Reading.{block_at, note_of, register, with_register}
+use Rattle.tpal_machine.specs.Reading.{block_at, note_of, register}
 use Rattle.tpal_machine.specs.State as machine
 use Rattle.tpal_machine.specs.Step.{advanced}
-use Rattle.tpal_machine.proofs.Kit.{Back, IsCalm, on_if_not, on_load}
+use Rattle.tpal_machine.proofs.Kit.{Back, IsCalm, on_if_not}
 use Rattle.expr_lower.specs.Standing.{AreAt, Remains}
-use Rattle.expr_lower.proofs.Keeping.{register_other, register_set}
 use Rattle.expr_lower.proofs.Standing.{behind, next, regrouped}
 use Rattle.frame_machine.specs.Modes as mode
 use Rattle.handler_gen.specs.Blocks.{dispatch_block}
 use Rattle.handler_gen.specs.Sites.{child_end_label, joined_label, left_end_label, target_label}
 use Rattle.join_gen.specs.Blocks.{call_join_blocks, child_end_block, left_end_block}
 use Rattle.join_gen.proofs.CallJoining.{joins_calls}
-use Rattle.block_lower.specs.Code.{Arguments, IsCell, load, parameter_cell, store, to}
+use Rattle.block_lower.specs.Code.{Arguments, IsCell, parameter_cell, store, to}
 use Rattle.block_lower.specs.Layout.{Activation, Entry, entry_of, kept_by_both, kept_cell}
-use Rattle.block_lower.specs.Layout.{kept_value, value_cell}
+use Rattle.block_lower.specs.Layout.{value_cell, kept_argument, kept_mark}
 use Rattle.block_lower.specs.Main.{FunctionAt, bare}
 use Rattle.block_lower.specs.Pairs.{IsPair, pair_begins}
 use Rattle.block_lower.specs.Round.{Round}
@@ -67,9 +65,8 @@ use Rattle.block_lower.proofs.CallPairs.PairOwn.{own_cut_bound}
 use Rattle.block_lower.proofs.CallPairs.PairPlaces.{Args, ChildOwed, CutsOwed, PairAt, PairCut}
 use Rattle.block_lower.proofs.CallPairs.PairPlaces.{Worlds}
 use Rattle.block_lower.proofs.CallPairs.PairPlaces.{first_call, kept, next_in}
-use Rattle.block_lower.proofs.CallPairs.PairReturns.{FirstValue, SecondOwed, first_returns}
-use Rattle.block_lower.proofs.CallPairs.PairReturns.{kept_first}
-use Rattle.block_lower.proofs.CallPairs.PairReturns.{next_second}
+use Rattle.block_lower.proofs.CallPairs.PairReturns.{SecondOwed, first_returns, next_second}
+use Rattle.block_lower.proofs.CallPairs.PairReturns.{nothing_kept}
 use Rattle.block_lower.proofs.CallPairs.PairScenes.{early_first, shared_holds}
 use Rattle.block_lower.proofs.CallPairs.PairSeconds.{CalledAt, inside}
 use Rattle.block_lower.proofs.CallPairs.PairTests.{tested, up_to_test}
@@ -79,7 +76,7 @@ use Rattle.block_lower.proofs.Scenes.Regions.{IsWholly}
 use Rattle.block_lower.proofs.Scenes.Results.{Result, out, result, then}
 use Rattle.block_lower.proofs.Scenes.Scene.{Owed, Scene, ShowsIn}
 use Rattle.block_lower.proofs.Whole.Serving.{served_call}
-use Rattle.block_lower.proofs.Scenes.Showing.{shows_ticked, shows_words}
+use Rattle.block_lower.proofs.Scenes.Showing.{shows_ticked}
 use Rattle.block_lower.proofs.Forms.Ticks.{ticks}
 use Rattle.block_lower.proofs.Scenes.Values.{ExprLaw}
 
@@ -143,28 +140,27 @@ module _ (code : Listing) (heartbeat z : ℕ) (act : Activation) (q : PairAt cod
         has_room = second_there.has_room;
         deep = omega (arith, place.deep, place.has_room.fits);
       })
-      (inside code heartbeat z act q.fuel q.S q.names q.lowest q.has_room q.low FirstValue
-      (kept_first q) (next_second q) q.k q.room q.code_is.return q.levels q.few q.p.funcs.items q.g
-      q.second second_there) refl refl (λ c from. from)
+      (inside code heartbeat z act q.fuel q.S q.names q.lowest q.has_room q.low ⊤
+      (nothing_kept q) (next_second q) q.k q.room q.code_is.return q.levels q.few q.p.funcs.items
+      q.g q.second second_there) refl refl (λ c from. from)
       (λ loud. record {
         opened = opened;
         diverts = diverts;
         around = around;
         callable = λ t reads. sym (same t) ∙ q.rules.second t reads;
         served = served_call code heartbeat (z + act.size)
-            (inside code heartbeat z act q.fuel q.S q.names q.lowest q.has_room q.low FirstValue
-            (kept_first q) (next_second q) q.k q.room q.code_is.return q.levels q.few
+            (inside code heartbeat z act q.fuel q.S q.names q.lowest q.has_room q.low ⊤
+            (nothing_kept q) (next_second q) q.k q.room q.code_is.return q.levels q.few
             q.p.funcs.items q.g q.second second_there) around
             (texts second_there.func.params.items)
             (λ w s kept_in t is. q.whole w.world s kept_in.keeps t (same t ∙ is))
             (λ w. early w.world);
       })
-      (returns code heartbeat z act q.fuel q.S q.names q.second FirstValue (kept_first q)
+      (returns code heartbeat z act q.fuel q.S q.names q.second ⊤ (nothing_kept q)
       (next_second q) q.k q.lowest q.has_room q.low q.room q.code_is.return second_there.most q.more
       q.last q.code_is.behind
       (λ w v u task fits_v shows also is stands.
-      post w.world w.value.value v (back_with w.state.vars u) task w.value.fits fits_v shows also is
-      stands))
+      post w.world v (back_with w.state.vars u) task fits_v shows is stands))
 
   -- the second call where a child makes it
   children_owed : ChildOwed q
@@ -224,7 +220,7 @@ module _ (code : Listing) (heartbeat z : ℕ) (act : Activation) (q : PairAt cod
     served = served_call code heartbeat (z + act.size) (C q first_there own) around
         (texts first_there.func.params.items) whole_of
         (early_first code heartbeat z act q.fuel q.S q.names q.lowest q.has_room (Args q) (kept q)
-        (next_in q) q.k q.room q.code_is.between q.site q.mark_is q.fits (first_call q) q.modes
+        (next_in q) q.k q.room q.code_is.between q.site q.mark_is q.mark_fits (first_call q) q.modes
         early);
   }
 
@@ -253,7 +249,7 @@ module _ (code : Listing) (heartbeat z : ℕ) (act : Activation) (p : Program) (
     (permits : PermitsOne code heartbeat z p act.dispatch S names (Both x f y g))
     (first second : Entry) (site : CallSite)
     (x_cell y_cell : ℕ) (begins more : List Instr) (end last : Term)
-    (fits : kept_cell act kept_by_both ≤ act.size)
+    (fits : kept_cell act (kept_by_both (length g.args.items)) ≤ act.size)
     (is_first : entry_of act.functions f.callee.text.items ≡ Some first)
     (arity_first : length f.args.items ≡ first.parameters)
     (is_second : entry_of act.functions g.callee.text.items ≡ Some second)
@@ -261,59 +257,30 @@ module _ (code : Listing) (heartbeat z : ℕ) (act : Activation) (p : Program) (
     (is_x : IsCell code act names round.fixed x.text.items x_cell) (may_x : S.may x_cell)
     (is_y : IsCell code act names round.fixed y.text.items y_cell) (may_y : S.may y_cell)
     (eight : length g.args.items ≤ MAX_PARAMETERS)
-    (pair : IsPair code act act.dispatch f.callee.place (length g.args.items) first second site
-    begins end
-    (load 1 (kept_cell act kept_value) ∷ store x_cell (value.Reg 1) ∷ store y_cell (value.Reg 0)
-    ∷ more) last)
+    (pair : IsPair code act act.dispatch f.callee.place x_cell (length g.args.items) first second
+    site begins end (store y_cell (value.Reg 0) ∷ more) last)
     (post : Owed code heartbeat z act fuel S names more last k) where
   abbrev set : Setting
   set = record { reduces = round.reduces; fuel = fuel; call = call_at p.funcs.items fuel room }
 
-  -- both targets are assigned
+  -- the second target is assigned
+  abbrev ends : ℤ → meaning.State → Ran
+  ends u t = done (set_var y u t)
+
+  -- both are
   abbrev finish : ℤ → ℤ → meaning.State → Ran
-  finish v u t = done (set_var y u (set_var x v t))
+  finish v u t = ends u (set_var x v t)
 
-  sets_both : (w : S.World) (v u : ℤ) (st : meaning.State) (task : machine.State) → InRange v
-      → InRange u → ShowsIn code heartbeat z act fuel S w names st task
-      → word_at task.stack (pos (z + kept_cell act kept_value)) ≡ Some (word.Int v)
+  sets_second : (w : S.World) (u : ℤ) (st : meaning.State) (task : machine.State) → InRange u
+      → ShowsIn code heartbeat z act fuel S w names st task
       → register task.registers 0 ≡ word.Int u
-      → Remains code task.block task.at
-      (load 1 (kept_cell act kept_value) ∷ store x_cell (value.Reg 1) ∷ store y_cell (value.Reg 0)
-      ∷ more) last
-      → (S.owing w (then (result (finish v u st)) k)).Holds task
-  sets_both w v u st task fits_v fits_u shows is_kept is stands =
-      on_load code heartbeat K task 1 31 (kept_cell act kept_value) (pos z) (word.Int v)
-      (next code task _ _ last stands) shows.base is_kept
-      (assigns code heartbeat z act fuel p room expr_law calls place S admits.levels
-      names
-      admits.lowest (Both x f y g) (λ loud. permits) K w st one round.fixed x
-      x_cell 1 v
-      (store y_cell (value.Reg 0) ∷ more) last shows_one is_x may_x
-      (register_set task.registers 1 (word.Int v) (omega (arith, shows.size))) fits_v
-      (behind code task.block task.at _ _ last stands)
-      (λ two registers_two shows_two here_two.
-      assigns code heartbeat z act fuel p room expr_law calls place S admits.levels
-      names
-      admits.lowest (Both x f y g) (λ loud. permits) K w (set_var x v st) two
-      round.fixed y y_cell
-      0 u more last shows_two is_y may_y
-      (ap (λ ws. register ws 0) registers_two
-      ∙ (register_other task.registers 1 0 (word.Int v) (λ (e : 0 ≡ 1). absurd (omega (arith, e)))
-      ∙ is)) fits_u here_two
-      (λ three registers_three shows_three here_three.
-      post w (set_var y u (set_var x v st)) three shows_three here_three)))
-    where
-      K : Back code heartbeat
-      K = S.owing w (then (result (finish v u st)) k)
-
-      one : machine.State
-      one = with_register (advanced task) 1 (word.Int v)
-
-      shows_one : ShowsIn code heartbeat z act fuel S w names st one
-      shows_one = shows_words code heartbeat z act fuel S w shows
-          (slice_set task.registers 1 (word.Int v)) (length-set task.registers 1 (word.Int v))
-          (register_other task.registers 1 31 (word.Int v)
-          (λ (e : 31 ≡ 1). absurd (omega (arith, e))))
+      → Remains code task.block task.at (store y_cell (value.Reg 0) ∷ more) last
+      → (S.owing w (then (result (ends u st)) k)).Holds task
+  sets_second w u st task fits_u shows is stands =
+      assigns code heartbeat z act fuel p room expr_law calls place S admits.levels names
+      admits.lowest (Both x f y g) (λ loud. permits) (S.owing w (then (result (ends u st)) k)) w st
+      task round.fixed y y_cell 0 u more last shows is_y may_y is fits_u stands
+      (λ after registers shows_after here. post w (set_var y u st) after shows_after here)
 
   -- ---- both calls, behind their arguments
 
@@ -322,7 +289,7 @@ module _ (code : Listing) (heartbeat z : ℕ) (act : Activation) (p : Program) (
       (tall : S.size ≤ act.size)
       (shows : ShowsIn code heartbeat z (wider act first.size) fuel S i names st task)
       (params : AreIn task.stack z (parameter_cell code act) 0 ns)
-      (also : AreIn task.stack z (kept_cell act) 0 ms)
+      (also : AreIn task.stack z (kept_argument act) 0 ms)
       (stands : Remains code task.block task.at begins end) where
     -- what is owed where so many levels are left
     abbrev CallsOwed : ℕ → Type 0
@@ -346,6 +313,12 @@ module _ (code : Listing) (heartbeat z : ℕ) (act : Activation) (p : Program) (
     cells : site.cells ≡ act.size
     cells = ap (λ (s : CallSite). s.cells) pair.is
 
+    mark_is : site.mark ≡ kept_cell act kept_mark
+    mark_is = ap (λ (s : CallSite). s.mark) pair.is
+
+    mark_fits : site.mark < act.size
+    mark_fits = omega (arith, mark_is, fits)
+
     -- where none is left the first call traps
     deep_owed : S.levels ≡ 0 → CallsOwed 0
     deep_owed none =
@@ -365,14 +338,14 @@ module _ (code : Listing) (heartbeat z : ℕ) (act : Activation) (p : Program) (
         traps_here : st.ticks < fuel → K.Holds (effect.with_tick (advanced task))
         traps_here below =
             up_to_test code heartbeat z act fuel first.size S i names admits.lowest shows.few site
-            cells (ap (λ (s : CallSite). s.mark) pair.is) fits f.callee.place pair.between pair.go
+            cells mark_is mark_fits f.callee.place pair.between pair.go
             first_room (wrapped (pos S.levels -ℤ pos 1)) refl later
             (effect.with_tick (advanced task)) shows_later
             (behind code task.block task.at _ _ term.Halt here) (S.owing i (out (Trap Deep
             f.callee.place) later))
             (λ words beat at size base left remains.
             let at_test : machine.State = tested code heartbeat z act fuel first.size S i names
-            admits.lowest shows.few site cells (ap (λ (s : CallSite). s.mark) pair.is) fits
+            admits.lowest shows.few site cells mark_is mark_fits
             f.callee.place pair.between pair.go first_room (wrapped (pos S.levels -ℤ pos 1)) refl
             later (effect.with_tick (advanced task)) shows_later
             (behind code task.block task.at _ _ term.Halt here) words beat at in
@@ -422,11 +395,15 @@ module _ (code : Listing) (heartbeat z : ℕ) (act : Activation) (p : Program) (
           place.has_room.fits,
           (calls.are g.callee.text.items second is_second).is.has_room.fits,
         );
+        x = x;
+        fixed = round.fixed;
+        cell = x_cell;
+        is_cell = is_x;
+        may = may_x;
         site = site;
         instrs = begins;
         end = end;
-        more = load 1 (kept_cell act kept_value) ∷ store x_cell (value.Reg 1)
-            ∷ store y_cell (value.Reg 0) ∷ more;
+        more = store y_cell (value.Reg 0) ∷ more;
         last = last;
         code_is = there;
         place = record {
@@ -441,27 +418,23 @@ module _ (code : Listing) (heartbeat z : ℕ) (act : Activation) (p : Program) (
           joined = calm code (joined_label site.label) _ (to pair.return) pair.joined;
         });
         cells = cells;
-        mark_is = ap (λ (s : CallSite). s.mark) pair.is;
+        mark_is = mark_is;
         rec_is = ap (λ (s : CallSite). s.rec) pair.is;
-        fits = fits;
-        finish = finish;
+        fits = omega (arith, fits, arity_second);
+        mark_fits = mark_fits;
+        ends = ends;
         k = k;
       }
         where
-          there : IsPair code act S.dispatch f.callee.place second.parameters first second site
-              begins
-              end
-              (load 1 (kept_cell act kept_value) ∷ store x_cell (value.Reg 1)
-              ∷ store y_cell (value.Reg 0) ∷ more) last
-          there =
-              subst (λ (n : ℕ). IsPair code act S.dispatch f.callee.place n first second site begins
-              end
-              (load 1 (kept_cell act kept_value) ∷ store x_cell (value.Reg 1)
-              ∷ store y_cell (value.Reg 0) ∷ more) last) arity_second
-              (subst (λ (d : ℕ). IsPair code act d f.callee.place (length g.args.items) first second
+          there : IsPair code act S.dispatch f.callee.place x_cell second.parameters first second
               site begins end
-              (load 1 (kept_cell act kept_value) ∷ store x_cell (value.Reg 1)
-              ∷ store y_cell (value.Reg 0) ∷ more) last) (sym permits.diverts) pair)
+              (store y_cell (value.Reg 0) ∷ more) last
+          there =
+              subst (λ (n : ℕ). IsPair code act S.dispatch f.callee.place x_cell n first second
+              site begins end (store y_cell (value.Reg 0) ∷ more) last) arity_second
+              (subst (λ (d : ℕ). IsPair code act d f.callee.place x_cell (length g.args.items) first
+              second site begins end
+              (store y_cell (value.Reg 0) ∷ more) last) (sym permits.diverts) pair)
 
       calls_left : CallsOwe code heartbeat fuel (bare act) p (suc left)
       calls_left = subst (CallsOwe code heartbeat fuel (bare act) p) is_left calls
@@ -474,14 +447,14 @@ module _ (code : Listing) (heartbeat z : ℕ) (act : Activation) (p : Program) (
           first_owed at_pair
           (first_there code heartbeat z act at_pair calls_left place_left permits.around (λ t. refl)
           permits.opened
-          permits.diverts permits.served.early is_first is_second sets_both)
+          permits.diverts permits.served.early is_first is_second sets_second)
           (own code heartbeat z act at_pair calls_left place_left permits.around (λ t. refl)
           permits.opened
-          permits.diverts permits.served.early is_first is_second sets_both)
+          permits.diverts permits.served.early is_first is_second sets_second)
           permits.opened
           (function_owed code heartbeat z act at_pair calls_left place_left permits.around
           (λ t. refl) permits.opened
-          permits.diverts permits.served.early is_first is_second sets_both)
+          permits.diverts permits.served.early is_first is_second sets_second)
           (record {
             world = i;
             state = st;
@@ -504,7 +477,7 @@ module _ (code : Listing) (heartbeat z : ℕ) (act : Activation) (p : Program) (
 
   pub pair_law : (arguments others : List Instr)
       → Arguments code act names (parameter_cell code act) 0 f.args.items arguments others
-      → Arguments code act names (kept_cell act) 0 g.args.items others begins
+      → Arguments code act names (kept_argument act) 0 g.args.items others begins
       → Owed code heartbeat z act fuel S names (instr.Salloc first.size ∷ arguments) end
       (λ st. then (result (run set (Both x f y g) st)) k)
   pair_law arguments others args others_args i st state shows stands =

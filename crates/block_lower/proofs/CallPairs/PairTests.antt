@@ -1,7 +1,7 @@
 -- The begin of the first call of a pair, from the tick's end up to its test: its levels and its
 -- label to return to stand in its activation, and the mark stands.
-use Rattle.std.proofs.Common.{◌≡◌, ℕ, ◌+◌, ◌≤◌, false, List, [], ◌∷◌, length, Ok, sym, ap, subst}
-use Rattle.std.proofs.Common.{◌∙◌, arith}
+use Rattle.std.proofs.Common.{◌<◌, ◌≡◌, ℕ, ◌+◌, ◌≤◌, false, List, [], ◌∷◌, length, Ok, sym, ap}
+use Rattle.std.proofs.Common.{subst, ◌∙◌, arith}
 use Rattle.std.specs.Prelude.{ℤ, pos, ◌-ℤ◌, slice_set}
 use Rattle.std.proofs.lemmas.List.{length-set}
 use Rattle.beat_count.specs.BeatState.{BeatState}
@@ -35,8 +35,8 @@ use Rattle.handler_gen.proofs.Marks.{on_prmpush}
 use Rattle.expr_lower.specs.Registers.{base_register}
 use Rattle.handler_gen.proofs.Words.{words_as_many}
 use Rattle.block_lower.specs.Code.{load, store}
-use Rattle.block_lower.specs.Layout.{Activation, kept_by_both, kept_cell, kept_mark}
-use Rattle.block_lower.specs.Layout.{levels_cell, return_cell, value_cell}
+use Rattle.block_lower.specs.Layout.{Activation, kept_cell, kept_mark, levels_cell, return_cell}
+use Rattle.block_lower.specs.Layout.{value_cell}
 use Rattle.block_lower.specs.Pairs.{call_given}
 use Rattle.block_lower.proofs.Scenes.Activations.{clear_above}
 use Rattle.block_lower.proofs.Forms.Arguments.{wider}
@@ -62,7 +62,7 @@ module _ (code : Listing) (heartbeat z : ℕ) (act : Activation) (fuel size : �
     (lowest : S.lowest ≤ length names) (few : length names ≤ act.most)
     (site : CallSite) (cells : site.cells ≡ act.size)
     (mark_is : site.mark ≡ kept_cell act kept_mark)
-    (fits : kept_cell act kept_by_both ≤ act.size) (place : Place) (between go : ℕ)
+    (fits : site.mark < act.size) (place : Place) (between go : ℕ)
     (room : value_cell 0 ≤ size) (less : ℤ)
     (is_less : wrapped (pos S.levels -ℤ pos 1) ≡ less) (st : meaning.State) (task : machine.State)
     (shows : ShowsIn code heartbeat z (wider act size) fuel S i names st task)

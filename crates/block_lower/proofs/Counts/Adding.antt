@@ -1,10 +1,11 @@
 -- The sizes of statements, as a row and as a list; and how few values are kept.
-use Rattle.std.proofs.Common.{◌≡◌, ◌≤◌, ◌+◌, max, Bool, true, false, ◌&&◌, if◌then◌else◌, List, []}
-use Rattle.std.proofs.Common.{◌∷◌, length, refl, ap, sym, ◌∙◌, Vec, arith}
+use Rattle.std.proofs.Common.{◌≡◌, ℕ, ◌≤◌, ◌+◌, max, Bool, true, false, ◌&&◌, if◌then◌else◌, List}
+use Rattle.std.proofs.Common.{[], ◌∷◌, length, refl, ap, sym, ◌∙◌, Vec, arith}
 use Rattle.std.specs.List.{sum_by}
 use Rattle.std.proofs.lemmas.List.{length-append}
 use Rattle.std.proofs.lemmas.List.Sums.{sum_by-cons}
 use Rattle.std.specs.declared.alloc.Global.{Global}
+use Rattle.tp_value.specs.declared.limits.TheConstants.{MAX_PARAMETERS}
 use Rattle.loop_rules.specs.Declarations.{declared_in, declared_all}
 use Rattle.loop_syntax.specs.declared.Carry.{Carry}
 use Rattle.loop_syntax.specs.declared.Reduce.{Reduce}
@@ -18,6 +19,7 @@ use Rattle.loop_syntax.specs.declared.Expr.TheVariants.{Int, Var, Cell', Rows, C
 use Rattle.loop_syntax.specs.declared.TableDecl.{TableDecl}
 use Rattle.loop_syntax.specs.declared.TableDecl.TheVariants.{Input, Made}
 use Rattle.loop_rules.specs.Limits.{height}
+use Rattle.block_lower.specs.Heights.{AllAreLow, AreLow, RowIsLow}
 use Rattle.block_lower.specs.Layout.{kept_by_both}
 use Rattle.block_lower.specs.Quiet.{all_is_quiet, is_leaf, list_is_quiet, row_is_leaf}
 use Rattle.block_lower.specs.Sizes.{added, added_by_all, added_by_list, added_by_other}
@@ -85,41 +87,47 @@ some_height (Bin' o place p a q b) = omega arith
 
 -- ---- few values are kept
 
-few_if : (b : Bool) → (if b then 0 else 2) ≤ kept_by_both
+-- as many as there may be
+abbrev pub most_kept : ℕ
+most_kept = kept_by_both MAX_PARAMETERS
+
+few_if : (b : Bool) → (if b then 0 else 2) ≤ most_kept
 few_if true = omega arith
 few_if false = omega arith
 
 mutual
-  few_kept : (s : Stmt) → kept s ≤ kept_by_both
-  few_kept (Let x e) = omega arith
-  few_kept (Set x e) = omega arith
-  few_kept (Put t a b e) = few_if (is_low_at 1 b && is_low_at 2 e)
-  few_kept (If' e p body q other) = omega (arith, few_kept_by_all body, few_kept_by_all other)
-  few_kept (While' e p body) = few_kept_by_all body
-  few_kept (Loop' x a b p body) = few_kept_by_all body
-  few_kept (Par' place x a b carry_place carries reduces p body) = few_kept_by_all body
-  few_kept (Fold x e) = omega arith
-  few_kept (Call x f) = omega arith
-  few_kept (Both x f y g) = omega arith
-  few_kept (Print place e) = omega arith
-  few_kept (Emit place t) = omega arith
+  few_kept : (s : Stmt) → AreLow s → kept s ≤ most_kept
+  few_kept (Let x e) low = omega arith
+  few_kept (Set x e) low = omega arith
+  few_kept (Put t a b e) low = few_if (is_low_at 1 b && is_low_at 2 e)
+  few_kept (If' e p body q other) low =
+      omega (arith, few_kept_by_all body low.1, few_kept_by_all other low.2)
+  few_kept (While' e p body) low = few_kept_by_all body low.1
+  few_kept (Loop' x a b p body) low = few_kept_by_all body low.2
+  few_kept (Par' place x a b carry_place carries reduces p body) low = few_kept_by_all body low.2
+  few_kept (Fold x e) low = omega arith
+  few_kept (Call x f) low = omega arith
+  few_kept (Both x f y g) low = omega (arith, low.1.0)
+  few_kept (Print place e) low = omega arith
+  few_kept (Emit place t) low = omega arith
 
-  few_kept_by_all : {m : _} (row : Row_of-Stmt m) → kept_by_all row ≤ kept_by_both
-  few_kept_by_all end_of-Stmt = omega arith
-  few_kept_by_all (more_of-Stmt b rest) = omega (arith, few_kept b, few_kept_by_all rest)
+  few_kept_by_all : {m : _} (row : Row_of-Stmt m) → RowIsLow row → kept_by_all row ≤ most_kept
+  few_kept_by_all end_of-Stmt low = omega arith
+  few_kept_by_all (more_of-Stmt b rest) low =
+      omega (arith, few_kept b low.0, few_kept_by_all rest low.1)
 
-pub few_kept_by_list : (body : List Stmt) → kept_by_list body ≤ kept_by_both
-few_kept_by_list [] = omega arith
-few_kept_by_list (s ∷ ss) = omega (arith, few_kept s, few_kept_by_list ss)
+pub few_kept_by_list : (body : List Stmt) → AllAreLow body → kept_by_list body ≤ most_kept
+few_kept_by_list [] low = omega arith
+few_kept_by_list (s ∷ ss) low = omega (arith, few_kept s low.0, few_kept_by_list ss low.1)
 
-few_if_one : (b : Bool) → (if b then 0 else 1) ≤ kept_by_both
+few_if_one : (b : Bool) → (if b then 0 else 1) ≤ most_kept
 few_if_one true = omega arith
 few_if_one false = omega arith
 
-few_kept_by_decl : (d : TableDecl) → kept_by_decl d ≤ kept_by_both
+few_kept_by_decl : (d : TableDecl) → kept_by_decl d ≤ most_kept
 few_kept_by_decl (Input x) = omega arith
 few_kept_by_decl (Made x a b) = few_if_one (is_low_at 1 b)
 
-pub few_kept_by_decls : (ds : List TableDecl) → kept_by_decls ds ≤ kept_by_both
+pub few_kept_by_decls : (ds : List TableDecl) → kept_by_decls ds ≤ most_kept
 few_kept_by_decls [] = omega arith
 few_kept_by_decls (d ∷ ds) = omega (arith, few_kept_by_decl d, few_kept_by_decls ds)

@@ -1,7 +1,8 @@
 -- The code of a program has no more blocks than it is counted with, and its activations are not too large. Each
 -- function of a program has an entry, and each entry is that of a function.
 use Rattle.std.proofs.Common.{◌≡◌, ℕ, ◌<◌, ◌≤◌, ◌+◌, ◌*◌, ◌++◌, Bool, true, false, true≢false, ◌&&◌}
-use Rattle.std.proofs.Common.{if◌then◌else◌, cond, bytes_eq, max, List, [], ◌∷◌, length, Some, refl}
+use Rattle.std.proofs.Common.{if◌then◌else◌, cond, bytes_eq, max, List, [], ◌∷◌, length, refl}
+use Rattle.std.proofs.Common.{Option, None, Some}
 use Rattle.std.proofs.Common.{ap, sym, subst, ◌∙◌, arith}
 use Rattle.std.specs.Prelude.{nat_le}
 use Rattle.std.specs.List.{sum_by, list_any, AllByRecursion}
@@ -28,9 +29,11 @@ use Rattle.expr_lower.specs.Bodies.{can_trap, literal, trap_count}
 use Rattle.block_lower.specs.Count.{nodes, blocks_of_expr, blocks_of_exprs, blocks, blocks_of_all}
 use Rattle.block_lower.specs.Count.{blocks_of_list, blocks_of_func, blocks_of_decl}
 use Rattle.block_lower.specs.Count.{blocks_of_program}
+use Rattle.block_lower.specs.Heights.{AllAreLow, FuncIsLow}
 use Rattle.block_lower.specs.Layout.{Entry, entry_of, value_cell}
 use Rattle.block_lower.specs.Fitting.{AllFit, HasEntry, AreEntriesOf, MainFits, FuncFits}
 use Rattle.block_lower.specs.Fitting.{variables_of}
+use Rattle.block_lower.specs.Opposite.{branch_blocks, opposite}
 use Rattle.block_lower.specs.Programs.{most_of, size_of, added_by_funcs, added_by_program, entry_at}
 use Rattle.block_lower.specs.Programs.{entries_from, quiet_calls, FuncIsSmall}
 use Rattle.block_lower.specs.Quiet.{is_quiet, all_is_quiet, row_is_leaf}
@@ -72,6 +75,13 @@ both_second false b is = absurd (true≢false (sym is))
 both_true : (a b : Bool) → a ≡ true → b ≡ true → (a && b) ≡ true
 both_true a b one two = rw (one, two) refl
 
+few_branch_blocks : (e : Expr) → branch_blocks (opposite e) ≤ 1
+few_branch_blocks e = by (opposite e)
+  where
+    by : (found : Option Expr) → branch_blocks found ≤ 1
+    by None = omega arith
+    by (Some x) = omega arith
+
 -- a quiet statement adds no more than half of the blocks that it is counted with, so that it may stand twice
 mutual
   few_twice : (calls : Bool) (s : Stmt) → is_quiet calls s ≡ true → 2 * added calls s ≤ blocks s
@@ -79,7 +89,7 @@ mutual
   few_twice calls (Set x e) quiet = omega (arith, few_trap_blocks e)
   few_twice calls (Put t a b e) quiet = omega (arith, few_trap_blocks a, few_trap_blocks b, few_trap_blocks e)
   few_twice calls (If' e p body q other) quiet =
-      omega (arith, few_trap_blocks e, few_twice_by_all calls body (both_first (all_is_quiet calls body) (all_is_quiet calls other) quiet), few_twice_by_other calls other (both_second (all_is_quiet calls body) (all_is_quiet calls other) quiet))
+      omega (arith, few_trap_blocks e, few_branch_blocks e, few_twice_by_all calls body (both_first (all_is_quiet calls body) (all_is_quiet calls other) quiet), few_twice_by_other calls other (both_second (all_is_quiet calls body) (all_is_quiet calls other) quiet))
   few_twice calls (While' e p body) quiet = omega (arith, few_trap_blocks e, few_twice_by_all calls body quiet)
   few_twice calls (Loop' x a b p body) quiet = omega (arith, few_trap_blocks a, few_trap_blocks b, few_twice_by_all calls body quiet)
   few_twice calls (Par' place x a b carry_place carries reduces p body) quiet = absurd (true≢false (sym quiet))
@@ -146,7 +156,7 @@ mutual
   few_added calls (Let x e) = omega (arith, few_trap_blocks e)
   few_added calls (Set x e) = omega (arith, few_trap_blocks e)
   few_added calls (Put t a b e) = omega (arith, few_trap_blocks a, few_trap_blocks b, few_trap_blocks e)
-  few_added calls (If' e p body q other) = omega (arith, few_trap_blocks e, few_added_by_all calls body, few_added_by_other calls other)
+  few_added calls (If' e p body q other) = omega (arith, few_trap_blocks e, few_branch_blocks e, few_added_by_all calls body, few_added_by_other calls other)
   few_added calls (While' e p body) = omega (arith, few_trap_blocks e, few_added_by_all calls body)
   few_added calls (Loop' x a b p body) = omega (arith, few_trap_blocks a, few_trap_blocks b, few_added_by_all calls body)
   few_added calls (Par' place x a b carry_place carries reduces p body) =
@@ -191,11 +201,13 @@ fewer_blocks p = omega (arith, few_added_by_decls p.tables.items, few_added_by_l
 -- ---- activations
 
 -- an activation is not too large
-pub func_fits : (f : Func) → most_of f ≤ MAX_DECLARED_VARIABLES → size_of f ≤ MAX_ACTIVATION_CELLS
-func_fits f few = omega (arith, few, few_kept_by_list f.body.items)
+pub func_fits : (f : Func) → FuncIsLow f → most_of f ≤ MAX_DECLARED_VARIABLES
+    → size_of f ≤ MAX_ACTIVATION_CELLS
+func_fits f low few = omega (arith, few, few_kept_by_list f.body.items low.0)
 
-pub main_fits : (p : Program) → declared_by_list p.main.items ≤ MAX_DECLARED_VARIABLES → value_cell (declared_by_list p.main.items) + max (kept_by_list p.main.items) (kept_by_decls p.tables.items) ≤ MAX_ACTIVATION_CELLS
-main_fits p few = omega (arith, few, few_kept_by_list p.main.items, few_kept_by_decls p.tables.items)
+pub main_fits : (p : Program) → AllAreLow p.main.items → declared_by_list p.main.items ≤ MAX_DECLARED_VARIABLES → value_cell (declared_by_list p.main.items) + max (kept_by_list p.main.items) (kept_by_decls p.tables.items) ≤ MAX_ACTIVATION_CELLS
+main_fits p low few =
+    omega (arith, few, few_kept_by_list p.main.items low, few_kept_by_decls p.tables.items)
 
 -- ---- functions and their entries
 

@@ -31,7 +31,7 @@ use Rattle.expr_lower.proofs.Standing.{next, behind}
 use Rattle.handler_gen.proofs.Words.{word_same, word_other}
 use Rattle.block_lower.specs.Code.{Computes, Operand, number, standing, computed, Arguments, no_argument}
 use Rattle.block_lower.specs.Code.{one_argument, parameter_cell, passed, store}
-use Rattle.block_lower.specs.Layout.{value_cell, kept_cell, Activation}
+use Rattle.block_lower.specs.Layout.{value_cell, Activation, kept_argument}
 use Rattle.block_lower.proofs.Scenes.Results.{Result, result, then}
 use Rattle.block_lower.proofs.Scenes.Scene.{Scene, ShowsIn}
 use Rattle.block_lower.proofs.Scenes.Showing.{shows_words, shows_new}
@@ -155,15 +155,15 @@ module _ (code : Listing) (heartbeat z : ℕ) (act : Activation) (n fuel : ℕ)
 
   -- numbers that are kept become arguments
   pub passed_law : (K : Back code heartbeat) (ns : List ℤ) (j : ℕ) (more : List Instr) (end : Term) (state : machine.State) → Showing state → Remains code state.block state.at (passed code act (length ns) j more) end
-      → value_cell (length names) ≤ act.size → AreIn state.stack z (kept_cell act) j ns → ((p : ℕ) → p < j + length ns → kept_cell act p < act.size) → ((p : ℕ) → p < j + length ns → value_cell p < n)
+      → value_cell (length names) ≤ act.size → AreIn state.stack z (kept_argument act) j ns → ((p : ℕ) → p < j + length ns → kept_argument act p < act.size) → ((p : ℕ) → p < j + length ns → value_cell p < n)
       → ((task : machine.State) → Showing task → Stored z (parameter_cell code act) j ns state.stack task.stack → Remains code task.block task.at more end → K.Holds task)
       → K.Holds state
   passed_law K [] j more end state shows stands above are below inside go = go state shows (none_stored z (parameter_cell code act) j state.stack) stands
   passed_law K (m ∷ ns) j more end state shows stands above are below inside go =
-      on_load code heartbeat K state 0 31 (kept_cell act j) (pos z) (word.Int m) (next code state _ _ end stands) shows.base are.0
+      on_load code heartbeat K state 0 31 (kept_argument act j) (pos z) (word.Int m) (next code state _ _ end stands) shows.base are.0
       (stores_number K one (parameter_cell code act j) (value.Reg 0) m (passed code act (length ns) (suc j) more) end shows_one is (omega (arith, above)) within (behind code state.block state.at _ _ end stands) (λ shows_two left_two.
       passed_law K ns (suc j) more end (effect.with_stack (advanced one) stack) shows_two left_two above
-      (are_in_same state.stack stack z (kept_cell act) (suc j) ns (λ p low high. word_other state.stack (z + parameter_cell code act j) (z + kept_cell act p) (word.Int m) (omega (arith, shows.low)) (λ q. absurd (omega (arith, q, below p (omega (arith, high)))))) are.2)
+      (are_in_same state.stack stack z (kept_argument act) (suc j) ns (λ p low high. word_other state.stack (z + parameter_cell code act j) (z + kept_argument act p) (word.Int m) (omega (arith, shows.low)) (λ q. absurd (omega (arith, q, below p (omega (arith, high)))))) are.2)
       (λ p low. below p (omega (arith, low))) (λ p low. inside p (omega (arith, low)))
       (λ task shows_task stored left.
       go task shows_task (one_stored z (parameter_cell code act) j m ns state.stack task.stack (λ p q lt. omega (arith, lt)) are.1 (omega (arith, shows.low)) (omega (arith, shows.top, within)) stored) left)))

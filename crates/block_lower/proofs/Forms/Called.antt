@@ -10,6 +10,7 @@ use Rattle.tp_value.specs.declared.Stop.{Stop}
 use Rattle.tp_value.specs.declared.Stop.TheVariants.{Done, Trap, NoFuel}
 use Rattle.loop_syntax.specs.declared.Expr.{Expr}
 use Rattle.loop_syntax.specs.declared.Func.{Func}
+use Rattle.loop_syntax.specs.declared.Name.{Name}
 use Rattle.loop_rules.specs.Names.{func_of}
 use Rattle.loop_meaning.specs.declared.value.Answer.{Answer}
 use Rattle.loop_meaning.specs.declared.value.Answer.TheVariants.{Number, Traps}
@@ -19,7 +20,8 @@ use Rattle.loop_meaning.specs.Expressions.{eval}
 use Rattle.loop_meaning.specs.State as meaning
 use Rattle.loop_meaning.specs.State.{Note, Ran, done, trapped, out_of_fuel, noted, after, go_on}
 use Rattle.loop_meaning.specs.State.{tick}
-use Rattle.loop_meaning.specs.Statements.{Called, Setting, given, given_answer, run_list, with_call}
+use Rattle.loop_meaning.specs.Statements.{Called, Setting, given, given_answer, run_list, set_var}
+use Rattle.loop_meaning.specs.Statements.{with_call}
 use Rattle.block_lower.proofs.Scenes.Results.{Result, end_by, fin, noting, noting_then, result}
 use Rattle.block_lower.proofs.Scenes.Results.{then}
 use Rattle.block_lower.proofs.Scenes.Results.{then_end, after_then}
@@ -161,3 +163,37 @@ module _ (fs : List Func) (fuel : ℕ) (f : List ℕ) (p : Place) (ns : List ℤ
       with_call (enter (body_set fs fuel room) o ns begin u) g)))
       k)
       is
+
+-- ---- variables round a call
+
+-- a variable is set in front of a call that runs, or behind it
+module _ (fs : List Func) (fuel : ℕ) (f : List ℕ) (p : Place) (ns : List ℤ) (st : meaning.State)
+    (g : ℤ → meaning.State → Ran) (k : meaning.State → Result) (x : Name) (v : ℤ) where
+  abbrev set : meaning.State
+  set = set_var x v st
+
+  abbrev setting : ℤ → meaning.State → Ran
+  setting u s = g u (set_var x v s)
+
+  pub set_before : (room : ℕ) (func : Func) → func_of fs f ≡ Some func
+      → then (result (with_call (call_at fs fuel (suc room) f p ns [] set) g)) k
+      ≡ then (result (with_call (call_at fs fuel (suc room) f p ns [] st) setting)) k
+  set_before room func is =
+      open_call fs fuel f p ns [] set g k room func is
+      ∙ (by_tick (is_tick_allowed fuel st.ticks)
+      ∙ sym (open_call fs fuel f p ns [] st setting k room func is))
+    where
+      enters : (ℤ → meaning.State → Ran) → meaning.State → Ran
+      enters h u = with_call (enter (body_set fs fuel room) (Some func) ns [] u) h
+
+      late : meaning.State → meaning.State
+      late s = record s { ticks = ticked fuel s.ticks }
+
+      by_tick : (b : Bool)
+          → then (result (after (cond b (done (late set)) (out_of_fuel (late set))) (enters g))) k
+          ≡ then (result (after (cond b (done (late st)) (out_of_fuel (late st))) (enters setting)))
+          k
+      by_tick true =
+          enter_is (body_set fs fuel room) func ns [] (late set) g k
+          ∙ sym (enter_is (body_set fs fuel room) func ns [] (late st) setting k)
+      by_tick false = refl

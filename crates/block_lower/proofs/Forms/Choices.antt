@@ -1,7 +1,7 @@
 -- Branches, and the law of `if`.
 use Rattle.std.proofs.Common.{◌≡◌, ℕ, zero, suc, ◌≤◌, List, [], ◌∷◌, ◌++◌, length, take, Vec, refl}
 use Rattle.std.proofs.Common.{sym, ap, subst, ◌∙◌, arith, append-nil, append_assoc}
-use Rattle.std.specs.Prelude.{ℤ, pos, negsuc, Bool, true, false}
+use Rattle.std.specs.Prelude.{ℤ, pos, negsuc, Bool, true, false, Some}
 use Rattle.std.proofs.lemmas.Bool.Decides.{Decides-int_eq}
 use Rattle.std.specs.declared.alloc.Global.{Global}
 use Rattle.std.specs.Ordering.{int_eq}
@@ -31,6 +31,8 @@ use Rattle.expr_lower.proofs.Standing.{next, behind}
 use Rattle.block_lower.specs.Layout.{Activation}
 use Rattle.block_lower.specs.Code.{Computes, Opens, to}
 use Rattle.block_lower.specs.Names.{names_after, names_after_list}
+use Rattle.block_lower.specs.Opposite.{opposite}
+use Rattle.block_lower.proofs.Forms.Opposites.{opposite_chooses}
 use Rattle.block_lower.proofs.Scenes.Moves.{opened, calm, jumps}
 use Rattle.block_lower.proofs.Scenes.Results.{Result, result, then, left, leave_then}
 use Rattle.block_lower.proofs.Scenes.Scene.{Scene, ShowsIn, Owed, SeenIn, OwedSeen}
@@ -186,6 +188,31 @@ module _ (code : Listing) (heartbeat z : ℕ) (act : Activation) (fuel : ℕ) (S
       on_if code heartbeat (S.owing i (then (result (f st)) k)) state 0 first (negsuc m) (next code state (instr.IfJump 0 first) [] (to second) stands) is (below_zero m) calm_first
       (yes_go (at_block first (advanced state)) shows refl refl)
 
+  -- a jump where the number in register 0 isn't 0; where it is, the block goes on
+  pub passes : (n : ℤ) (state : machine.State) (second : ℕ) (inner : List Instr) (end : Term)
+      → SeenIn code heartbeat z act fuel S i names st state
+      → register state.registers 0 ≡ word.Int n
+      → Remains code state.block state.at (instr.IfJump 0 second ∷ inner) end
+      → IsCalm code second
+      → ((task : machine.State) → SeenIn code heartbeat z act fuel S i names st task
+      → Remains code task.block task.at inner end → (S.owing i (then (result (f st)) k)).Holds task)
+      → ((task : machine.State) → SeenIn code heartbeat z act fuel S i names st task
+      → task.block ≡ second → task.at ≡ 0 → (S.owing i (then (result (g st)) k)).Holds task)
+      → (S.owing i (then (result (choose n g f st)) k)).Holds state
+  passes (pos zero) state second inner end shows is stands calm_second go no_go =
+      on_if_not code heartbeat (S.owing i (then (result (f st)) k)) state 0 second
+      (next code state (instr.IfJump 0 second) inner end stands) is
+      (go (advanced state) shows
+      (behind code state.block state.at (instr.IfJump 0 second) inner end stands))
+  passes (pos (suc m)) state second inner end shows is stands calm_second go no_go =
+      on_if code heartbeat (S.owing i (then (result (g st)) k)) state 0 second (pos (suc m))
+      (next code state (instr.IfJump 0 second) inner end stands) is (above_zero m) calm_second
+      (no_go (at_block second (advanced state)) shows refl refl)
+  passes (negsuc m) state second inner end shows is stands calm_second go no_go =
+      on_if code heartbeat (S.owing i (then (result (g st)) k)) state 0 second (negsuc m)
+      (next code state (instr.IfJump 0 second) inner end stands) is (below_zero m) calm_second
+      (no_go (at_block second (advanced state)) shows refl refl)
+
 module _ (code : Listing) (heartbeat z : ℕ) (act : Activation) (set : Setting) (expr_law : ExprLaw code heartbeat) (S : Scene code heartbeat z) (names : List (List ℕ)) (k : meaning.State → Result) where
   pub if_law : (e : Expr) (body other : Vec Stmt Global) (first second : ℕ)
       (instrs then_instrs other_instrs : List Instr) (then_end other_end : Term)
@@ -204,4 +231,33 @@ module _ (code : Listing) (heartbeat z : ℕ) (act : Activation) (set : Setting)
       chooses code heartbeat z act set.fuel S i names st k (block (run_list set body.items)) (block (run_list set other.items)) n (moved state words beat at) first second other_instrs other_end
       (still_seen code heartbeat z act set.fuel S i names st state 0 words beat at shows keeps) is
       here (calm code first then_instrs then_end opens_first) opens_second (yes_go i st)
+      (no_go i st)))
+
+  -- by the opposite of the test, behind which the first branch goes on
+  pub if_not_law : (e e' : Expr) → opposite e ≡ Some e' → (body other : Vec Stmt Global) (second : ℕ)
+      (instrs inner other_instrs : List Instr) (end other_end : Term)
+      → Computes code act S.registers names e' 0 instrs (instr.IfJump 0 second ∷ inner)
+      → Opens code second other_instrs other_end
+      → OwedSeen code heartbeat z act set.fuel S names inner end
+      (λ st. then (result (run_list set body.items st)) (λ s. k (left (length names) s)))
+      → SeenAt code heartbeat z act set.fuel S names second
+      (λ st. then (result (block (run_list set other.items) st)) k)
+      → OwedSeen code heartbeat z act set.fuel S names instrs end
+      (λ st. then (result (run set (If e body other) st)) k)
+  if_not_law e e' opposes body other second instrs inner other_instrs end other_end c opens yes_go
+      no_go i st state shows stands =
+      let yes : meaning.State → Ran = block (run_list set body.items) in
+      let no : meaning.State → Ran = block (run_list set other.items) in
+      subst (λ (r : Ran). (S.owing i (then (result r) k)).Holds state)
+      (sym (run_if set e body other st ∙ opposite_chooses e e' opposes yes no st))
+      (computes code heartbeat z act set.fuel expr_law S i names st state shows e' 0 instrs
+      (instr.IfJump 0 second ∷ inner) end c stands (λ n. choose n no yes st) k
+      (λ n fits words beat at keeps is here.
+      passes code heartbeat z act set.fuel S i names st k yes no n (moved state words beat at) second
+      inner end
+      (still_seen code heartbeat z act set.fuel S i names st state 0 words beat at shows keeps) is
+      here (calm code second other_instrs other_end opens)
+      (λ task seen remains.
+      leaving code heartbeat z act set.fuel S i names st task (run_list set body.items) st k
+      (as_many st.vars names seen.named) (yes_go i st task seen remains))
       (no_go i st)))

@@ -23,8 +23,9 @@ use Rattle.block_lower.specs.Main.{bare}
 use Rattle.block_lower.specs.Quiet.{is_quiet, list_is_quiet}
 use Rattle.block_lower.specs.Code.{Computes, Operand, IsCell, IsTable, Opens, Code, let_code}
 use Rattle.block_lower.specs.Code.{set_code, set_register_code, put_code, put_kept_code}
-use Rattle.block_lower.specs.Code.{print_code, emit_code, if_code, while_code, loop_code}
-use Rattle.block_lower.specs.Code.{loop_to_code, quiet_par_code, deep_par_code, fold_code}
+use Rattle.block_lower.specs.Code.{print_code, emit_code, if_code, if_not_code, while_code}
+use Rattle.block_lower.specs.Code.{loop_code, loop_to_code, quiet_par_code, deep_par_code}
+use Rattle.block_lower.specs.Code.{fold_code}
 use Rattle.block_lower.specs.Code.{fold_register_code, leaf_par_code}
 use Rattle.block_lower.specs.Code.{fold_nothing_code, call_code, both_code, Codes, none, one_more}
 use Rattle.block_lower.specs.Code.{Branch, branch, Other, nothing, something}
@@ -34,6 +35,7 @@ use Rattle.block_lower.proofs.Scenes.Admitting.{Admits, admits_more, admits_late
 use Rattle.block_lower.proofs.Forms.Callees.{CallsOwe, HasPlace}
 use Rattle.block_lower.proofs.Forms.CallStatements.{call_law}
 use Rattle.block_lower.proofs.Forms.Choices.{SeenAt, blocks, leaves, nothing_done, if_law}
+use Rattle.block_lower.proofs.Forms.Choices.{if_not_law}
 use Rattle.block_lower.proofs.Forms.Choices.{first_names}
 use Rattle.block_lower.proofs.Forms.Choices.{first_names_in, more_names_one, Longer, longer_one}
 use Rattle.block_lower.proofs.Forms.Choices.{same_names}
@@ -173,6 +175,26 @@ module _ (code : Listing) (heartbeat z : ℕ) (act : Activation) (p : Program) (
         (permits (loud_if act.calls e body other loud)) (same_names names)
         (λ a outside l near o. in_if body other o) (λ f c. called_if body other c))
         k ends post)
+        (other_law no_branch S admits
+        (λ loud.
+        permits_more code heartbeat z p act.dispatch
+        (permits (loud_other act.calls e body other loud)) (same_names names)
+        (λ a outside l near o. in_other body other o)
+        (λ f c. called_other body other c))
+        k ends post)
+    law (if_not_code {round} {names} {e = e} {e'} body other {second} {exit} is c inner_code no_branch
+        ends) S admits permits k post =
+        let two : First second = first_of_other no_branch ends in
+        if_not_law code heartbeat z act (setting round) expr_law S names k e e' is body other second _
+        _ two.instrs _ two.end (computes_here admits c) two.opens
+        (codes_law inner_code S admits
+        (λ loud.
+        permits_more code heartbeat z p act.dispatch
+        (permits (loud_if act.calls e body other loud)) (same_names names)
+        (λ a outside l near o. in_if body other o) (λ f c. called_if body other c))
+        (λ s. k (left (length names) s))
+        (leaves code heartbeat z act fuel S names (names_after_list names body.items) exit _ _ k
+        (first_names names body.items) ends post))
         (other_law no_branch S admits
         (λ loud.
         permits_more code heartbeat z p act.dispatch

@@ -19,7 +19,8 @@ use Rattle.tpal_syntax.specs.Listing.{Listing}
 use Rattle.expr_lower.specs.Bodies.{literal}
 use Rattle.block_lower.specs.Code.{Arguments, Branch, Code, Codes, Operand, Other}
 use Rattle.block_lower.specs.Code.{both_code, branch, call_code, computed, deep_par_code, emit_code}
-use Rattle.block_lower.specs.Code.{fold_code, fold_nothing_code, if_code, leaf_par_code, let_code}
+use Rattle.block_lower.specs.Code.{fold_code, fold_nothing_code, if_code, if_not_code}
+use Rattle.block_lower.specs.Code.{leaf_par_code, let_code}
 use Rattle.block_lower.specs.Code.{loop_code, loop_to_code, no_argument, none, nothing, number}
 use Rattle.block_lower.specs.Code.{one_argument}
 use Rattle.block_lower.specs.Code.{one_more, print_code, put_code, put_kept_code, quiet_par_code}
@@ -31,6 +32,7 @@ use Rattle.block_lower.specs.Main.{no_table}
 use Rattle.block_lower.specs.Programs.{AreWritten, activation_of}
 use Rattle.block_lower.specs.Sizes.{added_by_func}
 use Rattle.block_lower.specs.Round.{Round}
+use Rattle.block_lower.proofs.Forms.Opposites.{opposite_ranged}
 use Rattle.block_lower.proofs.Scenes.Values.{variable_ranged}
 
 -- the statements of a body, as a row
@@ -84,6 +86,11 @@ module _ (code : Listing) (act : Activation) where
     code_ranged (put_kept_code keeps is a b e traps) = (a.ranged, b.ranged, e.ranged)
     code_ranged (if_code body other c one two ends) =
         (c.ranged, vec_ranged body (branch_ranged one), vec_ranged other (other_ranged two))
+    code_ranged (if_not_code {e = e} {e'} body other is c inner two ends) = (
+      opposite_ranged e e' is c.ranged,
+      vec_ranged body (codes_ranged inner),
+      vec_ranged other (other_ranged two),
+    )
     code_ranged (while_code body c begins inner test ends) =
         (c.ranged, vec_ranged body (codes_ranged inner))
     code_ranged (loop_code body room a b begins inner ends) =

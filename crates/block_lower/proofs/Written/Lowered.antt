@@ -25,15 +25,19 @@ use Rattle.block_lower.specs.declared.round.Round as told
 use Rattle.block_lower.specs.Bodies.{entries, activation}
 use Rattle.block_lower.specs.Code.{Opens, Computes, Operand, number, standing, computed, IsCell}
 use Rattle.block_lower.specs.Code.{Code, set_register_code}
-use Rattle.block_lower.specs.Code.{let_code, set_code, print_code, if_code, while_code, Codes}
+use Rattle.block_lower.specs.Code.{let_code, set_code, print_code, if_code, if_not_code, while_code}
+use Rattle.block_lower.specs.Code.{Codes}
 use Rattle.block_lower.specs.Code.{Branch, branch, Other, nothing, something, to, store}
 use Rattle.block_lower.specs.Fitting.{AllFit, IsFree, level_of}
 use Rattle.block_lower.specs.Layout.{value_cell}
 use Rattle.block_lower.specs.Lowering.{WritesValue, WritesOperand, WritesTest, WritesBelow, Lowers}
-use Rattle.block_lower.specs.Lowering.{WithBody, LowersAll, LowersBranch, LowersOther, LowersBody}
-use Rattle.block_lower.specs.Names.{Sees, SeesAfter, names_after_list}
+use Rattle.block_lower.specs.Lowering.{WritesChoice, by_opposite, by_test}
+use Rattle.block_lower.specs.Lowering.{IsRound, WithBody, LowersAll, LowersBranch, LowersOther, LowersBody}
+use Rattle.block_lower.specs.Names.{Sees, SeesAfter, SeesAs, names_after_list}
 use Rattle.block_lower.specs.Writing.{label, IsEmpty, IsFresh, Pushes, Closes, Stands, Continues}
 use Rattle.block_lower.specs.Writing.{Leads}
+use Rattle.block_lower.specs.Round.{Round}
+use Rattle.block_lower.proofs.Forms.Opposites.{opposite_visible}
 use Rattle.block_lower.proofs.Written.Fitting.{fit_of_vec, fit_before, fit_last, codes_more}
 use Rattle.block_lower.proofs.Written.Seeing.{as_long, cell_of_level, seen_variable}
 use Rattle.block_lower.proofs.Written.Standing.{held_for, sees_as, stand_after_list}
@@ -197,46 +201,66 @@ module _ (on : Body) (as_told : told.Round) where
 
   -- ---- branches
 
-  pub branch_written : (scope : Scope) (body : List Stmt) (exit : ℕ) (old inner new : Output) → IsFresh old → LowersAll on as_told scope body old inner → Closes (to exit) inner new → LowersBranch on as_told scope body exit old new
-  branch_written scope body exit old inner new fresh all close code tables names round same sees fits stands =
-      let w : Leads code old (λ instrs end. Codes code (activation on tables) round names body instrs end [] (to exit)) =
-      all code tables names round [] (to exit) same sees fits (closed_block code inner new (to exit) close stands) in
+  pub branch_written : (scope : Scope) (body : List Stmt) (exit : ℕ) (old inner new : Output) → LowersAll on as_told scope body old inner → Closes (to exit) inner new → LowersBranch on as_told scope body exit old new
+  branch_written scope body exit old inner new all close code tables names round same sees fits stands =
+      all code tables names round [] (to exit) same sees fits (closed_block code inner new (to exit) close stands)
+
+  -- a branch whose block was to be the open one
+  branch_at : (scope : Scope) (body : List Stmt) (exit : ℕ) (old new : Output) → IsFresh old → LowersBranch on as_told scope body exit old new
+      → (code : Listing) (tables names : List (List ℕ)) (round : Round) → IsRound round as_told → SeesAs scope names tables round.registers → AllFit tables (entries on.callees.items) on.most round names body
+      → Stands code new → Stands code old × Branch code (activation on tables) round names body (label old) exit
+  branch_at scope body exit old new fresh lowers code tables names round same sees fits stands =
+      let w : Leads code old (λ instrs end. Codes code (activation on tables) round names body instrs end [] (to exit)) = lowers code tables names round same sees fits stands in
       (w.continues.closed, branch (fresh_opens code old w.instrs w.end fresh w.continues) w.told)
 
-  pub other_written : (scope : Scope) (body : List Stmt) (exit : ℕ) (old new : Output) → LowersBranch on as_told scope body exit old new → LowersOther on as_told scope body exit old new
-  other_written scope body exit old new lowers code tables names round same sees fits stands exits =
-      let w : Stands code old × Branch code (activation on tables) round names body (label old) exit = lowers code tables names round same sees fits stands in
+  pub other_written : (scope : Scope) (body : List Stmt) (exit : ℕ) (old new : Output) → IsFresh old → LowersBranch on as_told scope body exit old new → LowersOther on as_told scope body exit old new
+  other_written scope body exit old new fresh lowers code tables names round same sees fits stands exits =
+      let w : Stands code old × Branch code (activation on tables) round names body (label old) exit = branch_at scope body exit old new fresh lowers code tables names round same sees fits stands in
       (w.0, something w.1)
 
   pub no_other_written : (scope : Scope) (exit : ℕ) (old : Output) → LowersOther on as_told scope [] exit old old
   no_other_written scope exit old code tables names round same sees fits stands exits =
       (stands, subst (λ (l : ℕ). Other code (activation on tables) round names [] l exit) exits nothing)
 
-  pub if_written : (scope second_scope : Scope) (e : Expr) (body other : List Stmt) (first second exit : ℕ) (old test middle new : Output)
-      → WritesTest scope e first second old test → LowersBranch on as_told scope body exit test middle → LowersOther on as_told second_scope other exit middle new
-      → second_scope.regs ≡ scope.regs → SeesAfter (λ names. names) scope second_scope → IsFresh new → first ≡ label test → second ≡ label middle → exit ≡ label new
+  pub if_written : (scope second_scope : Scope) (e : Expr) (body other : List Stmt) (second exit : ℕ) (old test middle new : Output)
+      → WritesChoice scope e second old test → LowersBranch on as_told scope body exit test middle → LowersOther on as_told second_scope other exit middle new
+      → second_scope.regs ≡ scope.regs → SeesAfter (λ names. names) scope second_scope → IsFresh new → second ≡ label middle → exit ≡ label new
       → WithBody body (λ v. WithBody other (λ w. Lowers on as_told scope (If e v w) old new))
-  if_written scope second_scope e body other first second exit old test middle new tests one two same_regs keeps fresh first_is second_is exit_is p is q is_other code tables names round more last same sees fits c =
+  if_written scope second_scope e body other second exit old test middle new tests one two same_regs keeps fresh second_is exit_is p is q is_other code tables names round more last same sees fits c =
       let inside : AllFit tables (entries on.callees.items) on.most round names body =
       subst (λ (ss : List Stmt). AllFit tables (entries on.callees.items) on.most round names ss) is (fit_of_vec tables (entries on.callees.items) on.most round names p fits.1) in
       let beside : AllFit tables (entries on.callees.items) on.most round names other =
       subst (λ (ss : List Stmt). AllFit tables (entries on.callees.items) on.most round names ss) is_other (fit_of_vec tables (entries on.callees.items) on.most round names q fits.2) in
       let v : Stands code middle × Other code (activation on tables) round names other (label middle) exit = two code tables names round same (sees_as scope second_scope same_regs (keeps names tables sees.sees) sees.stand) beside c.closed exit_is in
-      let u : Stands code test × Branch code (activation on tables) round names body (label test) exit = one code tables names round same sees inside v.0 in
-      let w : Leads code old (λ instrs end. (end ≡ to second) × Computes code (activation on tables) round.registers names e 0 instrs (instr.IfJump 0 first ∷ [])) = tests code (activation on tables) names round.registers sees fits.0 u.0 in
       let ends : Opens code exit more last = subst (λ (l : ℕ). Opens code l more last) (sym exit_is) (fresh_opens code new more last fresh c) in
-      let own : Branch code (activation on tables) round names p.items first exit =
-      subst (λ (ss : List Stmt). Branch code (activation on tables) round names ss first exit) (sym is)
-      (subst (λ (l : ℕ). Branch code (activation on tables) round names body l exit) (sym first_is) u.1) in
       let others : Other code (activation on tables) round names q.items second exit =
       subst (λ (ss : List Stmt). Other code (activation on tables) round names ss second exit) (sym is_other)
       (subst (λ (l : ℕ). Other code (activation on tables) round names other l exit) (sym second_is) v.1) in
-      record {
-        instrs = w.instrs;
-        end = w.end;
-        continues = w.continues;
-        told = subst (λ (t : Term). Code code (activation on tables) round names (If e p q) w.instrs t more last) (sym w.told.0) (if_code p q w.told.1 own others ends);
-      }
+      by tests v.0 others ends inside
+    where
+      by : WritesChoice scope e second old test → Stands code middle → Other code (activation on tables) round names q.items second exit → Opens code exit more last → AllFit tables (entries on.callees.items) on.most round names body
+          → Leads code old (λ instrs end. Code code (activation on tables) round names (If e p q) instrs end more last)
+      by (by_opposite {e'} {middle = valued} opposes values jumps) stands others ends inside =
+          let b : Leads code test (λ instrs end. Codes code (activation on tables) round names body instrs end [] (to exit)) = one code tables names round same sees inside stands in
+          let jump : Instr = instr.IfJump 0 second in
+          let w : Leads code old (λ instrs end. (end ≡ b.end) × Computes code (activation on tables) round.registers names e' 0 instrs (jump ∷ b.instrs)) =
+          values code (activation on tables) names round.registers (jump ∷ b.instrs) b.end sees (opposite_visible tables names e e' opposes fits.0)
+          (pushed code valued test (jump ∷ []) b.instrs b.end jumps b.continues) in
+          let codes : Codes code (activation on tables) round names p.items b.instrs w.end [] (to exit) =
+          subst (λ (ss : List Stmt). Codes code (activation on tables) round names ss b.instrs w.end [] (to exit)) (sym is)
+          (subst (λ (t : Term). Codes code (activation on tables) round names body b.instrs t [] (to exit)) (sym w.told.0) b.told) in
+          record { instrs = w.instrs; end = w.end; continues = w.continues; told = if_not_code p q opposes w.told.1 codes others ends }
+      by (by_test fresh_test writes) stands others ends inside =
+          let u : Stands code test × Branch code (activation on tables) round names body (label test) exit = branch_at scope body exit test middle fresh_test one code tables names round same sees inside stands in
+          let w : Leads code old (λ instrs end. (end ≡ to second) × Computes code (activation on tables) round.registers names e 0 instrs (instr.IfJump 0 (label test) ∷ [])) = writes code (activation on tables) names round.registers sees fits.0 u.0 in
+          let own : Branch code (activation on tables) round names p.items (label test) exit =
+          subst (λ (ss : List Stmt). Branch code (activation on tables) round names ss (label test) exit) (sym is) u.1 in
+          record {
+            instrs = w.instrs;
+            end = w.end;
+            continues = w.continues;
+            told = subst (λ (t : Term). Code code (activation on tables) round names (If e p q) w.instrs t more last) (sym w.told.0) (if_code p q w.told.1 own others ends);
+          }
 
   -- ---- loops
 

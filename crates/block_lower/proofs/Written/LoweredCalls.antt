@@ -26,8 +26,8 @@ use Rattle.block_lower.specs.Code.{Operand, Arguments, no_argument, one_argument
 use Rattle.block_lower.specs.Code.{passed, Calls, Code, call_code, Opens, to, store, load}
 use Rattle.block_lower.specs.Code.{call_test, call_entry, call_exit}
 use Rattle.block_lower.specs.Fitting.{IsVisible, AreVisible}
-use Rattle.block_lower.specs.Layout.{levels_cell, value_cell, kept_cell, Entry, entry_of}
-use Rattle.block_lower.specs.Layout.{Activation}
+use Rattle.block_lower.specs.Layout.{levels_cell, value_cell, Entry, entry_of, Activation}
+use Rattle.block_lower.specs.Layout.{kept_argument}
 use Rattle.block_lower.specs.Lowering.{WritesOperand, WritesArguments, WritesBothArguments}
 use Rattle.block_lower.specs.Lowering.{WritesPassed, WritesCall, Lowers}
 use Rattle.block_lower.specs.Pairs.{call_given}
@@ -83,7 +83,7 @@ more_stored scope es e v cell old middle valued new all one push code act names 
       );
     }
 
-pub both_arguments_written : (on : Body) (scope : Scope) (fs gs : List Expr) (first kept : ℕ) (old middle new : Output) → first ≡ on.size + value_cell 0 → kept ≡ value_cell on.most + 0
+pub both_arguments_written : (on : Body) (scope : Scope) (fs gs : List Expr) (first kept : ℕ) (old middle new : Output) → first ≡ on.size + value_cell 0 → kept ≡ value_cell on.most + (2 + 0)
     → WritesArguments scope fs (λ i. first + i * 2) old middle → WritesArguments scope gs (λ i. kept + i * 1) middle new → WritesBothArguments on scope fs gs old new
 both_arguments_written on scope fs gs first kept old middle new first_is kept_is one two code tables names more last sees visible_f visible_g c =
     let act : Activation = activation on tables in
@@ -98,7 +98,7 @@ both_arguments_written on scope fs gs first kept old middle new first_is kept_is
         record {
           others = w.instrs;
           first = arguments_at code act names (λ i. first + i * 2) (parameter_cell code act) (λ i. omega (arith, first_is)) 0 fs v.instrs w.instrs v.told.1;
-          second = arguments_at code act names (λ i. kept + i * 1) (kept_cell act) (λ i. omega (arith, kept_is)) 0 gs w.instrs more w.told.1;
+          second = arguments_at code act names (λ i. kept + i * 1) (kept_argument act) (λ i. omega (arith, kept_is)) 0 gs w.instrs more w.told.1;
         },
       );
     }
@@ -106,19 +106,19 @@ both_arguments_written on scope fs gs first kept old middle new first_is kept_is
 -- ---- kept numbers
 
 passed_more : (code : Listing) (act : Activation) (n i : ℕ) (more : List Instr)
-    → passed code act (suc n) i more ≡ passed code act n i (load 0 (kept_cell act (i + n)) ∷ store (parameter_cell code act (i + n)) (value.Reg 0) ∷ more)
-passed_more code act zero i more = ap (λ (k : ℕ). load 0 (kept_cell act k) ∷ store (parameter_cell code act k) (value.Reg 0) ∷ more) (omega arith)
+    → passed code act (suc n) i more ≡ passed code act n i (load 0 (kept_argument act (i + n)) ∷ store (parameter_cell code act (i + n)) (value.Reg 0) ∷ more)
+passed_more code act zero i more = ap (λ (k : ℕ). load 0 (kept_argument act k) ∷ store (parameter_cell code act k) (value.Reg 0) ∷ more) (omega arith)
 passed_more code act (suc n) i more =
-    ap (λ (rest : List Instr). load 0 (kept_cell act i) ∷ store (parameter_cell code act i) (value.Reg 0) ∷ rest)
-    (passed_more code act n (suc i) more ∙ ap (λ (k : ℕ). passed code act n (suc i) (load 0 (kept_cell act k) ∷ store (parameter_cell code act k) (value.Reg 0) ∷ more)) (omega arith))
+    ap (λ (rest : List Instr). load 0 (kept_argument act i) ∷ store (parameter_cell code act i) (value.Reg 0) ∷ rest)
+    (passed_more code act n (suc i) more ∙ ap (λ (k : ℕ). passed code act n (suc i) (load 0 (kept_argument act k) ∷ store (parameter_cell code act k) (value.Reg 0) ∷ more)) (omega arith))
 
-pub more_passed : (on : Body) (n : ℕ) (old middle loads new : Output) → WritesPassed on n old middle → Pushes (load 0 (value_cell on.most + n) ∷ []) middle loads
+pub more_passed : (on : Body) (n : ℕ) (old middle loads new : Output) → WritesPassed on n old middle → Pushes (load 0 (value_cell on.most + (2 + n)) ∷ []) middle loads
     → Pushes (store (on.size + value_cell n) (value.Reg 0) ∷ []) loads new → WritesPassed on (suc n) old new
 more_passed on n old middle loads new all push_load push_store code tables more last c =
     let act : Activation = activation on tables in
-    let own : ℕ → List Instr = λ k. load 0 (kept_cell act k) ∷ store (parameter_cell code act k) (value.Reg 0) ∷ more in
+    let own : ℕ → List Instr = λ k. load 0 (kept_argument act k) ∷ store (parameter_cell code act k) (value.Reg 0) ∷ more in
     let here : Continues code middle (own n) last =
-    pushed code middle loads (load 0 (kept_cell act n) ∷ []) (store (parameter_cell code act n) (value.Reg 0) ∷ more) last push_load
+    pushed code middle loads (load 0 (kept_argument act n) ∷ []) (store (parameter_cell code act n) (value.Reg 0) ∷ more) last push_load
     (pushed code loads new (store (parameter_cell code act n) (value.Reg 0) ∷ []) more last push_store c) in
     let same : passed code act n 0 (own n) ≡ passed code act (suc n) 0 more = ap (λ (k : ℕ). passed code act n 0 (own k)) (omega arith) ∙ sym (passed_more code act n 0 more) in
     subst (λ (instrs : List Instr). Continues code old instrs last) same (all code tables (own n) last here)

@@ -32,8 +32,8 @@ use Rattle.block_lower.specs.declared.output.Output.{Output}
 use Rattle.block_lower.specs.declared.round.Round as told
 use Rattle.block_lower.specs.Bodies.{activation, HasRoomFor}
 use Rattle.block_lower.specs.Code.{OpensAs, Opens, Code, both_code, call_exit, to, store, load}
-use Rattle.block_lower.specs.Layout.{kept_by_both, kept_cell, kept_mark, kept_record, kept_value}
-use Rattle.block_lower.specs.Layout.{levels_cell, value_cell, Activation, Entry}
+use Rattle.block_lower.specs.Layout.{kept_argument, kept_by_both, kept_cell, kept_mark}
+use Rattle.block_lower.specs.Layout.{kept_record, levels_cell, Activation, Entry}
 use Rattle.block_lower.specs.Lowering.{AreBothArguments, WritesBothArguments, WritesPassed, Lowers}
 use Rattle.block_lower.specs.Lowering.{WritesFirst, WritesJoined, WritesSecond, WritesPair, GoesTo}
 use Rattle.block_lower.specs.Lowering.{WritesPassedCall, pair_site}
@@ -52,18 +52,18 @@ use Rattle.block_lower.proofs.Written.Writing.{appended}
 -- ---- kept cells
 
 kept_more : (act : Activation) (n i : ℕ)
-    → kept_from act (suc n) i ≡ kept_from act n i ++ kept_cell act (i + n) ∷ []
-kept_more act zero i = ap (λ (k : ℕ). kept_cell act k ∷ []) (omega arith)
+    → kept_from act (suc n) i ≡ kept_from act n i ++ kept_argument act (i + n) ∷ []
+kept_more act zero i = ap (λ (k : ℕ). kept_argument act k ∷ []) (omega arith)
 kept_more act (suc n) i =
-    ap (λ (cells : List ℕ). kept_cell act i ∷ cells)
+    ap (λ (cells : List ℕ). kept_argument act i ∷ cells)
     (kept_more act n (suc i)
-    ∙ ap (λ (k : ℕ). kept_from act n (suc i) ++ kept_cell act k ∷ []) (omega arith))
+    ∙ ap (λ (k : ℕ). kept_from act n (suc i) ++ kept_argument act k ∷ []) (omega arith))
 
 -- one more kept cell, behind the first ones
 pub more_kept : (act : Activation) (n : ℕ)
-    → kept_from act (suc n) 0 ≡ kept_from act n 0 ++ kept_cell act n ∷ []
+    → kept_from act (suc n) 0 ≡ kept_from act n 0 ++ kept_argument act n ∷ []
 more_kept act n =
-    kept_more act n 0 ∙ ap (λ (k : ℕ). kept_from act n 0 ++ kept_cell act k ∷ []) (omega arith)
+    kept_more act n 0 ∙ ap (λ (k : ℕ). kept_from act n 0 ++ kept_argument act k ∷ []) (omega arith)
 
 kept_as_many : (act : Activation) (n i : ℕ) → length (kept_from act n i) ≡ n
 kept_as_many act zero i = refl
@@ -71,23 +71,23 @@ kept_as_many act (suc n) i = ap suc (kept_as_many act n (suc i))
 
 -- what holds of each of so many kept cells, from one on
 all_kept : (act : Activation) (P : ℕ → Type 0) (n i : ℕ)
-    → ((k : ℕ) → i ≤ k → k < i + n → P (kept_cell act k)) → All P (kept_from act n i)
+    → ((k : ℕ) → i ≤ k → k < i + n → P (kept_argument act k)) → All P (kept_from act n i)
 all_kept act P zero i each = All-nil P
 all_kept act P (suc n) i each =
-    All-cons P (kept_cell act i) (kept_from act n (suc i)) (each i (omega arith) (omega arith))
+    All-cons P (kept_argument act i) (kept_from act n (suc i)) (each i (omega arith) (omega arith))
     (all_kept act P n (suc i) (λ k from below. each k (omega (arith, from)) (omega (arith, below))))
 
 kept_differ : (act : Activation) (n i : ℕ) → AllPairs (λ a b. a ≢ b) (kept_from act n i)
 kept_differ act zero i = no_pairs (λ a b. a ≢ b)
 kept_differ act (suc n) i =
-    AllPairs-cons (λ a b. a ≢ b) (kept_cell act i) (kept_from act n (suc i))
-    (all_kept act (λ b. kept_cell act i ≢ b) n (suc i)
+    AllPairs-cons (λ a b. a ≢ b) (kept_argument act i) (kept_from act n (suc i))
+    (all_kept act (λ b. kept_argument act i ≢ b) n (suc i)
     (λ k from below same. absurd (omega (arith, from, same))))
     (kept_differ act n (suc i))
 
 -- the site of two calls is a right one
 pub right_call_site : (on : Body) (code : Listing) (tables : List (List ℕ)) (many entry at : ℕ)
-    → HasRoomFor on kept_by_both → many ≤ MAX_PARAMETERS → at < 65536 → entry < 65536
+    → HasRoomFor on (kept_by_both many) → many ≤ MAX_PARAMETERS → at < 65536 → entry < 65536
     → IsCallSite (call_site code (activation on tables) many entry at)
 right_call_site on code tables many entry at room few below below_entry =
     let act : Activation = activation on tables in
@@ -162,17 +162,17 @@ pair_appended site old handled new first second =
       fresh = second.fresh;
     }
 
-pub joined_written : (on : Body) (second : Target) (at : ℕ)
+pub joined_written : (on : Body) (cell : ℕ) (second : Target) (at : ℕ)
     (old stores swaps allocs moves new : Output)
-    → Pushes (store (value_cell on.most + kept_value) (value.Reg 0) ∷ []) old stores
+    → Pushes (store cell (value.Reg 0) ∷ []) old stores
     → Pushes (instr.Move 0 (value.Reg 1) ∷ []) stores swaps
     → Pushes (instr.Salloc second.size ∷ []) swaps allocs
     → Pushes (call_enters on.size) allocs moves → Closes (to at) moves new
-    → WritesJoined on second at old new
-joined_written on second at old stores swaps allocs moves new one two three four close code tables
-    stands =
+    → WritesJoined on cell second at old new
+joined_written on cell second at old stores swaps allocs moves new one two three four close code
+    tables stands =
     let end : Term = to at in
-    pushed code old stores (store (value_cell on.most + kept_value) (value.Reg 0) ∷ []) _ end one
+    pushed code old stores (store cell (value.Reg 0) ∷ []) _ end one
     (pushed code stores swaps (instr.Move 0 (value.Reg 1) ∷ []) _ end two
     (pushed code swaps allocs (instr.Salloc second.size ∷ []) _ end three
     (pushed code allocs moves (call_enters on.size) [] end four
@@ -209,41 +209,41 @@ of_entry P entry target goes holds =
     subst (λ (l : ℕ). P l entry.size) (sym goes.label)
     (subst (λ (n : ℕ). P target.label n) (sym goes.size) holds)
 
-pub pair_written : (on : Body) (place : Place) (many : ℕ) (first second : Target) (site : CallSite)
+pub pair_written : (on : Body) (place : Place) (cell many : ℕ) (first second : Target)
+    (site : CallSite)
     (old entered handled joined child between fits again new : Output)
     → ((code : Listing) (tables : List (List ℕ)) → site
     ≡ pair_site code (activation on tables) many (next_label old + 1))
     → IsCallSite site
     → WritesFirst on place first site old entered
     → Appends (call_handler_blocks site ++ call_join_blocks site) entered handled
-    → WritesJoined on second (site.entry + 2) handled joined → IsFresh joined
+    → WritesJoined on cell second (site.entry + 2) handled joined → IsFresh joined
     → WritesSecond on many second (child_end_label site.label) joined child → IsFresh child
-    → Pushes (first_exit on.size site.mark (value_cell on.most + kept_value) []) child between
+    → Pushes (first_exit on.size site.mark cell []) child between
     → Pushes (fitted first.size second.size) between fits
     → WritesPassedCall on many second (site.entry + 2) fits again → IsFresh again
     → Pushes (call_exit second.size on.size []) again new
     → site.label ≡ label entered → joined_label site.label ≡ label handled
     → site.entry ≡ label joined → site.entry + 1 ≡ label child → site.entry + 2 ≡ label again
-    → WritesPair on place many first second old new
-pair_written on place many first second site old entered handled joined child between fits again new
-    is right begins append joins fresh_joined seconds fresh_child leaves fit calls fresh_again exits
+    → WritesPair on place cell many first second old new
+pair_written on place cell many first second site old entered handled joined child between fits
+    again new is right begins append joins fresh_joined seconds fresh_child leaves fit calls fresh_again exits
     at_entered at_handled at_joined at_child at_again code tables one two more last to_first
     to_second c =
     let act : Activation = activation on tables in
     let return : ℕ = site.entry + 2 in
     let end : Term = to second.label in
-    let kept : ℕ = kept_cell act kept_value in
     let e : Continues code again (call_exit second.size on.size more) last =
     pushed code again new (call_exit second.size on.size []) more last exits c in
     let call : List Instr = passed_call code act many return in
     let next : List Instr = fitted first.size second.size ++ call in
-    let b : Continues code child (first_exit on.size site.mark kept next) end =
-    pushed code child between (first_exit on.size site.mark kept []) next end leaves
+    let b : Continues code child (first_exit on.size site.mark cell next) end =
+    pushed code child between (first_exit on.size site.mark cell []) next end leaves
     (pushed code between fits (fitted first.size second.size) call end fit
     (calls code tables e.closed)) in
     let own : List Instr = second_call code act many second.size (child_end_label site.label) in
     let a : Continues code joined own end = seconds code tables b.closed in
-    let j : Continues code handled (pair_joined code act second.size) (to return) =
+    let j : Continues code handled (pair_joined code act cell second.size) (to return) =
     joins code tables a.closed in
     let handler : List Block = call_handler_blocks site in
     let join : List Block = call_join_blocks site in
@@ -253,7 +253,7 @@ pair_written on place many first second site old entered handled joined child be
     (pair_begins code act site place (site.entry + 1) (next_label old)) Halt
     × OpensAs code (note.Ready on.dispatch) (next_label old) (call_enters on.size)
     (to first.label) = begins code tables h.0 in
-    let pair : IsPair code act on.dispatch place many one two site
+    let pair : IsPair code act on.dispatch place cell many one two site
     (pair_begins code act site place (site.entry + 1) (next_label old)) Halt more last =
     record {
       go = next_label old;
@@ -269,23 +269,24 @@ pair_written on place many first second site old entered handled joined child be
           (front code (label entered) handler join h.1);
       join = subst (λ (k : ℕ). AreAt code k join) (ap target_label (sym at_entered))
           (back code (label entered) handler join h.1);
-      joined = of_entry (λ l n. Opens code (joined_label site.label) (pair_joined code act n)
+      joined = of_entry (λ l n. Opens code (joined_label site.label) (pair_joined code act cell n)
           (to return)) two second to_second
-          (subst (λ (k : ℕ). Opens code k (pair_joined code act second.size) (to return))
+          (subst (λ (k : ℕ). Opens code k (pair_joined code act cell second.size) (to return))
           (sym at_handled)
-          (fresh_opens code handled (pair_joined code act second.size) (to return) append.fresh j));
+          (fresh_opens code handled (pair_joined code act cell second.size) (to return) append.fresh
+          j));
       child = of_entry (λ l n. Opens code site.entry
           (second_call code act many n (child_end_label site.label)) (to l)) two second to_second
           (subst (λ (k : ℕ). Opens code k own end) (sym at_joined)
           (fresh_opens code joined own end fresh_joined a));
       after = of_entry (λ l n. Opens code (site.entry + 1)
-          (first_exit on.size site.mark kept (fitted one.size n ++ call)) (to l)) two second
+          (first_exit on.size site.mark cell (fitted one.size n ++ call)) (to l)) two second
           to_second
           (of_entry (λ l n. Opens code (site.entry + 1)
-          (first_exit on.size site.mark kept (fitted n second.size ++ call)) end) one first to_first
-          (subst (λ (k : ℕ). Opens code k (first_exit on.size site.mark kept next) end)
+          (first_exit on.size site.mark cell (fitted n second.size ++ call)) end) one first to_first
+          (subst (λ (k : ℕ). Opens code k (first_exit on.size site.mark cell next) end)
           (sym at_child)
-          (fresh_opens code child (first_exit on.size site.mark kept next) end fresh_child b)));
+          (fresh_opens code child (first_exit on.size site.mark cell next) end fresh_child b)));
       behind = of_entry (λ l n. Opens code return (call_exit n on.size more) last) two second
           to_second
           (subst (λ (k : ℕ). Opens code k (call_exit second.size on.size more) last) (sym at_again)
@@ -295,7 +296,7 @@ pair_written on place many first second site old entered handled joined child be
       instrs = pair_begins code act site place (site.entry + 1) (next_label old);
       end = Halt;
       continues = f.0;
-      told = subst (λ (s : CallSite). IsPair code act on.dispatch place many one two s
+      told = subst (λ (s : CallSite). IsPair code act on.dispatch place cell many one two s
           (pair_begins code act site place (site.entry + 1) (next_label old)) Halt more last)
           (is code tables) pair;
     }
@@ -306,21 +307,19 @@ module _ (on : Body) (as_told : told.Round) (scope : Scope) where
       → scope.regs.items ≡ []
       → IsTarget on as_told scope f.callee.text.items first.label first.size
       → IsTarget on as_told scope g.callee.text.items second.label second.size
-      → HasRoomFor on kept_by_both → length g.args.items ≤ MAX_PARAMETERS
+      → HasRoomFor on (kept_by_both (length g.args.items))
+      → length g.args.items ≤ MAX_PARAMETERS
       → Pushes (instr.Salloc first.size ∷ []) old allocs
       → WritesBothArguments on scope f.args.items g.args.items allocs stored
-      → WritesPair on f.callee.place (length g.args.items) first second stored paired
-      → Pushes (load 1 (value_cell on.most + kept_value)
-      ∷ store (offset_of scope x.text.items) (value.Reg 1)
-      ∷ store (offset_of scope y.text.items) (value.Reg 0) ∷ []) paired new
+      → WritesPair on f.callee.place (offset_of scope x.text.items) (length g.args.items) first
+      second stored paired
+      → Pushes (store (offset_of scope y.text.items) (value.Reg 0) ∷ []) paired new
       → Lowers on as_told scope (Both x f y g) old new
   both_written x y f g first second old allocs stored paired new none is_first is_second room few alloc
       arguments pair values code tables names round more last same sees fits c =
       let act : Activation = activation on tables in
       let many : ℕ = length g.args.items in
-      let own : List Instr =
-      load 1 (kept_cell act kept_value) ∷ store (offset_of scope x.text.items) (value.Reg 1)
-      ∷ store (offset_of scope y.text.items) (value.Reg 0) ∷ [] in
+      let own : List Instr = store (offset_of scope y.text.items) (value.Reg 0) ∷ [] in
       let one : Entry = fits.2.entry in
       let two : Entry = fits.3.entry in
       let site : CallSite = pair_site code act many (next_label stored + 1) in
@@ -329,8 +328,8 @@ module _ (on : Body) (as_told : told.Round) (scope : Scope) where
         label = sym (is_first.at_is one fits.2.is_entry);
         size = sym (is_first.size_is one fits.2.is_entry);
       } in
-      let w : Leads code stored (λ instrs end. IsPair code act on.dispatch f.callee.place many one
-      two site instrs end (own ++ more) last) =
+      let w : Leads code stored (λ instrs end. IsPair code act on.dispatch f.callee.place
+      (offset_of scope x.text.items) many one two site instrs end (own ++ more) last) =
       pair code tables one two (own ++ more) last goes
       (record {
         label = sym (is_second.at_is two fits.3.is_entry);

@@ -13,8 +13,10 @@ use Rattle.tpal_syntax.specs.declared.notes.Note.{Note}
 use Rattle.tpal_syntax.specs.declared.notes.Note.TheVariants as note
 use Rattle.tpal_syntax.specs.Listing.{Listing}
 use Rattle.tpal_machine.specs.Reading.{block_at}
+use Rattle.expr_lower.specs.declared.expression.Operation.{Operation}
 use Rattle.expr_lower.specs.declared.scope.Scope.{Scope}
 use Rattle.expr_lower.specs.Bodies.{body_of, traps_of, name_of, trap_block}
+use Rattle.expr_lower.specs.Nodes.{IsNode, operation_height}
 use Rattle.expr_lower.specs.Standing.{AreAt}
 use Rattle.expr_lower.proofs.Standing.{front, back}
 use Rattle.block_lower.specs.declared.output.Output.{Output}
@@ -114,6 +116,18 @@ value_written scope e r old new blocks body traps noted low ranged code act name
         },
       );
     }
+
+-- the same of an operation
+pub operation_written : (scope : Scope) (o : Operation) (e : Expr) (r : ℕ) (old new : Output)
+    → IsNode o e → new.blocks.items ≡ old.blocks.items
+    → new.body.items ≡ old.body.items ++ body_of scope (next_label old) e r
+    → new.traps.items ≡ old.traps.items ++ traps_of (next_label old) e
+    → new.note ≡ old.note → r + operation_height o ≤ 24
+    → ExprInRange o.left.now × ExprInRange o.right.now → WritesValue scope e r old new
+operation_written scope o e r old new node blocks body traps noted low ranged =
+    value_written scope e r old new blocks body traps noted
+    (subst (λ (x : Expr). r + height x ≤ 24) (sym node.is) low)
+    (subst ExprInRange (sym node.is) ranged)
 
 -- a trap block that was appended
 pub trapped : (code : Listing) (old new : Output) (kind : TrapKind) (place : Place) (more : List Instr) (end : Term) → Traps kind place old new → Continues code new more end

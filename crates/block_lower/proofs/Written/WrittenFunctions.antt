@@ -21,6 +21,7 @@ use Rattle.block_lower.specs.declared.body.Callee.{Callee}
 use Rattle.block_lower.specs.declared.output.Output.{Output}
 use Rattle.block_lower.specs.declared.round.Round as told
 use Rattle.block_lower.specs.Bodies.{entry, entries, activation, HasRoomFor}
+use Rattle.block_lower.specs.Heights.{FuncIsLow}
 use Rattle.block_lower.specs.Code.{Computes, Codes, load}
 use Rattle.block_lower.specs.Fitting.{AllFit}
 use Rattle.block_lower.specs.Layout.{return_cell, Entry, Activation}
@@ -104,8 +105,12 @@ pub room_of : (on : Body) (n : ℕ) (tables : List (List ℕ)) → HasRoomFor on
 room_of on n tables room = record { few = room.few; room = omega (arith, room.room); fits = room.fits }
 
 -- the activation of a function has room for its statements
-pub func_room : (on : Body) (f : Func) → FuncIsSmall f → on.most ≡ most_of f → on.size ≡ size_of f → HasRoomFor on (kept_by_list f.body.items)
-func_room on f small most size = record { few = rw most small.few; room = rw (most, size) (omega arith); fits = rw size (func_fits f small.few) }
+pub func_room : (on : Body) (f : Func) → FuncIsSmall f → FuncIsLow f → on.most ≡ most_of f → on.size ≡ size_of f → HasRoomFor on (kept_by_list f.body.items)
+func_room on f small low most size = record {
+  few = rw most small.few;
+  room = rw (most, size) (omega arith);
+  fits = rw size (func_fits f low small.few);
+}
 
 pub func_written : (on : Body) (as_told : told.Round) (scope declared after : Scope) (f : Func) (kept : ℕ) (old inner valued new : Output) → IsRound outermost as_told → HasRoomFor on kept → length f.params.items ≤ on.most → IsFresh old
     → declared.regs ≡ scope.regs

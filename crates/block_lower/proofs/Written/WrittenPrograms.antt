@@ -184,7 +184,7 @@ pub main_room : (p : Program) (on : Body) → ProgramFits p → on.most ≡ decl
     → HasRoomFor on (max (kept_by_list p.main.items) (kept_by_decls p.tables.items))
 main_room p on fits most size =
     let few : declared_by_list p.main.items ≤ MAX_DECLARED_VARIABLES = fitting_main_is_small p fits.main in
-    record { few = rw most few; room = rw (most, size) (omega arith); fits = rw size (main_fits p few) }
+    record { few = rw most few; room = rw (most, size) (omega arith); fits = rw size (main_fits p fits.main.low few) }
 
 -- main fits in its body
 pub main_fits_now : (p : Program) (on : Body) (as_told : told.Round) (scope seen : Scope) → ProgramFits p → entries on.callees.items ≡ entries_from (quiet_calls p) (added_by_main p) p.funcs.items → on.most ≡ declared_by_list p.main.items

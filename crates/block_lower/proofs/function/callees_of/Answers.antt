@@ -14,6 +14,7 @@ loop-f-preserved c =
     let step = next_dropped fs i f c.loop-f-test.true c.f-item.is in
     let labels = rw step at c.loop-f.invariant.labels in
     let small = rw step at c.loop-f.invariant.small in
+    let low = rw step at c.loop-f.invariant.low in
     let listed = rw step at c.loop-f.invariant.listed in
     let rest = drop (i + 1) fs in
     let few : added_by_func c.args.calls f ≤ 65536 = omega (arith, labels, sum_by-cons (added_by_func c.args.calls) f rest) in
@@ -22,6 +23,7 @@ loop-f-preserved c =
     record {
       labels = omega (arith, labels, blocks, sum_by-cons (added_by_func c.args.calls) f rest);
       small = small.1;
+      low = low.1;
       listed = rw c.in_ok-push.ensures.items
           (entries_next c.loop-f.callees.items callee c.args.calls c.loop-f.label c.added_by_func-label.result f rest (entries_from c.args.calls c.args.first fs) (rw c.deref.ensures.value at c.in_ok-name.ensures.items) refl
           (omega (arith, c.len.ensures, f.params.ok)) c.size_of.ensures blocks listed);

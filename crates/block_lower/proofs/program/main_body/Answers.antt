@@ -1,6 +1,7 @@
 use Rattle.std.proofs.Common.{arith}
 use Rattle.block_lower.proofs.Counts.Adding.{few_kept_by_list, few_kept_by_decls}
 use Rattle.block_lower.proofs.Counts.Planning.{fitting_are_small, fitting_main_is_small}
+use Rattle.block_lower.proofs.Written.WrittenPrograms.{funcs_low}
 use Rattle.block_lower.proofs.program.main_body.Goals as goal
 
 pub value_cell-requires : goal.value_cell-requires
@@ -23,8 +24,7 @@ overflow_add-size c =
       made,
       c.value_cell.ensures,
       c.max-kept.ensures,
-      few_kept_by_list
-          c.args.program.now.main.items,
+      few_kept_by_list c.args.program.now.main.items c.requires.fits.main.low,
       few_kept_by_decls c.args.program.now.tables.items,
     )
 
@@ -40,6 +40,10 @@ callees_of-requires-clause-labels c =
 pub callees_of-requires-clause-small : goal.callees_of-requires-clause-small
 callees_of-requires-clause-small c = rw c.deref-5.ensures.value
     (fitting_are_small c.args.program.now c.args.program.now.funcs.items c.requires.fits.functions)
+
+pub callees_of-requires-clause-low : goal.callees_of-requires-clause-low
+callees_of-requires-clause-low c = rw c.deref-5.ensures.value
+    (funcs_low c.args.program.now c.args.program.now.funcs.items c.requires.fits.functions)
 
 pub returns-clause-callees : goal.returns-clause-callees
 returns-clause-callees c =

@@ -6,7 +6,7 @@ pub added-returns-in-If : goal.added-returns-in-If
 added-returns-in-If t c =
     let first = rw c.deref.ensures.value at c.added_by_body.ensures in
     let second = rw c.deref-in-If.ensures.value at c.added_by_second.ensures in
-    rw c.in-If.is (omega (arith, added_of_vec c.args.calls c.in-If.body, second_of_vec c.args.calls c.in-If.other, first, second))
+    rw c.in-If.is (omega (arith, added_of_vec c.args.calls c.in-If.body, second_of_vec c.args.calls c.in-If.other, first, second, c.branch_blocks.ensures))
 
 pub added-returns-in-While : goal.added-returns-in-While
 added-returns-in-While t c =

@@ -44,7 +44,7 @@ lower_branch-returns-clause-sees t c =
 pub lower_branch-returns-clause-code : goal.lower_branch-returns-clause-code
 lower_branch-returns-clause-code t c =
     branch_written c.args.self.now.on c.args.round c.args.self.now.scope c.args.body.now c.args.exit c.args.self.now.out c.lower_list.new.self.out c.close.new.self.out
-    c.requires.fresh c.in_ok-lower_list.ensures.code (rw (c.jump.ensures, c.leave.ensures.out) at c.in_ok-close.ensures.closed)
+    c.in_ok-lower_list.ensures.code (rw (c.jump.ensures, c.leave.ensures.out) at c.in_ok-close.ensures.closed)
 
 pub lower_other-returns-then-is_empty-clause-code : goal.lower_other-returns-then-is_empty-clause-code
 lower_other-returns-then-is_empty-clause-code t c =
@@ -53,7 +53,7 @@ lower_other-returns-then-is_empty-clause-code t c =
 
 pub lower_other-returns-clause-code : goal.lower_other-returns-clause-code
 lower_other-returns-clause-code t c =
-    other_written c.args.self.now.on c.args.round c.args.self.now.scope c.args.body.now c.args.exit c.args.self.now.out c.lower_branch.new.self.out c.in_ok-lower_branch.ensures.code
+    other_written c.args.self.now.on c.args.round c.args.self.now.scope c.args.body.now c.args.exit c.args.self.now.out c.lower_branch.new.self.out c.requires.fresh c.in_ok-lower_branch.ensures.code
 
 pub lower_body-returns-clause-sees : goal.lower_body-returns-clause-sees
 lower_body-returns-clause-sees t c =
@@ -115,14 +115,14 @@ lower_while-lower_list-requires t c =
 
 pub lower_if-lower_branch-requires : goal.lower_if-lower_branch-requires
 lower_if-lower_branch-requires t c =
-    let test = c.in_ok-test.ensures in
+    let test = c.in_ok-choice.ensures in
     let measure : sum_by blocks c.args.body.now + sum_by blocks c.args.other.now + 4 ≡ t = c.decreases in (
       omega (arith, measure),
       rw (test.on, test.scope) (
         c.requires.few_tables,
         (
           c.requires.low.1,
-          (omega (arith, test.labels, c.requires.labels), (c.requires.room.0, (omega (arith, c.requires.cells), (test.fresh, c.requires.fits.0)))),
+          (omega (arith, test.labels, c.requires.labels), (c.requires.room.0, (omega (arith, c.requires.cells), c.requires.fits.0))),
         ),
       ),
     )
@@ -130,7 +130,7 @@ lower_if-lower_branch-requires t c =
 pub lower_if-lower_other-requires : goal.lower_if-lower_other-requires
 lower_if-lower_other-requires t c =
     let self = c.args.self.now in
-    let test = c.in_ok-test.ensures in
+    let test = c.in_ok-choice.ensures in
     let one = c.in_ok-lower_branch.ensures in
     let on = one.on ∙ test.on in
     let labels = rw test.on at one.labels in
@@ -565,20 +565,18 @@ lower_par-lower_leaf-requires t c =
 
 pub lower_if-returns-clause-code : goal.lower_if-returns-clause-code
 lower_if-returns-clause-code t c =
-    let first = c.next_label.result + c.trap_count.result in
-    let second = first + c.added_by_body.result in
+    let second = c.next_label.result + c.trap_count.result + c.branch_blocks.result + c.added_by_list.result in
     let exit = second + c.added_by_second.result in
-    let test = c.in_ok-test.ensures in
+    let test = c.in_ok-choice.ensures in
     let one = c.in_ok-lower_branch.ensures in
     let two = c.in_ok-lower_other.ensures in
     let on = one.on ∙ test.on in
     let first_labels = rw test.on at one.labels in
     let second_labels = rw on at two.labels in
-    if_written c.args.self.now.on c.args.round c.args.self.now.scope c.lower_branch.new.self.scope c.args.e.now c.args.body.now c.args.other.now first second exit c.args.self.now.out c.test.new.self.out c.lower_branch.new.self.out c.lower_other.new.self.out
+    if_written c.args.self.now.on c.args.round c.args.self.now.scope c.lower_branch.new.self.scope c.args.e.now c.args.body.now c.args.other.now second exit c.args.self.now.out c.choice.new.self.out c.lower_branch.new.self.out c.lower_other.new.self.out
     test.code (rw (test.on, test.scope) at one.code) (rw on at two.code) (rw test.scope at one.regs) (rw test.scope at one.sees) two.fresh
-    (omega (arith, test.labels, ap length test.fresh.traps))
-    (omega (arith, test.labels, first_labels, c.added_by_body.ensures, ap length one.fresh.traps))
-    (omega (arith, test.labels, first_labels, second_labels, c.added_by_body.ensures, c.added_by_second.ensures, ap length two.fresh.traps))
+    (omega (arith, test.labels, first_labels, c.added_by_list.ensures, ap length one.fresh.traps))
+    (omega (arith, test.labels, first_labels, second_labels, c.added_by_list.ensures, c.added_by_second.ensures, ap length two.fresh.traps))
 
 -- ---- statements
 

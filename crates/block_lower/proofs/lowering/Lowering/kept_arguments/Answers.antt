@@ -10,6 +10,6 @@ loop-i-preserved c = λ tables.
     let i = c.loop-i.i in
     let act : Activation = activation c.args.self.now.on tables in
     let next : suc i ≡ i + 1 = omega arith in
-    let pushed = rw (c.kept_cell.ensures, c.loop-i.invariant tables) at c.in_ok-push.ensures.items
-    in
+    let pushed = rw (c.kept_argument.ensures, c.loop-i.invariant tables) at
+    c.in_ok-push.ensures.items in
     pushed ∙ sym (more_kept act i) ∙ ap (λ (n : ℕ). kept_from act n 0) next

@@ -28,8 +28,7 @@ returns-clause-code c = λ round.
     let on = stored.on ∙ alloc.on in
     both_written self.on round self.scope c.args.x.now c.args.y.now c.args.f.now c.args.g.now
     first.result second.result self.out c.push.new.self.out c.both_arguments.new.self.out
-    c.push_pair.new.self.out c.push_values.new.self.out c.requires.bare first_is second_is c.requires.room
+    c.push_pair.new.self.out c.store.new.self.out c.requires.bare first_is second_is c.requires.room
     c.requires.low.1.0 alloc.pushed (rw (alloc.on, alloc.scope) at stored.code)
-    (rw (many, on) at pair.code)
-    (rw (pair.on ∙ on, pair.scope ∙ stored.scope ∙ alloc.scope)
-    at c.in_ok-push_values.ensures.pushed)
+    (rw (many, on, c.offset.ensures) at pair.code)
+    (rw c.offset-cell.ensures at c.in_ok-store.ensures.pushed)

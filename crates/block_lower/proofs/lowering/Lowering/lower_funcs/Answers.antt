@@ -2,6 +2,7 @@ use Rattle.std.proofs.Common.{take, take_all, List, refl, ap, sym, subst, ◌∙
 use Rattle.std.proofs.lemmas.List.Sums.{sum_by_more}
 use Rattle.loop_syntax.specs.declared.Func.{Func}
 use Rattle.block_lower.specs.declared.body.Body.{Body}
+use Rattle.block_lower.specs.Heights.{FuncIsLow}
 use Rattle.block_lower.specs.Programs.{LowersFuncs, FuncIsSmall}
 use Rattle.block_lower.specs.Sizes.{added_by_func}
 use Rattle.block_lower.proofs.Written.FittingNow.{func_fits_now}
@@ -24,7 +25,8 @@ loop-f-init c = record {
 pub lower_func-requires-clause-room : goal.lower_func-requires-clause-room
 lower_func-requires-clause-room c =
     let small = holds_at FuncIsSmall c.args.fs.now c.loop-f.f-index c.f-item.result c.loop-f-test.true c.f-item.is c.requires.small in
-    func_room (record c.loop-f.self.on { most = c.most_of-self.result; size = c.size_of-self.result }) c.f-item.result small c.most_of-self.ensures c.size_of-self.ensures
+    let low = holds_at FuncIsLow c.args.fs.now c.loop-f.f-index c.f-item.result c.loop-f-test.true c.f-item.is c.requires.low in
+    func_room (record c.loop-f.self.on { most = c.most_of-self.result; size = c.size_of-self.result }) c.f-item.result small low c.most_of-self.ensures c.size_of-self.ensures
 
 pub lower_func-requires-clause-fits : goal.lower_func-requires-clause-fits
 lower_func-requires-clause-fits c =

@@ -21,7 +21,7 @@ loop-i-preserved c =
           next
           (more_passed c.args.self.now.on i c.args.self.now.out c.loop-i.self.out
           c.load.new.self.out c.store.new.self.out was.code
-          (rw (c.kept_cell-kept.ensures, was.on) at c.in_ok-load.ensures.pushed)
+          (rw (c.kept_argument-kept.ensures, was.on) at c.in_ok-load.ensures.pushed)
           (rw (c.parameter_cell-parameter.ensures, was.on) at c.in_ok-store.ensures.pushed));
       on = c.in_ok-store.ensures.on ∙ c.in_ok-load.ensures.on ∙ was.on;
       scope = c.in_ok-store.ensures.scope ∙ c.in_ok-load.ensures.scope ∙ was.scope;

@@ -30,7 +30,7 @@ child_end_label-requires c =
 pub push_call_handler-requires-clause-site : goal.push_call_handler-requires-clause-site
 push_call_handler-requires-clause-site c =
     subst IsCallSite (sym (c.in_ok-site.ensures no_code []))
-    (right_call_site c.args.self.now.on no_code [] c.args.count _ _ c.requires.room c.requires.few
+    (right_call_site c.args.self.now.on no_code [] c.args.pair.count _ _ c.requires.room c.requires.few
     (omega (arith, c.next_label-label.ensures, c.requires.labels))
     (omega (arith, c.next_label-label.ensures, c.requires.labels)))
 
@@ -53,13 +53,14 @@ returns-clause-code c =
     let on_child = child.on ∙ on_joined in
     let on_between = between.on ∙ on_child in
     let on_fit = fit.on ∙ on_between in
-    pair_written on c.args.place c.args.count c.args.first c.args.second site
+    pair_written on c.args.place c.args.pair.cell c.args.pair.count c.args.pair.first
+    c.args.pair.second site
     c.args.self.now.out c.push_first.new.self.out c.push_call_handler.new.self.out
     c.push_joined.new.self.out c.push_second.new.self.out c.push_between.new.self.out
     c.push_fitted.new.self.out c.push_passed_call.new.self.out c.push_exit.new.self.out
     (rw c.next_label-label.ensures at is)
     (subst IsCallSite (sym (is no_code []))
-    (right_call_site on no_code [] c.args.count _ _ c.requires.room c.requires.few
+    (right_call_site on no_code [] c.args.pair.count _ _ c.requires.room c.requires.few
     (omega (arith, c.next_label-label.ensures, c.requires.labels))
     (omega (arith, c.next_label-label.ensures, c.requires.labels))))
     first.code handler.code
