@@ -1,7 +1,8 @@
 -- Cells kept in stretches that follow one another row by row, each counted from its first position.
 use Rattle.std.specs.Prelude.{◌≡◌, ℕ, ◌+◌, ◌-◌, ◌/◌, ◌%◌, ◌≤◌, nat_le, nat_lt, ◌&&◌, if◌then◌else◌}
 use Rattle.std.specs.Prelude.{ℤ, pos, Option, None, Some, List, [], ◌∷◌, slice_get, slice_index_or}
-use Rattle.std.specs.Prelude.{Box, Vec}
+use Rattle.std.specs.Prelude.{Box, Vec, Bool, true, false, length, ◌*◌}
+use Rattle.std.specs.Vec.{vec_len}
 use Rattle.std.specs.Global.{Global}
 use Rattle.slices.specs.declared.stretches.Stretch.{Stretch}
 use Rattle.slices.specs.declared.chunks.Chunks.{Chunks}
@@ -78,3 +79,14 @@ holders (span ∷ rest) i = count (span_at span i) + holders rest i
 -- no two spans reach the same position, and none reaches past the first n
 abbrev pub AreApart : ℕ → List Span → Type 0
 AreApart n spans = (i : ℕ) → (holders spans i ≤ 1) × (n ≤ i → holders spans i ≡ 0)
+
+-- flat, not in boxes
+abbrev pub is_flat : Span → Bool
+is_flat (Flat stretch) = true
+is_flat (Cut chunks) = false
+
+-- all cells below a position, from the table's first on
+abbrev pub HasAll : ℕ → Span → Type 0
+HasAll n (Flat stretch) = (stretch.start ≡ 0) × (n ≤ vec_len stretch.cells)
+HasAll n (Cut chunks) =
+    (chunks.start ≡ 0) × (n ≤ chunks.end) × (n ≤ 512 * length chunks.list.items)

@@ -3,13 +3,14 @@ use Rattle.std.specs.Prelude.{◌≡◌, ◌≤◌, ◌*◌, ℤ, ℕ, Bool, tru
 use Rattle.std.specs.Prelude.{⊤}
 use Rattle.std.specs.Arc.{arc_value}
 use Rattle.std.specs.Vec.{vec_len}
-use Rattle.slices.specs.Spans.{spans_at, holders, flat_span}
+use Rattle.slices.specs.Spans.{spans_at, holders, flat_span, is_flat, HasAll}
 use Rattle.slices.specs.Pieces.{spans_of}
 use Rattle.slices.specs.declared.full.Full.{Full}
 use Rattle.slices.specs.declared.spans.Span.{Span}
 use Rattle.slices.specs.declared.spans.Span.TheVariants.{Cut}
 use Rattle.slices.specs.declared.store.Store.{Store}
 use Rattle.slices.specs.declared.store.Store.TheVariants.{Whole, Boxed, Owned, Shared}
+use Rattle.slices.specs.declared.store.Store.TheVariants.{SharedWhole, SharedBoxed}
 
 -- boxes from the table's first position on, as a span
 abbrev pub full_span : Full → Span
@@ -24,6 +25,8 @@ stored (Whole cells) = flat_span cells ∷ []
 stored (Boxed full) = full_span full ∷ []
 stored (Owned pieces) = spans_of pieces
 stored (Shared pieces) = spans_of (arc_value pieces)
+stored (SharedWhole pieces) = spans_of (arc_value pieces)
+stored (SharedBoxed pieces) = spans_of (arc_value pieces)
 
 -- how many spans it has beside the first
 abbrev pub further_spans : Store → ℕ
@@ -31,6 +34,8 @@ further_spans (Whole cells) = 0
 further_spans (Boxed full) = 0
 further_spans (Owned pieces) = vec_len pieces.more
 further_spans (Shared pieces) = vec_len (arc_value pieces).more
+further_spans (SharedWhole pieces) = vec_len (arc_value pieces).more
+further_spans (SharedBoxed pieces) = vec_len (arc_value pieces).more
 
 abbrev pub store_at : Store → ℕ → Option ℤ
 store_at store i = spans_at (stored store) i
@@ -43,20 +48,31 @@ is_owned (Whole cells) = true
 is_owned (Boxed full) = true
 is_owned (Owned pieces) = true
 is_owned (Shared pieces) = false
+is_owned (SharedWhole pieces) = false
+is_owned (SharedBoxed pieces) = false
 
--- the cells are in pieces
+-- the cells are in pieces, of which none is known to have all
 abbrev pub is_open : Store → Bool
 is_open (Whole cells) = false
 is_open (Boxed full) = false
 is_open (Owned pieces) = true
 is_open (Shared pieces) = true
+is_open (SharedWhole pieces) = false
+is_open (SharedBoxed pieces) = false
 
--- cells that are not in pieces are all here below a position, so that they are found with no test
+-- one span has all cells below a position, flat or in boxes
+abbrev pub IsAll : ℕ → Bool → Span → Type 0
+IsAll n flat span = (is_flat span ≡ flat) × HasAll n span
+
+-- cells that are not in such pieces are all here below a position, so that they are found with no
+-- test
 abbrev pub IsSound : ℕ → Store → Type 0
 IsSound n (Whole cells) = n ≤ vec_len cells
 IsSound n (Boxed full) = HasBelow n full
 IsSound n (Owned pieces) = ⊤
 IsSound n (Shared pieces) = ⊤
+IsSound n (SharedWhole pieces) = IsAll n true (arc_value pieces).first
+IsSound n (SharedBoxed pieces) = IsAll n false (arc_value pieces).first
 
 -- the same cells, owned or shared as before
 pub record SameStored (old new : Store) : Type 0 where

@@ -2,12 +2,12 @@
 
 ghost use Rattle.std.specs.Prelude.{◌≡◌, ℕ, ◌+◌, ◌-◌, ◌<◌, ◌≤◌, ◌==◌, ◌&&◌, if◌then◌else◌, nat_lt};
 ghost use Rattle.std.specs.Prelude.{Some, None, true, IsTrue, IsSome, IfOk, OnOk, OnErr, is_some};
-ghost use Rattle.std.specs.Prelude.{length, []};
+ghost use Rattle.std.specs.Prelude.{length, [], false};
 ghost use Rattle.std.specs.Bool.{OnTrue, OnFalse};
 ghost use Rattle.slices.specs.Spans.{flat_span, stretch_at, span_at, span_start, or_else, count};
-ghost use Rattle.slices.specs.Spans.{between};
+ghost use Rattle.slices.specs.Spans.{between, is_flat, HasAll};
 
-use crate::boxes::CHUNK;
+use crate::boxes::{CHUNK, read};
 use crate::chunks::Chunks;
 use crate::stretches::Stretch;
 use std::alloc::{AllocError, Global};
@@ -50,6 +50,55 @@ impl Span {
         match self {
             Span::Flat(flat) => flat.get(at),
             Span::Cut(cut) => cut.get(at),
+        }
+    }
+
+    /// Whether its cells are flat.
+    pub(crate) fn is_flat(&self) -> bool
+        ensures { result ≡ is_flat self.now }
+    {
+        match self {
+            Span::Flat(_) => true,
+            Span::Cut(_) => false,
+        }
+    }
+
+    /// Whether it has all cells of a table of `end` cells, of which it tells nothing where there
+    /// are none.
+    pub(crate) fn has_all(&self, end: usize) -> bool
+        ensures { OnTrue result (HasAll end self.now) }
+    {
+        match self {
+            Span::Flat(flat) => flat.start == 0 && flat.cells.len() >= end,
+            Span::Cut(cut) => {
+                cut.start == 0 && cut.end >= end && end > 0 && (end - 1) / CHUNK < cut.list.len()
+            }
+        }
+    }
+
+    /// `get` where all cells are known to be here, flat.
+    #[inline(always)]
+    pub(crate) fn get_flat(&self, at: usize) -> i64
+        requires flat { is_flat self.now ≡ true }
+        requires here { HasAll (at + 1) self.now }
+        ensures { Some result ≡ span_at self.now at }
+    {
+        match self {
+            Span::Flat(flat) => flat.cells[at],
+            Span::Cut(_) => unreachable!(),
+        }
+    }
+
+    /// `get` where all cells are known to be here, in boxes.
+    #[inline(always)]
+    pub(crate) fn get_cut(&self, at: usize) -> i64
+        requires cut { is_flat self.now ≡ false }
+        requires here { HasAll (at + 1) self.now }
+        ensures { Some result ≡ span_at self.now at }
+    {
+        match self {
+            Span::Cut(cut) => read(&cut.list[at / CHUNK], at),
+            Span::Flat(_) => unreachable!(),
         }
     }
 

@@ -21,17 +21,20 @@ use std::mem::replace;
 use std::sync::Arc;
 
 /// Cells that are written in place, or pieces that several values read. A table's cells are flat
-/// until it is cut or shared, and in boxes from position 0 on when all are put together again.
+/// until it is cut, and in boxes from position 0 on when all are put together again. Where the
+/// first of shared pieces has all cells, the state says how it has them.
 #[derive(Drop)]
 pub(crate) enum Store {
     Whole(Vec<i64>),
     Boxed(Full),
     Owned(Pieces),
     Shared(Arc<Pieces, Global>),
+    SharedWhole(Arc<Pieces, Global>),
+    SharedBoxed(Arc<Pieces, Global>),
 }
 
 impl Store {
-    /// Puts the cells into pieces. It takes no memory.
+    /// Puts the cells into pieces, of which none is known to have all. It takes no memory.
     pub(crate) fn open(&mut self)
         ensures spans { stored self.new ≡ stored self.old }
         ensures owned { is_owned self.new ≡ is_owned self.old }
@@ -56,7 +59,29 @@ impl Store {
                     }),
                 ));
             }
+            Store::SharedWhole(shared) => {
+                let alloc = shared.alloc();
+                self.open_shared(alloc);
+            }
+            Store::SharedBoxed(shared) => {
+                let alloc = shared.alloc();
+                self.open_shared(alloc);
+            }
             _ => {}
+        }
+    }
+
+    fn open_shared(&mut self, alloc: Global)
+        requires { is_owned self.old ≡ false }
+        ensures spans { stored self.new ≡ stored self.old }
+        ensures owned { is_owned self.new ≡ is_owned self.old }
+        ensures open { is_open self.new ≡ true }
+    {
+        match replace(self, Store::Owned(Pieces::none(alloc))) {
+            Store::Shared(shared) => *self = Store::Shared(shared),
+            Store::SharedWhole(shared) => *self = Store::Shared(shared),
+            Store::SharedBoxed(shared) => *self = Store::Shared(shared),
+            _ => unreachable!(),
         }
     }
 
@@ -85,6 +110,8 @@ impl Store {
             Store::Boxed(full) => Some(full.get(at)),
             Store::Owned(pieces) => pieces.get(at),
             Store::Shared(shared) => shared.get(at),
+            Store::SharedWhole(shared) => Some(shared.first.get_flat(at)),
+            Store::SharedBoxed(shared) => Some(shared.first.get_cut(at)),
         }
     }
 
@@ -99,6 +126,8 @@ impl Store {
             Store::Boxed(_) => true,
             Store::Owned(pieces) => pieces.is_full(n),
             Store::Shared(shared) => shared.is_full(n),
+            Store::SharedWhole(_) => true,
+            Store::SharedBoxed(_) => true,
         }
     }
 
@@ -215,6 +244,8 @@ impl Store {
             }
             Store::Owned(pieces) => Some(pieces.put(at, value)),
             Store::Shared(_) => None,
+            Store::SharedWhole(_) => None,
+            Store::SharedBoxed(_) => None,
         }
     }
 
@@ -234,10 +265,11 @@ impl Store {
             ≡ (if done && i == at then Some value else store_at self.old i)) }
         ensures reaching { (i : ℕ) → reaching_in self.new i ≤ reaching_in self.old i }
         ensures owned { IfOk result (λ done. is_owned self.new ≡ done) }
-        ensures open { is_open self.new ≡ true }
+        ensures sound { IsSound end self.new }
         ensures err { OnErr result (SameStored self.old self.new) }
         ensures no_memory { OnErr result (IsSome (store_at self.old at)) }
     {
+        self.open();
         match self {
             Store::Shared(shared) => {
                 if shared.get(at).is_none() {
@@ -246,6 +278,7 @@ impl Store {
                 let mut pieces = shared.copy(shared.alloc(), end)?;
                 pieces.put(at, value);
                 *self = Store::Owned(pieces);
+                self.close(end);
                 Ok(true)
             }
             _ => unreachable!(),
@@ -289,7 +322,7 @@ impl Store {
         ensures cells { (i : ℕ) → store_at self.new i ≡ store_at self.old i }
         ensures reaching { (i : ℕ) → reaching_in self.new i ≤ reaching_in self.old i }
         ensures owned { OnOk result (is_owned self.new ≡ true) }
-        ensures sound { (n : ℕ) → IsSound n self.old → IsSound n self.new }
+        ensures sound { IsSound end self.old → IsSound end self.new }
         ensures err { OnErr result (self.new ≡ self.old) }
         ensures no_memory { OnErr result (is_owned self.old ≡ false) }
     {
@@ -298,15 +331,22 @@ impl Store {
             Store::Boxed(_) => Ok(()),
             Store::Owned(_) => Ok(()),
             Store::Shared(shared) => {
-                let pieces = shared.copy(shared.alloc(), end)?;
-                *self = Store::Owned(pieces);
+                *self = copy_of(shared, end)?;
+                Ok(())
+            }
+            Store::SharedWhole(shared) => {
+                *self = copy_of(shared, end)?;
+                Ok(())
+            }
+            Store::SharedBoxed(shared) => {
+                *self = copy_of(shared, end)?;
                 Ok(())
             }
         }
     }
 
     /// A second value that reads the same cells. Where memory is wanting the cells stay.
-    pub(crate) fn share(&mut self) -> Result<Store, AllocError>
+    pub(crate) fn share(&mut self, end: usize) -> Result<Store, AllocError>
         ensures cells { (i : ℕ) → store_at self.new i ≡ store_at self.old i }
         ensures reaching { (i : ℕ) → reaching_in self.new i ≡ reaching_in self.old i }
         ensures second { IfOk result
@@ -315,16 +355,34 @@ impl Store {
             × (reaching_in store i ≡ reaching_in self.old i)) }
         ensures shared { OnOk result (is_owned self.new ≡ false) }
         ensures second_shared { IfOk result (λ store. is_owned store ≡ false) }
-        ensures open { is_open self.new ≡ true }
-        ensures second_open { IfOk result (λ store. is_open store ≡ true) }
+        ensures sound { IsSound end self.old → IsSound end self.new }
+        ensures second_sound { IfOk result (λ store. IsSound end self.old → IsSound end store) }
     {
-        if let Store::Shared(shared) = self {
-            return Ok(Store::Shared(Arc::try_clone(shared)?));
+        match self {
+            Store::Shared(shared) => Ok(Store::Shared(Arc::try_clone(shared)?)),
+            Store::SharedWhole(shared) => Ok(Store::SharedWhole(Arc::try_clone(shared)?)),
+            Store::SharedBoxed(shared) => Ok(Store::SharedBoxed(Arc::try_clone(shared)?)),
+            _ => self.share_owned(end),
         }
+    }
+
+    /// `share` where no other reads the cells yet.
+    fn share_owned(&mut self, end: usize) -> Result<Store, AllocError>
+        ensures cells { (i : ℕ) → store_at self.new i ≡ store_at self.old i }
+        ensures reaching { (i : ℕ) → reaching_in self.new i ≡ reaching_in self.old i }
+        ensures second { IfOk result
+            (λ store. (i : ℕ)
+            → (store_at store i ≡ store_at self.old i)
+            × (reaching_in store i ≡ reaching_in self.old i)) }
+        ensures shared { OnOk result (is_owned self.new ≡ false) }
+        ensures second_shared { IfOk result (λ store. is_owned store ≡ false) }
+        ensures sound { IsSound end self.new }
+        ensures second_sound { IfOk result (λ store. IsSound end store) }
+    {
         self.open();
         let alloc = self.pieces().alloc();
         match replace(self, Store::Owned(Pieces::none(alloc))) {
-            Store::Owned(pieces) => match handles_on(alloc, pieces) {
+            Store::Owned(pieces) => match handles_on(alloc, pieces, end) {
                 Ok((first, second)) => {
                     *self = first;
                     Ok(second)
@@ -365,33 +423,63 @@ impl Store {
 
 /// Two handles on the pieces. Where memory is wanting the pieces are handed back, owned unless a
 /// handle is left on them.
-fn handles_on(alloc: Global, pieces: Pieces) -> Result<(Store, Store), Store>
+fn handles_on(alloc: Global, pieces: Pieces, end: usize) -> Result<(Store, Store), Store>
     ensures cells { IfOk result
         (λ both. (stored both.0 ≡ spans_of pieces) × (stored both.1 ≡ spans_of pieces)) }
     ensures shared { IfOk result (λ both. (is_owned both.0 ≡ false) × (is_owned both.1 ≡ false)) }
-    ensures open { IfOk result (λ both. (is_open both.0 ≡ true) × (is_open both.1 ≡ true)) }
+    ensures sound { IfOk result (λ both. IsSound end both.0 × IsSound end both.1) }
     ensures handed_back { IfErr result (λ store.
-        (stored store ≡ spans_of pieces) × (is_open store ≡ true)) }
+        (stored store ≡ spans_of pieces) × IsSound end store) }
 {
     let shared = match Arc::new(alloc, pieces) {
         Ok(shared) => shared,
         Err(failed) => return Err(Store::Owned(failed.value)),
     };
     match Arc::try_clone(&shared) {
-        Ok(second) => Ok((Store::Shared(shared), Store::Shared(second))),
-        Err(_) => Err(unshared(shared)),
+        Ok(second) => Ok((reader(shared, end), reader(second, end))),
+        Err(_) => Err(unshared(shared, end)),
     }
 }
 
 /// The pieces, owned where this is their only handle.
-fn unshared(shared: Arc<Pieces, Global>) -> Store
+fn unshared(shared: Arc<Pieces, Global>, end: usize) -> Store
     ensures spans { stored result ≡ spans_of (arc_value shared) }
-    ensures open { is_open result ≡ true }
+    ensures sound { IsSound end result }
 {
     match Arc::try_unwrap(shared) {
         Ok(pieces) => Store::Owned(pieces),
-        Err(shared) => Store::Shared(shared),
+        Err(shared) => reader(shared, end),
     }
+}
+
+/// What reads the pieces of a table of `end` cells.
+fn reader(shared: Arc<Pieces, Global>, end: usize) -> Store
+    ensures spans { stored result ≡ spans_of (arc_value shared) }
+    ensures owned { is_owned result ≡ false }
+    ensures sound { IsSound end result }
+{
+    if !shared.first.has_all(end) {
+        return Store::Shared(shared);
+    }
+    if shared.first.is_flat() {
+        Store::SharedWhole(shared)
+    } else {
+        Store::SharedBoxed(shared)
+    }
+}
+
+/// A copy of the pieces of a table of `end` cells, owned.
+fn copy_of(pieces: &Pieces, end: usize) -> Result<Store, AllocError>
+    requires { AreApart end (spans_of pieces.now) }
+    ensures cells { IfOk result (λ store. (i : ℕ) → store_at store i ≡ piece_at pieces.now i) }
+    ensures reaching { IfOk result (λ store.
+        (i : ℕ) → reaching_in store i ≤ reaching pieces.now i) }
+    ensures owned { IfOk result (λ store. is_owned store ≡ true) }
+    ensures sound { IfOk result (λ store. IsSound end store) }
+{
+    let mut store = Store::Owned(pieces.copy(pieces.alloc(), end)?);
+    store.close(end);
+    Ok(store)
 }
 
 fn join(pieces: &mut Pieces, other: Store, end: usize) -> Result<(), Store>

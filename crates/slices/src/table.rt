@@ -233,7 +233,8 @@ impl Held {
         ensures second { IfOk result (λ other. other ≡ shared self.old) }
         ensures err { OnErr result (SameCells self.old self.new) }
     {
-        let store = self.store.share()?;
+        let end = self.end();
+        let store = self.store.share(end)?;
         Ok(Held {
             rows: self.rows,
             cols: self.cols,

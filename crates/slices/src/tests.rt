@@ -104,6 +104,34 @@ fn a_put_changes_one_holder(rt: HostRuntime) -> Result<(), Fail> {
 }
 
 #[test]
+fn a_shared_table_is_read_and_cut(rt: HostRuntime) -> Result<(), Fail> {
+    let cells = [1, 2, 3, 4, 5, 6].to_vec(rt.alloc())?;
+    assert_eq!(rt; cells.len(), 6);
+    let mut held = Held::whole(3, 2, cells);
+    let mut other = held.share()?;
+    let mut third = other.share()?;
+    assert!(rt; held.is_whole() && other.is_whole() && third.is_whole());
+    holds(&rt, &other, &ALL);
+    assert_eq!(rt; other.fetch(3, 0), None);
+    assert_eq!(rt; other.fetch(0, 2), None);
+    third.own()?;
+    assert!(rt; third.put(2, 1, 9)?);
+    assert_eq!(rt; third.fetch(2, 1), Some(9));
+    let mut upper = other.give_rows(1)?;
+    let mut lower = other.share()?;
+    assert!(rt; !lower.is_whole());
+    holds(&rt, &lower, &[Some(1), Some(2), None, None, None, None]);
+    let second = upper.share()?;
+    assert!(rt; lower.append(second).is_ok());
+    assert!(rt; lower.is_whole());
+    assert!(rt; lower.put(1, 0, 8)?);
+    assert_eq!(rt; lower.fetch(1, 0), Some(8));
+    assert_eq!(rt; upper.fetch(1, 0), Some(3));
+    holds(&rt, &held, &ALL);
+    Ok(())
+}
+
+#[test]
 fn appends_are_refused(rt: HostRuntime) -> Result<(), Fail> {
     let cells = [1, 2, 3, 4, 5, 6].to_vec(rt.alloc())?;
     assert_eq!(rt; cells.len(), 6);
@@ -174,6 +202,33 @@ fn cells_in_boxes_are_cut_and_appended(rt: HostRuntime) -> Result<(), Fail> {
     let given = other.give_rows(2)?;
     marks(&rt, &other, &[Some(1), Some(2), Some(6), Some(4), None]);
     marks(&rt, &given, &[None, None, None, None, Some(5)]);
+    marks(&rt, &held, &MARKS);
+    Ok(())
+}
+
+#[test]
+fn a_shared_table_in_boxes_is_read_and_cut(rt: HostRuntime) -> Result<(), Fail> {
+    let mut held = marked(&rt, Vec::from_elem(rt.alloc(), 7, 3000)?)?;
+    let upper = held.give_rows(1)?;
+    assert!(rt; held.append(upper).is_ok());
+    let mut other = held.share()?;
+    let mut third = other.share()?;
+    assert!(rt; held.is_whole() && other.is_whole() && third.is_whole());
+    marks(&rt, &held, &MARKS);
+    assert_eq!(rt; other.fetch(0, 0), Some(7));
+    assert_eq!(rt; other.fetch(3, 0), None);
+    third.own()?;
+    assert!(rt; third.put(1, 23, 6)?);
+    marks(&rt, &third, &[Some(1), Some(2), Some(6), Some(4), Some(5)]);
+    let (mut lower, upper) = other.give_cells(1, 24)?;
+    marks(&rt, &other, &[Some(1), None, None, None, Some(5)]);
+    let second = lower.share()?;
+    assert!(rt; !second.is_whole());
+    marks(&rt, &second, &[None, Some(2), Some(3), None, None]);
+    assert!(rt; other.append(upper).is_ok());
+    assert!(rt; other.append(second).is_ok());
+    assert!(rt; other.is_whole());
+    marks(&rt, &other, &MARKS);
     marks(&rt, &held, &MARKS);
     Ok(())
 }

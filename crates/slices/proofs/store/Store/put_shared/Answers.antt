@@ -5,4 +5,4 @@ use Rattle.slices.specs.Stored.{stored}
 use Rattle.slices.proofs.store.Store.put_shared.Goals as goal
 
 pub copy-requires : goal.copy-requires
-copy-requires c = subst (λ p. AreApart c.args.end (spans_of p)) (sym c.deref-in-Shared.ensures) (subst (λ s. AreApart c.args.end (stored s)) c.in-Shared.is c.requires.apart)
+copy-requires c = subst (λ p. AreApart c.args.end (spans_of p)) (sym c.deref-in-Shared.ensures) (subst (λ s. AreApart c.args.end (stored s)) c.in-Shared.is (subst (AreApart c.args.end) (sym c.open.ensures.spans) c.requires.apart))
