@@ -44,6 +44,10 @@ impl Model for Stack {
 /// each.
 static NOTHING: [Word; 64] = [Word::Nil; 64];
 
+/// The cells that a stack has room for once its first ones were too few: so one that a fork makes,
+/// with few cells, grows at once to what most need.
+pub(crate) const FEWEST: usize = 1024;
+
 impl Stack {
     /// An empty stack. It takes no memory.
     pub fn new(alloc: Global, base: u64) -> Stack
@@ -91,8 +95,11 @@ impl Stack {
         if self.base + len as u64 > MAX_STACK_POSITION {
             return Err(StackFault::TooLong);
         }
-        self.links.reserve(skipped(self.base, &self.links) + len)?;
-        self.cells.resize(len, Word::Nil)?;
+        let fewest = fewest(&self.cells);
+        let links = skipped(self.base, &self.links) + len;
+        self.links.reserve(links.max(fewest))?;
+        self.cells.reserve(len.max(fewest) - self.cells.len())?;
+        add_nothing(&mut self.cells, cells as usize)?;
         Ok(())
     }
 
@@ -146,7 +153,14 @@ impl Stack {
     }
 }
 
+/// The cells that a stack with these has room for once it grows. Its first ones are often all that
+/// it needs.
+fn fewest(cells: &[Word]) -> usize {
+    if cells.is_empty() { 0 } else { FEWEST }
+}
+
 /// Adds so many cells with nothing in them.
+#[inline(always)]
 fn add_nothing(cells: &mut Vec<Word>, count: usize) -> Result<(), AllocError>
     requires { vec_len cells.old + count < 2 ^ 64 }
     ensures added { OnOk result (cells.new.items ≡ cells.old.items ++ replicate count Nil) }

@@ -6,7 +6,7 @@ ghost use Rattle.stack_marks.specs.Links.{HasLinks};
 ghost use Rattle.stack_marks.specs.Stacks.{IsSound, rest_of, left_of, child_of};
 ghost use Rattle.stack_marks.specs.Causes.{Holds, CutCause};
 
-use crate::cells::Stack;
+use crate::cells::{FEWEST, Stack};
 use crate::links::Links;
 use crate::mark::StackFault;
 use std::alloc::{AllocError, Global};
@@ -48,7 +48,7 @@ impl Stack {
         let low = (base - self.base) as usize;
         let high = low + cells as usize;
         let from = (left_base - self.base) as usize;
-        match copies(&self, low, high, from) {
+        match copies(&self, low, high, from, room_of(kind)) {
             Ok(copies) => Ok(parts(self, copies, base, high, left_base)),
             Err(_) => Err((self, StackFault::NoMemory)),
         }
@@ -64,8 +64,32 @@ struct CutMemory {
     rest_links: Links,
 }
 
+/// The cells that the parts of a cut have room for at least: those of a call go on with calls, and
+/// those of a loop seldom push.
+fn room_of(kind: CutKind) -> usize {
+    match kind {
+        CutKind::Loop => 0,
+        CutKind::Call => FEWEST,
+    }
+}
+
+/// A copy of words that has room for so many at least.
+fn copy_of(alloc: Global, words: &[Word], room: usize) -> Result<Vec<Word>, AllocError>
+    ensures { IfOk result (λ copy. copy.items ≡ words.now) }
+{
+    let mut copy = Vec::with_capacity(alloc, words.len().max(room))?;
+    copy.extend_from_slice(words)?;
+    Ok(copy)
+}
+
 /// CutMemory of the cells from index `low` up to `high` and from `from` on, and room for marks.
-fn copies(stack: &Stack, low: usize, high: usize, from: usize) -> Result<CutMemory, AllocError>
+fn copies(
+    stack: &Stack,
+    low: usize,
+    high: usize,
+    from: usize,
+    room: usize,
+) -> Result<CutMemory, AllocError>
     requires order { (low ≤ high) × (high ≤ length stack.now.cells) }
     requires within { from ≤ length stack.now.cells }
     ensures child { IfOk result (λ c.
@@ -76,10 +100,10 @@ fn copies(stack: &Stack, low: usize, high: usize, from: usize) -> Result<CutMemo
     ensures rest_links { IfOk result (λ c. HasLinks c.rest_links stack.now.base high) }
 {
     let alloc = *stack.cells.allocator();
-    let child = Vec::from_slice(alloc, &stack.cells[low..high])?;
-    let left = Vec::from_slice(alloc, &stack.cells[from..])?;
-    let child_links = Links::with_room(alloc, stack.base + low as u64, high - low)?;
-    let rest_links = Links::with_room(alloc, stack.base, high)?;
+    let child = copy_of(alloc, &stack.cells[low..high], room)?;
+    let left = copy_of(alloc, &stack.cells[from..], room)?;
+    let child_links = Links::with_room(alloc, stack.base + low as u64, (high - low).max(room))?;
+    let rest_links = Links::with_room(alloc, stack.base, high.max(room))?;
     Ok(CutMemory {
         child,
         child_links,
