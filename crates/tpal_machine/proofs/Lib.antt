@@ -48,6 +48,8 @@ pub mod Further
 pub mod Registers
 -- what the parts of an op came to, with others behind them
 pub mod Coming
+-- a tick that goes on, and the parts behind it
+pub mod Ticks
 -- ops that go on and ops that jump, as steps of a turn
 pub mod OpSteps
 -- the test of a place that passes, and reads and writes of cells behind it

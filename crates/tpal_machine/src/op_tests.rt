@@ -7,7 +7,7 @@ use crate::tests::{Ground, ONE_CELL, ROWS, code_of, fault_of, set, tables_of};
 use crate::{Fault, Pace, Task, Turn, run_task};
 use std::alloc::Global;
 use std::test::Fail;
-use tp_value::{NoMemory, Outcome};
+use tp_value::{NoMemory, Outcome, Stop};
 use tpal_syntax::{Alu, Code, Instr, Term, Value};
 
 const fn load(to: u8, off: u16) -> Instr {
@@ -34,7 +34,7 @@ fn each_of_several_faults_at_its_place(rt: HostRuntime) -> Result<(), Fail> {
         off: 0,
         value: Value::Reg(1),
     };
-    let cases: [([Instr; 4], (Fault, u32, u32)); 10] = [
+    let cases: [([Instr; 4], (Fault, u32, u32)); 15] = [
         (
             [ONE_CELL, Instr::Rows { to: 1, table: 0 }, size, test],
             (Fault::NotInt, 0, 2),
@@ -74,6 +74,36 @@ fn each_of_several_faults_at_its_place(rt: HostRuntime) -> Result<(), Fail> {
                 calc(31, 31, Alu::Sub, Value::Int(0)),
                 store,
                 test,
+            ],
+            (Fault::OutOfRange, 0, 2),
+        ),
+        (
+            [ONE_CELL, Instr::Tick, load(1, 1), set(2, 3)],
+            (Fault::OutOfRange, 0, 2),
+        ),
+        (
+            [ONE_CELL, Instr::Tick, load(1, 1), load(2, 0)],
+            (Fault::OutOfRange, 0, 2),
+        ),
+        (
+            [ONE_CELL, Instr::Tick, load(1, 0), load(2, 1)],
+            (Fault::OutOfRange, 0, 3),
+        ),
+        (
+            [
+                ONE_CELL,
+                calc(1, 31, Alu::Add, Value::Reg(2)),
+                store,
+                load(1, 0),
+            ],
+            (Fault::NotInt, 0, 1),
+        ),
+        (
+            [
+                set(1, 3),
+                calc(1, 1, Alu::Add, Value::Reg(31)),
+                store,
+                load(1, 0),
             ],
             (Fault::OutOfRange, 0, 2),
         ),
@@ -143,7 +173,7 @@ fn ending_of(task: Task, code: &Code, budget: u32, turns: u8, steps: u64) -> Opt
     }
 }
 
-// The same of a code with this main, and a side that jumps to both.
+// The same of a code with this main, and a side that jumps to both, with fuel for 3 ticks.
 fn ended(
     alloc: Global,
     main: &[Instr],
@@ -156,7 +186,7 @@ fn ended(
     match code_of(alloc, ROWS, main, end, side, TO_BOTH)? {
         None => Ok(None),
         Some(code) => {
-            let task = Task::first(alloc, &code, tables_of(alloc)?, 100)?;
+            let task = Task::first(alloc, &code, tables_of(alloc)?, 3)?;
             Ok(ending_of(task, &code, budget, 60, 0))
         }
     }
@@ -484,6 +514,141 @@ fn calls_give_and_get_numbers(rt: HostRuntime) -> Result<(), Fail> {
         assert_eq!(rt; outcome.output.items(), wanted);
         let (alone, slowly) = ended(alloc, main, TO_BOTH, &[], 1)?.expect(&rt, "an end");
         assert_eq!(rt; slowly.output.items(), wanted);
+        assert_eq!(rt; alone, steps);
+    }
+    Ok(())
+}
+
+// A read of the cell whose row register 3 has, 1 at first, and whose column register 4, with the
+// test of that, behind two other instructions.
+const fn read_behind(given: Instr, first: Instr) -> [Instr; 16] {
+    [
+        ONE_CELL,
+        set(1, 7),
+        set(2, 8),
+        set(3, 1),
+        given,
+        first,
+        calc(5, 3, Alu::Min, Value::Reg(4)),
+        calc(5, 5, Alu::Lt, Value::Int(0)),
+        test(5),
+        Instr::Rows { to: 5, table: 0 },
+        calc(5, 5, Alu::Le, Value::Reg(3)),
+        test(5),
+        Instr::Cols { to: 5, table: 0 },
+        calc(5, 5, Alu::Le, Value::Reg(4)),
+        test(5),
+        FETCH,
+    ]
+}
+
+// A read whose column is loaded from a cell, one of the first row, and numbers that registers keep
+// or get behind a tick. A place that isn't there leads to both, where register 1 has 7.
+#[test]
+fn reads_and_loads_do_what_their_instructions_do(rt: HostRuntime) -> Result<(), Fail> {
+    let alloc = rt.alloc();
+    let keeps = [
+        ONE_CELL,
+        set(1, 4),
+        set(2, 5),
+        calc(1, 1, Alu::Add, Value::Reg(2)),
+        store(0, Value::Reg(1)),
+        load(1, 0),
+        load(2, 0),
+    ];
+    let tick_load = [
+        ONE_CELL,
+        set(2, 8),
+        number_at(0, 6),
+        Instr::Tick,
+        load(1, 0),
+        set(3, 1),
+    ];
+    let tick_two = [
+        Instr::Salloc(2),
+        number_at(0, 6),
+        number_at(1, 8),
+        Instr::Tick,
+        load(1, 0),
+        load(2, 1),
+    ];
+    let cases: [(&[Instr], &[u8]); 11] = [
+        (
+            &read_behind(number_at(0, 0), load(4, 0)),
+            b"3\n8\n1 2\n3 4\n",
+        ),
+        (
+            &read_behind(number_at(0, 1), load(4, 0)),
+            b"4\n8\n1 2\n3 4\n",
+        ),
+        (
+            &read_behind(number_at(0, 2), load(4, 0)),
+            b"7\n8\n1 2\n3 4\n",
+        ),
+        (
+            &read_behind(number_at(0, -1), load(4, 0)),
+            b"7\n8\n1 2\n3 4\n",
+        ),
+        (&read_behind(set(4, 0), set(3, 0)), b"1\n8\n1 2\n3 4\n"),
+        (&read_behind(set(4, 1), set(3, 0)), b"2\n8\n1 2\n3 4\n"),
+        (&read_behind(set(4, 2), set(3, 0)), b"7\n8\n1 2\n3 4\n"),
+        (&read_behind(set(4, -1), set(3, 0)), b"7\n8\n1 2\n3 4\n"),
+        (&keeps, b"9\n9\n1 2\n3 4\n"),
+        (&tick_load, b"6\n8\n1 2\n3 4\n"),
+        (&tick_two, b"6\n8\n1 2\n3 4\n"),
+    ];
+    for (main, wanted) in cases {
+        let (steps, outcome) = ended(alloc, main, TO_BOTH, &[], 100)?.expect(&rt, "an end");
+        assert_eq!(rt; outcome.output.items(), wanted);
+        let (alone, slowly) = ended(alloc, main, TO_BOTH, &[], 1)?.expect(&rt, "an end");
+        assert_eq!(rt; slowly.output.items(), wanted);
+        assert_eq!(rt; alone, steps);
+    }
+    Ok(())
+}
+
+#[test]
+fn reads_fail_where_a_place_is_no_number(rt: HostRuntime) -> Result<(), Fail> {
+    let label = store(0, Value::Label(5));
+    let nil = Instr::Move {
+        to: 4,
+        value: Value::Nil,
+    };
+    let cases: [([Instr; 16], (Fault, u32, u32)); 3] = [
+        (read_behind(label, load(4, 0)), (Fault::NotInt, 0, 6)),
+        (read_behind(label, load(4, 1)), (Fault::OutOfRange, 0, 5)),
+        (read_behind(nil, set(3, 0)), (Fault::NotInt, 0, 6)),
+    ];
+    for (main, wanted) in cases {
+        assert_eq!(rt;
+            fault_of(rt.alloc(), Ground::Zero, &main, Term::Halt, &[])?,
+            Some(wanted)
+        );
+    }
+    Ok(())
+}
+
+// A task that comes back to its tick, which has no fuel at the fourth.
+#[test]
+fn ticks_with_loads_end_without_fuel(rt: HostRuntime) -> Result<(), Fail> {
+    let alloc = rt.alloc();
+    let again = Term::Jump(Value::Label(0));
+    let one = [ONE_CELL, number_at(0, 6), Instr::Tick, load(1, 0)];
+    let two = [
+        ONE_CELL,
+        number_at(0, 6),
+        Instr::Tick,
+        load(1, 0),
+        load(2, 0),
+    ];
+    let cases: [&[Instr]; 2] = [&one, &two];
+    for main in cases {
+        let (steps, outcome) = ended(alloc, main, again, &[], 100)?.expect(&rt, "an end");
+        assert_eq!(rt; outcome.stop, Stop::NoFuel);
+        assert_eq!(rt; outcome.ticks, 4);
+        let (alone, slowly) = ended(alloc, main, again, &[], 1)?.expect(&rt, "an end");
+        assert_eq!(rt; slowly.stop, Stop::NoFuel);
+        assert_eq!(rt; slowly.ticks, 4);
         assert_eq!(rt; alone, steps);
     }
     Ok(())

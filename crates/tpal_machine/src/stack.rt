@@ -30,7 +30,7 @@ pub(crate) fn above(stack: &Stack, from: i64, off: u16) -> i64
 
 /// `rA := mem[rB+n]`.
 #[inline(always)]
-#[tactic(auto, using(crate::proofs::NoNumbers::on_number_none, crate::proofs::Stacks::beyond_the_top))]
+#[tactic(auto, using(crate::proofs::Stacks::cell_facts))]
 pub(crate) fn load(frame: &mut Frame, to: u8, base: u8, off: u16) -> Result<(), Fault>
     requires to { to < 32 }
     requires base { base < 32 }
@@ -53,7 +53,7 @@ pub(crate) fn load(frame: &mut Frame, to: u8, base: u8, off: u16) -> Result<(), 
 
 /// `mem[rA+n] := v`.
 #[inline(always)]
-#[tactic(auto, using(crate::proofs::NoNumbers::on_number_none, crate::proofs::Stacks::beyond_the_top))]
+#[tactic(auto, using(crate::proofs::Stacks::cell_facts))]
 pub(crate) fn store(frame: &mut Frame, base: u8, off: u16, value: Value) -> Result<(), Fault>
     requires base { base < 32 }
     requires value { IsOperand value }
@@ -167,7 +167,7 @@ fn magnitude(number: i64) -> u64
 }
 
 /// A mark for the work from a position on.
-#[tactic(auto, using(crate::proofs::Refusals::mark_goes, crate::proofs::Refusals::mark_refused, crate::proofs::Stacks::low_marked, crate::proofs::Stacks::marked_still))]
+#[tactic(auto, using(crate::proofs::Stacks::mark_facts))]
 fn mark_from(frame: &mut Frame, base: u64, off: u16, cells: u16, split: u32) -> Result<(), Fault>
     requires { base < 2 ^ 63 }
     ensures effect { Gives (effect.with_mark_from (state_of frame.old) (pos base) off cells split)
@@ -223,7 +223,7 @@ pub(crate) fn unmark_from(frame: &mut Frame, from: i64, off: u16) -> Result<(), 
 }
 
 /// No mark at a position.
-#[tactic(auto, using(crate::proofs::Refusals::unmark_goes, crate::proofs::Stacks::low_unmarked, crate::proofs::Stacks::unmarked_still))]
+#[tactic(auto, using(crate::proofs::Stacks::unmark_facts))]
 fn unmark(frame: &mut Frame, at: i64) -> Result<(), Fault>
     ensures effect { Gives (effect.without_mark at (state_of frame.old)) result
         (state_of frame.new) }

@@ -275,6 +275,31 @@ fn numbers_and_stores_are_one_op(rt: HostRuntime) -> Result<(), Fail> {
 }
 
 #[test]
+fn a_kept_sum_is_one_op(rt: HostRuntime) -> Result<(), Fail> {
+    let sum = calc(2, 0, Alu::Add, Value::Reg(1));
+    let kept = store(31, 7, Value::Reg(2));
+    let cases = [
+        ([sum, kept, load(2, 31, 7)], Op::AddRegKeep(2, 0, 1, 7)),
+        ([sum, kept, load(2, 31, 8)], Op::AddRegStore(2, 0, 1, 7)),
+        ([sum, kept, load(3, 31, 7)], Op::AddRegStore(2, 0, 1, 7)),
+        ([sum, kept, load(2, 30, 7)], Op::AddRegStore(2, 0, 1, 7)),
+        ([sum, load(2, 31, 7), kept], Op::AddReg(2, 0, 1)),
+        (
+            [
+                calc(31, 0, Alu::Add, Value::Reg(1)),
+                store(31, 7, Value::Reg(31)),
+                load(31, 31, 7),
+            ],
+            Op::AddRegStore(31, 0, 1, 7),
+        ),
+    ];
+    for (body, op) in cases {
+        assert_eq!(rt; first_op(rt.alloc(), &body, Term::Halt)?, Some(op));
+    }
+    Ok(())
+}
+
+#[test]
 fn tests_are_one_op(rt: HostRuntime) -> Result<(), Fail> {
     let less = calc(2, 0, Alu::Lt, Value::Reg(1));
     let below = calc(2, 2, Alu::Lt, Value::Int(-9));
@@ -488,7 +513,7 @@ fn a_tick_and_its_test_are_one_op(rt: HostRuntime) -> Result<(), Fail> {
     let levels = load(2, 31, 7);
     let cases: [(&[Instr], Op); 4] = [
         (&[tick, levels, if_jump(2, 1)], Op::TickTest(2, 7, 1)),
-        (&[tick, levels, if_jump(3, 1)], Op::Tick),
+        (&[tick, levels, if_jump(3, 1)], Op::TickLoad(2, 7)),
         (&[tick, load(2, 30, 7), if_jump(2, 1)], Op::Tick),
         (&[tick, if_jump(2, 1)], Op::Tick),
     ];
@@ -499,21 +524,48 @@ fn a_tick_and_its_test_are_one_op(rt: HostRuntime) -> Result<(), Fail> {
 }
 
 #[test]
+fn ticks_and_loads_are_one_op(rt: HostRuntime) -> Result<(), Fail> {
+    let tick = Instr::Tick;
+    let cell = load(2, 31, 7);
+    let own = load(31, 31, 7);
+    let second = load(3, 31, 8);
+    let more = calc(2, 2, Alu::Add, Value::Int(1));
+    let kept = store(31, 7, Value::Reg(2));
+    let halt = Term::Halt;
+    let cases: [(&[Instr], Term, Op); 9] = [
+        (&[tick, cell], halt, Op::TickLoad(2, 7)),
+        (&[tick, cell, more], halt, Op::TickLoad(2, 7)),
+        (&[tick, cell, load(3, 30, 8)], halt, Op::TickLoad(2, 7)),
+        (&[tick, own, second], halt, Op::TickLoad(31, 7)),
+        (&[tick, cell, second], halt, Op::TickLoadTwo(2, 3, 7, 8)),
+        (&[tick, cell, kept], halt, Op::Tick),
+        (&[tick, cell, more, kept], halt, Op::Tick),
+        (&[tick, cell, second], Term::Jump(Value::Reg(3)), Op::Tick),
+        (&[tick, load(2, 30, 7), second], halt, Op::Tick),
+    ];
+    for (body, term, op) in cases {
+        assert_eq!(rt; first_op(rt.alloc(), body, term)?, Some(op));
+    }
+    Ok(())
+}
+
+#[test]
 fn a_callee_with_a_level_less_is_one_op(rt: HostRuntime) -> Result<(), Fail> {
     let way = store(31, 40, Value::Label(1));
+    let alone = Op::TickLoad(0, 2);
     let cases = [
         (4, way, Op::LevelDown(2, 40, 1)),
-        (4, store(31, 41, Value::Label(1)), Op::Tick),
-        (4, store(30, 40, Value::Label(1)), Op::Tick),
-        (4, store(31, 40, Value::Int(1)), Op::Tick),
-        (3, store(31, 43, Value::Reg(1)), Op::Tick),
-        (3, store(31, 42, Value::Reg(0)), Op::Tick),
-        (3, store(31, 39, Value::Reg(1)), Op::Tick),
-        (2, calc(1, 0, Alu::Sub, Value::Int(2)), Op::Tick),
-        (2, calc(1, 0, Alu::Add, Value::Int(1)), Op::Tick),
-        (2, calc(1, 1, Alu::Sub, Value::Int(1)), Op::Tick),
-        (1, load(1, 31, 2), Op::Tick),
-        (1, load(0, 31, 3), Op::Tick),
+        (4, store(31, 41, Value::Label(1)), alone),
+        (4, store(30, 40, Value::Label(1)), alone),
+        (4, store(31, 40, Value::Int(1)), alone),
+        (3, store(31, 43, Value::Reg(1)), alone),
+        (3, store(31, 42, Value::Reg(0)), alone),
+        (3, store(31, 39, Value::Reg(1)), alone),
+        (2, calc(1, 0, Alu::Sub, Value::Int(2)), alone),
+        (2, calc(1, 0, Alu::Add, Value::Int(1)), alone),
+        (2, calc(1, 1, Alu::Sub, Value::Int(1)), alone),
+        (1, load(1, 31, 2), Op::TickLoad(1, 2)),
+        (1, load(0, 31, 3), Op::TickLoad(0, 3)),
         (1, load(0, 30, 2), Op::Tick),
         (0, Instr::PrmDrop, Op::Leave),
     ];
@@ -562,7 +614,7 @@ fn a_call_with_a_level_less_is_one_op(rt: HostRuntime) -> Result<(), Fail> {
         (4, store(31, 43, Value::Label(1)), there, Op::Tick, less),
         (2, two, there, Op::Tick, Op::SubIntStore(0, 0, 2, 42)),
         (1, load(0, 31, 3), there, Op::Tick, rest),
-        (1, load(1, 31, 2), there, Op::Tick, rest),
+        (1, load(1, 31, 2), there, Op::TickLoad(1, 2), rest),
     ];
     for (at, other, term, first, third) in cases {
         let mut body = call(2, 42);
@@ -642,6 +694,78 @@ fn an_access_has_a_register_to_spare(rt: HostRuntime) -> Result<(), Fail> {
     ];
     for (body, op) in cases {
         assert_eq!(rt; first_op(rt.alloc(), &body, Term::Halt)?, Some(op));
+    }
+    Ok(())
+}
+
+// The op of instructions with an access behind them.
+fn op_before(alloc: Global, first: &[Instr], access: [Instr; 10]) -> Result<Option<Op>, NoMemory> {
+    let mut body = Vec::from_slice(alloc, first)?;
+    for instr in access {
+        body.push(instr)?;
+    }
+    first_op(alloc, body.as_slice(), Term::Halt)
+}
+
+#[test]
+fn a_column_and_its_read_are_one_op(rt: HostRuntime) -> Result<(), Fail> {
+    let (tick, cell, col) = (Instr::Tick, load(5, 31, 7), load(1, 31, 8));
+    let near = read(0, 1, 2);
+    let cases: [(&[Instr], [Instr; 10], Op); 12] = [
+        (&[col], near, Op::LoadRead(3, 1, 0, 1, 8, 1)),
+        (&[col], read(1, 1, 2), Op::LoadRead(3, 1, 1, 1, 8, 1)),
+        (&[load(1, 31, 255)], near, Op::LoadRead(3, 1, 0, 1, 255, 1)),
+        (&[load(1, 31, 256)], near, Op::Load(1, 256)),
+        (
+            &[load(30, 31, 8)],
+            read(0, 30, 31),
+            Op::LoadRead(3, 1, 0, 30, 8, 1),
+        ),
+        (&[load(0, 31, 8)], near, Op::Load(0, 8)),
+        (&[load(1, 30, 8)], near, Op::Leave),
+        (&[col], read(0, 1, 4), Op::Load(1, 8)),
+        (&[col], read(2, 1, 2), Op::Load(1, 8)),
+        (&[cell, col], near, Op::Load(5, 7)),
+        (&[tick, cell, col], near, Op::TickLoad(5, 7)),
+        (&[tick, col], near, Op::Tick),
+    ];
+    for (first, access, op) in cases {
+        assert_eq!(rt; op_before(rt.alloc(), first, access)?, Some(op));
+    }
+    Ok(())
+}
+
+#[test]
+fn a_row_of_zero_and_its_read_are_one_op(rt: HostRuntime) -> Result<(), Fail> {
+    let cases = [
+        (0, 0, read(0, 1, 4), Op::ZeroRead(3, 1, 0, 1, 4, 1)),
+        (0, 0, read(0, 1, 2), Op::ZeroRead(3, 1, 0, 1, 2, 1)),
+        (0, 0, read(0, 0, 4), Op::ZeroRead(3, 1, 0, 0, 4, 1)),
+        (0, 1, read(0, 1, 4), Op::MoveInt(0, 1)),
+        (1, 0, read(0, 1, 4), Op::MoveInt(1, 0)),
+        (4, 0, read(4, 1, 4), Op::MoveInt(4, 0)),
+    ];
+    for (to, number, access, op) in cases {
+        let row = Instr::Move {
+            to,
+            value: Value::Int(number),
+        };
+        assert_eq!(rt; op_before(rt.alloc(), &[row], access)?, Some(op));
+    }
+    Ok(())
+}
+
+#[test]
+fn a_write_is_joined_with_nothing_before_it(rt: HostRuntime) -> Result<(), Fail> {
+    let mut write = read(0, 1, 2);
+    write[9] = put(1, 0, 1, 3);
+    let row = Instr::Move {
+        to: 0,
+        value: Value::Int(0),
+    };
+    let cases = [(load(1, 31, 8), Op::Load(1, 8)), (row, Op::MoveInt(0, 0))];
+    for (first, op) in cases {
+        assert_eq!(rt; op_before(rt.alloc(), &[first], write)?, Some(op));
     }
     Ok(())
 }
