@@ -14,6 +14,7 @@ mod load;
 mod other;
 mod plan;
 mod pool;
+mod rest;
 mod seat;
 mod settling;
 mod source;

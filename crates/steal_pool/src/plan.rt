@@ -5,6 +5,7 @@ ghost use Rattle.tp_value.specs.declared.limits.TheConstants.{MAX_BEAT, MAX_FORK
 ghost use Rattle.join_records.specs.Passes.{record_count};
 
 use crate::load::{Machine, Setting};
+use crossbeam_utils::sync::EventCount;
 use join_records::{Load, Records};
 use tpal_syntax::Code;
 
@@ -20,6 +21,8 @@ where
     pub(crate) heartbeat: u64,
     /// The beats that each worker may have.
     pub(crate) forks: u32,
+    /// The workers that sleep until a number is handed on or a worker has ended.
+    pub(crate) sleepers: &'a EventCount,
     pub ghost code_is: { code.now ≡ S.terms.code },
     pub ghost beat_is: { (heartbeat ≡ S.terms.heartbeat)
         × (1 ≤ heartbeat)

@@ -20,9 +20,10 @@ use crate::gate::{Gate, GateEvent};
 use crate::gather::{close_run, gather};
 use crate::load::{Machine, Setting};
 use crate::plan::Plan;
+use crate::rest::Rest;
 use crate::seat::Work;
 use crate::turn::{Step, Worker};
-use crossbeam_utils::Backoff;
+use crossbeam_utils::sync::EventCount;
 use join_records::{Closed, Records};
 use schedule_core::{Job, Report};
 use std::alloc::Global;
@@ -51,22 +52,23 @@ fn work<S: Setting, R: Wait, G: Gate>(
     ensures has { Has S.terms (view worker.new.seat.pass) worker.new.seat.taken
         worker.new.seat.counts worker.new.seat.work }
 {
-    let backoff = Backoff::new();
+    let mut rest = Rest::new();
     for _ in rt.forever() {
         if is_wanting.load(Ordering::SeqCst) {
             break;
         }
         gate.at(worker.number, GateEvent::Turn);
         match worker.turn::<Brand, G>(plan, gate) {
-            Step::Worked => backoff.reset(),
-            Step::Again => backoff.spin(),
-            Step::Idle => backoff.snooze(),
+            Step::Worked => rest.end(),
+            Step::Again => rest.retry(),
+            Step::Idle => rest.go_on(rt, plan.sleepers),
             Step::Over => break,
         }
         if matches!(worker.seat.work, Work::Lost) {
             is_wanting.store(true, Ordering::SeqCst);
         }
     }
+    plan.sleepers.notify_all();
 }
 
 // All workers, each in a thread of its own where one can be made.
@@ -148,11 +150,13 @@ fn run_from<S: Setting + Send + Sync, R: Threads + Wait + Sync, G: Gate + Sync>(
         workers,
         &task,
     )?;
+    let sleepers = EventCount::new();
     let plan = Plan {
         code,
         records: &records,
         heartbeat,
         forks,
+        sleepers: &sleepers,
     };
     let mut workers = make_workers(alloc, &plan, passes, task)?;
     work_all(rt, workers.as_mut_slice(), &plan, gate);

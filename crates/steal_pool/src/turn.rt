@@ -72,6 +72,7 @@ impl<S: Setting> Worker<S> {
     {
         if let Some(number) = self.seat.run(plan, task) {
             self.hand_on(number);
+            plan.sleepers.notify_one();
             gate.at(self.number, GateEvent::Opened);
         }
     }
