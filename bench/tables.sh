@@ -1,10 +1,13 @@
 #!/usr/bin/env bash
 # Reading and writing cells of an owned whole table, which was never cut or was cut and put together
-# again, against a plain vector in Rust; and cutting a table of 4,000,000 cells and appending what
+# again, against plain vectors in Rust; and cutting a table of 4,000,000 cells and appending what
 # was cut off against copying its cells once, as ratios of user seconds (user and system for cuts
-# and copies) in one run. Build first: `rt run -- cuts 1` in crates/slices_bench. Each load runs
-# twice, so that starting up falls out, and three times over, of which the least counts. With the
-# path of another build's program as argument its walks are compared too.
+# and copies) in one run. `plain` is a vector in a table that learns its sizes when it runs, as ours
+# does, and tests the row, the column and the index at each cell. `fixed` is one whose sizes stand in
+# the code: there rustc takes every test out, and makes the walk along rows a vector loop.
+# Build first: `rt run -- cuts 1` in crates/slices_bench. Each load runs twice, so that starting up
+# falls out, and three times over, of which the least counts. With the path of another build's
+# program as argument its walks are compared too.
 set -eu
 cd "$(dirname "$0")/.."
 program=crates/slices_bench/out/slices_bench
@@ -21,6 +24,7 @@ for walk in access rows columns; do
   ours=$(load "$program" "$walk" "${TIMES:-40}")
   echo "$walk: plain / never cut $(ratio "$plain" "$ours")"
   echo "$walk: plain / cut and joined $(ratio "$plain" "$(load "$program" "cut_$walk" "${TIMES:-40}")")"
+  echo "$walk: fixed / never cut $(ratio "$(load "$twin/tables" "fixed_$walk" "${TIMES:-40}")" "$ours")"
   if [ $# -gt 0 ]; then echo "$walk: other build / never cut $(ratio "$(load "$1" "$walk" "${TIMES:-40}")" "$ours")"; fi
 done
 copy=$(load "$program" copies 20)
