@@ -21,10 +21,11 @@ load() { awk -v a="$(least "$1" "$2" 1)" -v b="$(least "$1" "$2" $(($3 + 1)))" -
 ratio() { awk -v a="$1" -v b="$2" 'BEGIN { printf "%.4f\n", a / b }'; }
 for walk in access rows columns; do
   plain=$(load "$twin/tables" "$walk" "${TIMES:-40}")
+  fixed=$(load "$twin/tables" "fixed_$walk" "${TIMES:-40}")
   ours=$(load "$program" "$walk" "${TIMES:-40}")
-  echo "$walk: plain / never cut $(ratio "$plain" "$ours")"
-  echo "$walk: plain / cut and joined $(ratio "$plain" "$(load "$program" "cut_$walk" "${TIMES:-40}")")"
-  echo "$walk: fixed / never cut $(ratio "$(load "$twin/tables" "fixed_$walk" "${TIMES:-40}")" "$ours")"
+  joined=$(load "$program" "cut_$walk" "${TIMES:-40}")
+  echo "$walk: plain / never cut $(ratio "$plain" "$ours"), fixed $(ratio "$fixed" "$ours")"
+  echo "$walk: plain / cut and joined $(ratio "$plain" "$joined"), fixed $(ratio "$fixed" "$joined")"
   if [ $# -gt 0 ]; then echo "$walk: other build / never cut $(ratio "$(load "$1" "$walk" "${TIMES:-40}")" "$ours")"; fi
 done
 copy=$(load "$program" copies 20)
