@@ -6,3 +6,5 @@ pub mod Following
 pub mod Linking
 -- lists of marks whose positions rise
 pub mod Rising
+-- cells that are moved down, and where a cut's left begins
+pub mod Moving

@@ -8,3 +8,5 @@ pub mod Links
 pub mod Linked
 -- inside: how the kept cells and links stand for the lists
 pub mod View
+-- inside: what is copied where a stack is cut
+pub mod Cuts

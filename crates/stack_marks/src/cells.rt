@@ -46,7 +46,7 @@ static NOTHING: [Word; 64] = [Word::Nil; 64];
 
 /// The cells that a stack has room for once its first ones were too few: so one that a fork makes,
 /// with few cells, grows at once to what most need.
-pub(crate) const FEWEST: usize = 1024;
+const FEWEST: usize = 1024;
 
 impl Stack {
     /// An empty stack. It takes no memory.

@@ -1,12 +1,14 @@
 // A stack cut at an activation.
 
-ghost use Rattle.std.specs.Prelude.{◌≡◌, ◌+◌, ◌≤◌, ◌-◌, [], length, take, drop, filter, nat_le};
+ghost use Rattle.std.specs.Prelude.{◌≡◌, ◌+◌, ◌≤◌, ◌-◌, [], length, take, drop, nat_le};
 ghost use Rattle.std.specs.Prelude.{OnOk, IfOk, IfErr};
+ghost use Rattle.stack_marks.specs.Cuts.{copied};
 ghost use Rattle.stack_marks.specs.Links.{HasLinks};
 ghost use Rattle.stack_marks.specs.Stacks.{IsSound, rest_of, left_of, child_of};
+ghost use Rattle.stack_marks.specs.Stacks.{from_position, left_base};
 ghost use Rattle.stack_marks.specs.Causes.{Holds, CutCause};
 
-use crate::cells::{FEWEST, Stack};
+use crate::cells::Stack;
 use crate::links::Links;
 use crate::mark::StackFault;
 use std::alloc::{AllocError, Global};
@@ -41,113 +43,171 @@ impl Stack {
         if base < self.base || base > top || cells > top - base {
             return Err((self, StackFault::OutOfRange));
         }
-        let left_base = match kind {
-            CutKind::Loop => base,
-            CutKind::Call => base + cells,
-        };
         let low = (base - self.base) as usize;
         let high = low + cells as usize;
-        let from = (left_base - self.base) as usize;
-        match copies(&self, low, high, from, room_of(kind)) {
-            Ok(copies) => Ok(parts(self, copies, base, high, left_base)),
+        let from = start_of(kind, low, high);
+        let at = Places { low, high, from };
+        match copies(&self, at, spare_of(kind)) {
+            Ok(copies) => Ok(parts(self, copies, at)),
             Err(_) => Err((self, StackFault::NoMemory)),
         }
     }
 }
 
-/// All of a cut that takes memory.
-#[derive(Drop)]
-struct CutMemory {
-    child: Vec<Word>,
-    child_links: Links,
-    left: Vec<Word>,
-    rest_links: Links,
-}
-
-/// The cells that the parts of a cut have room for at least: those of a call go on with calls, and
-/// those of a loop seldom push.
-fn room_of(kind: CutKind) -> usize {
+/// Where the left of a cut begins: with the activation, or behind it.
+fn start_of(kind: CutKind, low: usize, high: usize) -> usize
+    requires { low ≤ high }
+    ensures { result ≡ left_base kind low (high - low) }
+{
     match kind {
-        CutKind::Loop => 0,
-        CutKind::Call => FEWEST,
+        CutKind::Loop => low,
+        CutKind::Call => high,
     }
 }
 
-/// A copy of words that has room for so many at least.
-fn copy_of(alloc: Global, words: &[Word], room: usize) -> Result<Vec<Word>, AllocError>
+/// The cells that what is copied of a stack has room for beside its own, so that it needn't grow at
+/// once: a task that goes on behind two calls makes an activation first, one behind a loop none.
+fn spare_of(kind: CutKind) -> usize
+    ensures { result ≤ 64 }
+{
+    match kind {
+        CutKind::Loop => 0,
+        CutKind::Call => 64,
+    }
+}
+
+/// Where a stack of so many cells is cut: the rest has those below `high`, the child those of them
+/// from `low` on, and the left those from `from` on.
+#[derive(Clone, Copy)]
+struct Places {
+    low: usize,
+    high: usize,
+    from: usize,
+}
+
+/// Whether the left stays where the cells are and the rest is copied, or the other way round: what
+/// has fewer cells is copied.
+fn left_stays(len: usize, at: Places) -> bool
+    requires { at.from ≤ len }
+    ensures { result ≡ nat_le at.high (len - at.from) }
+{
+    at.high <= len - at.from
+}
+
+/// All of a cut that takes memory: the child's cells, those of the rest or of the left, and room
+/// for marks.
+#[derive(Drop)]
+struct CutMemory {
+    child: Vec<Word>,
+    part: Vec<Word>,
+    child_links: Links,
+    rest_links: Links,
+}
+
+/// A copy of words that has room for so many more at least.
+fn copy_of(alloc: Global, words: &[Word], spare: usize) -> Result<Vec<Word>, AllocError>
+    requires { spare ≤ 64 }
     ensures { IfOk result (λ copy. copy.items ≡ words.now) }
 {
-    let mut copy = Vec::with_capacity(alloc, words.len().max(room))?;
+    let mut copy = Vec::with_capacity(alloc, words.len() + spare)?;
     copy.extend_from_slice(words)?;
     Ok(copy)
 }
 
-/// CutMemory of the cells from index `low` up to `high` and from `from` on, and room for marks.
-fn copies(
-    stack: &Stack,
-    low: usize,
-    high: usize,
-    from: usize,
-    room: usize,
-) -> Result<CutMemory, AllocError>
-    requires order { (low ≤ high) × (high ≤ length stack.now.cells) }
-    requires within { from ≤ length stack.now.cells }
+/// The memory of a cut at these places.
+fn copies(stack: &Stack, at: Places, spare: usize) -> Result<CutMemory, AllocError>
+    requires order { (at.low ≤ at.high) × (at.high ≤ length stack.now.cells) }
+    requires within { at.from ≤ length stack.now.cells }
+    requires spare { spare ≤ 64 }
     ensures child { IfOk result (λ c.
-        c.child.items ≡ take (high - low) (drop low stack.now.cells)) }
-    ensures left { IfOk result (λ c. c.left.items ≡ drop from stack.now.cells) }
+        c.child.items ≡ take (at.high - at.low) (drop at.low stack.now.cells)) }
+    ensures part { IfOk result (λ c. c.part.items ≡ copied stack.now.cells at) }
     ensures child_links { IfOk result (λ c.
-        HasLinks c.child_links (stack.now.base + low) (high - low)) }
-    ensures rest_links { IfOk result (λ c. HasLinks c.rest_links stack.now.base high) }
+        HasLinks c.child_links (stack.now.base + at.low) (at.high - at.low)) }
+    ensures rest_links { IfOk result (λ c. HasLinks c.rest_links stack.now.base at.high) }
 {
     let alloc = *stack.cells.allocator();
-    let child = copy_of(alloc, &stack.cells[low..high], room)?;
-    let left = copy_of(alloc, &stack.cells[from..], room)?;
-    let child_links = Links::with_room(alloc, stack.base + low as u64, (high - low).max(room))?;
-    let rest_links = Links::with_room(alloc, stack.base, high.max(room))?;
+    let child = copy_of(alloc, &stack.cells[at.low..at.high], 0)?;
+    let part = if left_stays(stack.cells.len(), at) {
+        copy_of(alloc, &stack.cells[..at.high], spare)?
+    } else {
+        copy_of(alloc, &stack.cells[at.from..], spare)?
+    };
+    let child_links = Links::with_room(alloc, stack.base + at.low as u64, at.high - at.low)?;
+    let rest_links = Links::with_room(alloc, stack.base, at.high + spare)?;
     Ok(CutMemory {
         child,
+        part,
         child_links,
-        left,
         rest_links,
     })
 }
 
-/// The parts of a stack, of the copies that were made of it.
-fn parts(stack: Stack, copies: CutMemory, base: u64, high: usize, left_base: u64) -> Cut
-    requires above { (stack.base ≤ base) × (base ≤ left_base) }
-    requires below { (left_base ≤ stack.base + length stack.cells) × (high ≤ length stack.cells) }
-    requires child_size { base + length copies.child.items ≤ stack.base + length stack.cells }
-    requires left { copies.left.items ≡ drop (left_base - stack.base) stack.cells }
-    requires child_links { HasLinks copies.child_links base (length copies.child.items) }
-    requires rest_links { HasLinks copies.rest_links stack.base high }
+/// Moves the cells from an index on down to the first, and drops those below.
+fn lower(cells: &mut Vec<Word>, from: usize)
+    requires { from ≤ length cells.old.items }
+    ensures { cells.new.items ≡ drop from cells.old.items }
+{
+    let len = cells.len() - from;
+    for index in 0..len {
+        cells[index] = cells[from + index];
+    }
+    cells.truncate(len);
+}
+
+/// The cells of the rest and of the left, of a stack's and of the part that was copied of them.
+fn rest_and_left(mut cells: Vec<Word>, part: Vec<Word>, at: Places) -> (Vec<Word>, Vec<Word>)
+    requires order { at.high ≤ length cells.items }
+    requires within { at.from ≤ length cells.items }
+    requires part { part.items ≡ copied cells.items at }
+    ensures rest { result.0.items ≡ take at.high cells.items }
+    ensures left { result.1.items ≡ drop at.from cells.items }
+{
+    if left_stays(cells.len(), at) {
+        lower(&mut cells, at.from);
+        (part, cells)
+    } else {
+        cells.truncate(at.high);
+        (cells, part)
+    }
+}
+
+/// The parts of a stack that is cut at these places, of what was copied of it.
+fn parts(stack: Stack, copies: CutMemory, at: Places) -> Cut
+    requires order { (at.low ≤ at.high) × (at.high ≤ length stack.cells) }
+    requires within { at.from ≤ length stack.cells }
+    requires child { copies.child.items ≡ take (at.high - at.low) (drop at.low stack.cells) }
+    requires part { copies.part.items ≡ copied stack.cells at }
+    requires child_links { HasLinks copies.child_links (stack.base + at.low) (at.high - at.low) }
+    requires rest_links { HasLinks copies.rest_links stack.base at.high }
     ensures rest { result.rest
-        ≡ record { base = stack.base; cells = take high stack.cells; marks = [] } }
-    ensures left { result.left
+        ≡ record { base = stack.base; cells = take at.high stack.cells; marks = [] } }
+    ensures left { result.left ≡ from_position stack (stack.base + at.from) }
+    ensures child { result.child
         ≡ record {
-          base = left_base;
-          cells = copies.left.items;
-          marks = filter
-              (λ m. nat_le left_base m.at) stack.marks;
+          base = stack.base + at.low;
+          cells = take (at.high - at.low) (drop at.low stack.cells);
+          marks = [];
         } }
-    ensures child { result.child ≡ record { base = base; cells = copies.child.items; marks = [] } }
 {
     let CutMemory {
         child,
+        part,
         child_links,
-        left,
         rest_links,
     } = copies;
     let Stack {
         base: lowest,
-        mut cells,
+        cells,
         mut links,
     } = stack;
-    cells.truncate(high);
+    let left_base = lowest + at.from as u64;
     links.keep_from(left_base);
+    let (rest, left) = rest_and_left(cells, part, at);
     Cut {
         rest: Stack {
             base: lowest,
-            cells,
+            cells: rest,
             links: rest_links,
         },
         left: Stack {
@@ -156,7 +216,7 @@ fn parts(stack: Stack, copies: CutMemory, base: u64, high: usize, left_base: u64
             links,
         },
         child: Stack {
-            base,
+            base: lowest + at.low as u64,
             cells: child,
             links: child_links,
         },
