@@ -17,7 +17,7 @@ use Rattle.stack_marks.specs.Stacks.{InOrder}
 use Rattle.stack_marks.specs.Linked.{mark_of, marks_from, bare, link_at, newer_at, older_at}
 use Rattle.stack_marks.specs.Linked.{AreLinked}
 use Rattle.stack_marks.proofs.Rising.{rises, get_or_any, get_or_self, removed_is_filtered}
-use Rattle.stack_marks.proofs.Following.{AreEnds, AreChained, closed}
+use Rattle.stack_marks.proofs.Following.{AreEnds, AreChained, opened, closed}
 use Rattle.stack_marks.proofs.Linking.{no_mark, nth, IsChain, Stands, stands, Place, place, rising}
 use Rattle.stack_marks.proofs.Linking.{same_marks, padded, marked_above, chain_without, chain_added}
 
@@ -343,6 +343,10 @@ padded_linked lowest n ls e s =
       ends = subst (λ ns. AreEnds ns e) (sym (padded lowest n ls)) s.ends;
       chain = subst (IsChain (newer_at lowest new) (older_at lowest new)) (sym (padded lowest n ls)) (λ k h. (ap (λ (z : Link). z.newer) (read k (omega (arith, h))) ∙ (s.chain k h).0, ap (λ (z : Link). z.older) (read (suc k) h) ∙ (s.chain k h).1));
     }
+
+pub padded_are_linked : (lowest n : ℕ) (ls : List Link) (outer : Option Ends) → AreLinked lowest ls outer → AreLinked lowest (ls ++ replicate n bare) outer
+padded_are_linked lowest n ls None e = padded lowest n ls ∙ e
+padded_are_linked lowest n ls (Some e) s = closed lowest (ls ++ replicate n bare) e (padded_linked lowest n ls e (opened lowest ls e s))
 
 -- the links after a mark is added above all others
 pub record IsAdded (lowest : ℕ) (ls new : List Link) (outer : Option Ends) (m : Mark) : Type 0 where

@@ -6,7 +6,7 @@ ghost use Rattle.std.specs.Prelude.{slice_get};
 ghost use Rattle.std.specs.Bool.{OnTrue, OnFalse};
 ghost use Rattle.std.specs.Vec.{vec_capacity};
 ghost use Rattle.stack_marks.specs.Links.{without, from_on};
-ghost use Rattle.stack_marks.specs.Linked.{mark_of, bare};
+ghost use Rattle.stack_marks.specs.Linked.{bare, marks_from, AreLinked};
 ghost use Rattle.stack_marks.specs.Stacks.{InOrder};
 
 use crate::mark::Mark;
@@ -156,6 +156,7 @@ impl Links {
     }
 
     /// Adds a mark above all others, on a cell that there is room for. It takes no memory.
+    #[inline(always)]
     pub(crate) fn add(&mut self, mark: Mark)
         requires lowest { self.old.lowest ≤ mark.at }
         requires room { mark.at < self.old.lowest + self.old.room }
@@ -164,28 +165,37 @@ impl Links {
         ensures room { self.old.room ≤ self.new.room }
         ensures marks { self.new.marks ≡ self.old.marks ++ mark ∷ [] }
     {
-        let index = (mark.at - self.lowest) as usize;
-        fill(&mut self.links, index + 1);
-        match self.ends {
-            None => {
-                self.links[index] = link_of(mark, mark.at);
-                self.ends = Some(Ends {
-                    oldest: mark.at,
-                    newest: mark.at,
-                });
-            }
-            Some(ends) => {
-                self.links[index] = link_of(mark, ends.newest);
-                self.links[(ends.newest - self.lowest) as usize].newer = mark.at;
-                self.ends = Some(Ends {
-                    oldest: ends.oldest,
-                    newest: mark.at,
-                });
-            }
+        if (mark.at - self.lowest) as usize >= self.links.len() {
+            self.add_filling(mark.at, mark.base, mark.cells, mark.split);
+        } else {
+            place(self.lowest, &mut self.links, &mut self.ends, mark);
         }
     }
 
-    /// Takes the mark at a position away, and has its neighbours name each other.
+    /// The same where links may be missing. It stands apart and takes the mark in its parts, so
+    /// that the call that finds the link makes no call and writes no mark to memory.
+    #[inline(never)]
+    fn add_filling(&mut self, at: u64, base: u64, cells: u64, split: u32)
+        requires lowest { self.old.lowest ≤ at }
+        requires room { at < self.old.lowest + self.old.room }
+        requires newest { All (λ other. other.at < at) self.old.marks }
+        ensures lowest { self.new.lowest ≡ self.old.lowest }
+        ensures room { self.old.room ≤ self.new.room }
+        ensures marks { self.new.marks
+            ≡ self.old.marks ++ record { at = at; base = base; cells = cells; split = split } ∷ [] }
+    {
+        let mark = Mark {
+            at,
+            base,
+            cells,
+            split,
+        };
+        fill(&mut self.links, (at - self.lowest) as usize + 1);
+        place(self.lowest, &mut self.links, &mut self.ends, mark);
+    }
+
+    /// Takes the mark at a position away, and has its neighbours name each other. Most marks that
+    /// go are the newest.
     pub(crate) fn take(&mut self, at: u64)
         requires { Any (λ m. m.at ≡ at) self.old.marks }
         ensures { self.new ≡ without self.old at }
@@ -193,22 +203,16 @@ impl Links {
         let index = (at - self.lowest) as usize;
         let link = self.links[index];
         self.links[index].marked = false;
-        match self.ends {
+        match &mut self.ends {
             Some(ends) => {
-                if at == ends.oldest {
-                    if at == ends.newest {
+                if at == ends.newest {
+                    if at == ends.oldest {
                         self.ends = None;
                     } else {
-                        self.ends = Some(Ends {
-                            oldest: link.newer,
-                            newest: ends.newest,
-                        });
+                        ends.newest = link.older;
                     }
-                } else if at == ends.newest {
-                    self.ends = Some(Ends {
-                        oldest: ends.oldest,
-                        newest: link.older,
-                    });
+                } else if at == ends.oldest {
+                    ends.oldest = link.newer;
                 } else {
                     self.links[(link.older - self.lowest) as usize].newer = link.newer;
                     self.links[(link.newer - self.lowest) as usize].older = link.older;
@@ -240,34 +244,39 @@ fn fill(links: &mut Vec<Link>, len: usize)
     ensures room { vec_capacity links.old ≤ vec_capacity links.new }
 {
     if links.len() < len {
-        fill_up(links, len);
+        links.resize(len, BARE).unwrap();
     }
 }
 
-/// The same where some are missing. It stands apart, so that to find none missing is short.
-#[inline(never)]
-fn fill_up(links: &mut Vec<Link>, len: usize)
-    requires room { len ≤ vec_capacity links.old }
-    requires less { length links.old.items < len }
-    ensures items { links.new.items
-        ≡ links.old.items ++ replicate (len - length links.old.items) bare }
+/// Marks a cell above all marked ones that has a link. It writes the link in place, and leaves out
+/// what isn't read of the newest.
+#[inline(always)]
+fn place(lowest: u64, links: &mut Vec<Link>, ends: &mut Option<Ends>, mark: Mark)
+    requires low { lowest ≤ mark.at }
+    requires high { mark.at - lowest < length links.old.items }
+    requires newest { All (λ other. other.at < mark.at) (marks_from lowest links.old.items) }
+    requires linked { AreLinked lowest links.old.items ends.old }
+    ensures linked { AreLinked lowest links.new.items ends.new }
+    ensures marks { marks_from lowest links.new.items
+        ≡ marks_from lowest links.old.items ++ mark ∷ [] }
     ensures room { vec_capacity links.old ≤ vec_capacity links.new }
 {
-    links.resize(len, BARE).unwrap();
-}
-
-/// The link of a cell with a mark, above which there is no other.
-fn link_of(mark: Mark, older: u64) -> Link
-    ensures mark { mark_of mark.at result ≡ mark }
-    ensures marked { result.marked ≡ true }
-    ensures older { result.older ≡ older }
-{
-    Link {
-        base: mark.base,
-        cells: mark.cells,
-        older,
-        newer: mark.at,
-        split: mark.split,
-        marked: true,
+    let link = &mut links[(mark.at - lowest) as usize];
+    link.base = mark.base;
+    link.cells = mark.cells;
+    link.split = mark.split;
+    link.marked = true;
+    match ends {
+        None => {
+            *ends = Some(Ends {
+                oldest: mark.at,
+                newest: mark.at,
+            });
+        }
+        Some(ends) => {
+            link.older = ends.newest;
+            links[(ends.newest - lowest) as usize].newer = mark.at;
+            ends.newest = mark.at;
+        }
     }
 }

@@ -11,6 +11,7 @@ use crate::mark::{Mark, StackFault};
 impl Stack {
     /// Adds a mark, the newest. It is refused where its cells are not in the stack or its cell is
     /// not one of them, then where a mark stands on its cell or above.
+    #[inline(always)]
     pub fn mark(&mut self, mark: Mark) -> Result<(), StackFault>
         ensures marked { OnOk result (self.new ≡ marked self.old mark) }
         ensures inside { OnOk result (HoldsMark self.old mark) }

@@ -167,6 +167,7 @@ fn magnitude(number: i64) -> u64
 }
 
 /// A mark for the work from a position on.
+#[inline(always)]
 #[tactic(auto, using(crate::proofs::Stacks::mark_facts))]
 fn mark_from(frame: &mut Frame, base: u64, off: u16, cells: u16, split: u32) -> Result<(), Fault>
     requires { base < 2 ^ 63 }

@@ -29,7 +29,7 @@ invariant_of-self c =
     let s = c.self.inside in
     let any = subst (λ v. Any (λ m. m.at ≡ c.args.at) v.marks) (sym c.self.view_is) c.requires in
     let linked = opened s.lowest s.links.items c.in-Some.ends (subst (AreLinked s.lowest s.links.items) c.in-Some.is c.self.invariant) in
-    (alone s.lowest s.links.items c.args.at _ c.in-Some.ends linked any c.if-at-ends.true c.if-at-ends-2.true refl).linked
+    (alone s.lowest s.links.items c.args.at _ c.in-Some.ends linked any c.if-at-ends-2.true c.if-at-ends.true refl).linked
 
 pub invariant_of-self-else-at-ends-2 : goal.invariant_of-self-else-at-ends-2
 invariant_of-self-else-at-ends-2 c =
@@ -40,7 +40,7 @@ invariant_of-self-else-at-ends-2 c =
     let f = found s.lowest ls c.args.at any in
     let read : c.index-link.result.now ≡ get_or ls (c.args.at - s.lowest) bare = c.index-link.ensures ∙ link_any ls (c.args.at - s.lowest) c.index-link.result.now bare f.high in
     let same : c.index_mut.result.now ≡ get_or ls (c.args.at - s.lowest) bare = c.index_mut.ensures.value ∙ link_any ls (c.args.at - s.lowest) c.index_mut.result.now bare f.high in
-    (oldest_gone s.lowest ls c.args.at c.index-link.result.now.newer _ c.in-Some.ends linked any c.if-at-ends.true c.if-at-ends-2.false (ap (λ (z : Link). z.newer) read) refl (ap (λ (z : Link). z.newer) same) (ap (λ (z : Link). z.older) same)).linked
+    (newest_gone s.lowest ls c.args.at c.index-link.result.now.older _ c.in-Some.ends linked any c.if-at-ends-2.false c.if-at-ends.true (ap (λ (z : Link). z.older) read) refl (ap (λ (z : Link). z.newer) same) (ap (λ (z : Link). z.older) same)).linked
 
 pub invariant_of-self-then-at-ends-3 : goal.invariant_of-self-then-at-ends-3
 invariant_of-self-then-at-ends-3 c =
@@ -51,7 +51,7 @@ invariant_of-self-then-at-ends-3 c =
     let f = found s.lowest ls c.args.at any in
     let read : c.index-link.result.now ≡ get_or ls (c.args.at - s.lowest) bare = c.index-link.ensures ∙ link_any ls (c.args.at - s.lowest) c.index-link.result.now bare f.high in
     let same : c.index_mut.result.now ≡ get_or ls (c.args.at - s.lowest) bare = c.index_mut.ensures.value ∙ link_any ls (c.args.at - s.lowest) c.index_mut.result.now bare f.high in
-    (newest_gone s.lowest ls c.args.at c.index-link.result.now.older _ c.in-Some.ends linked any c.if-at-ends.false c.if-at-ends-3.true (ap (λ (z : Link). z.older) read) refl (ap (λ (z : Link). z.newer) same) (ap (λ (z : Link). z.older) same)).linked
+    (oldest_gone s.lowest ls c.args.at c.index-link.result.now.newer _ c.in-Some.ends linked any c.if-at-ends-3.true c.if-at-ends.false (ap (λ (z : Link). z.newer) read) refl (ap (λ (z : Link). z.newer) same) (ap (λ (z : Link). z.older) same)).linked
 
 pub overflow_sub-link : goal.overflow_sub-link
 overflow_sub-link c =
@@ -62,7 +62,7 @@ overflow_sub-link c =
     let f = found s.lowest ls c.args.at any in
     let read : c.index-link.result.now ≡ get_or ls (c.args.at - s.lowest) bare = c.index-link.ensures ∙ link_any ls (c.args.at - s.lowest) c.index-link.result.now bare f.high in
     let same : c.index_mut.result.now ≡ get_or ls (c.args.at - s.lowest) bare = c.index_mut.ensures.value ∙ link_any ls (c.args.at - s.lowest) c.index_mut.result.now bare f.high in
-    let n = neighbours s.lowest ls c.args.at c.in-Some.ends linked any c.if-at-ends.false c.if-at-ends-3.false in
+    let n = neighbours s.lowest ls c.args.at c.in-Some.ends linked any c.if-at-ends-3.false c.if-at-ends.false in
     omega (arith, n.older_low, ap (λ (z : Link). z.older) read)
 
 pub index_mut-requires-else-at-ends-3 : goal.index_mut-requires-else-at-ends-3
@@ -74,7 +74,7 @@ index_mut-requires-else-at-ends-3 c =
     let f = found s.lowest ls c.args.at any in
     let read : c.index-link.result.now ≡ get_or ls (c.args.at - s.lowest) bare = c.index-link.ensures ∙ link_any ls (c.args.at - s.lowest) c.index-link.result.now bare f.high in
     let same : c.index_mut.result.now ≡ get_or ls (c.args.at - s.lowest) bare = c.index_mut.ensures.value ∙ link_any ls (c.args.at - s.lowest) c.index_mut.result.now bare f.high in
-    let n = neighbours s.lowest ls c.args.at c.in-Some.ends linked any c.if-at-ends.false c.if-at-ends-3.false in
+    let n = neighbours s.lowest ls c.args.at c.in-Some.ends linked any c.if-at-ends-3.false c.if-at-ends.false in
     omega (arith, n.older_high, ap (λ (z : Link). z.older) read, s.links.ok.0)
 
 pub overflow_sub-link-else-at-ends-3 : goal.overflow_sub-link-else-at-ends-3
@@ -86,7 +86,7 @@ overflow_sub-link-else-at-ends-3 c =
     let f = found s.lowest ls c.args.at any in
     let read : c.index-link.result.now ≡ get_or ls (c.args.at - s.lowest) bare = c.index-link.ensures ∙ link_any ls (c.args.at - s.lowest) c.index-link.result.now bare f.high in
     let same : c.index_mut.result.now ≡ get_or ls (c.args.at - s.lowest) bare = c.index_mut.ensures.value ∙ link_any ls (c.args.at - s.lowest) c.index_mut.result.now bare f.high in
-    let n = neighbours s.lowest ls c.args.at c.in-Some.ends linked any c.if-at-ends.false c.if-at-ends-3.false in
+    let n = neighbours s.lowest ls c.args.at c.in-Some.ends linked any c.if-at-ends-3.false c.if-at-ends.false in
     omega (arith, n.newer_low, ap (λ (z : Link). z.newer) read)
 
 pub index_mut-requires-else-at-ends-3-2 : goal.index_mut-requires-else-at-ends-3-2
@@ -98,7 +98,7 @@ index_mut-requires-else-at-ends-3-2 c =
     let f = found s.lowest ls c.args.at any in
     let read : c.index-link.result.now ≡ get_or ls (c.args.at - s.lowest) bare = c.index-link.ensures ∙ link_any ls (c.args.at - s.lowest) c.index-link.result.now bare f.high in
     let same : c.index_mut.result.now ≡ get_or ls (c.args.at - s.lowest) bare = c.index_mut.ensures.value ∙ link_any ls (c.args.at - s.lowest) c.index_mut.result.now bare f.high in
-    let n = neighbours s.lowest ls c.args.at c.in-Some.ends linked any c.if-at-ends.false c.if-at-ends-3.false in
+    let n = neighbours s.lowest ls c.args.at c.in-Some.ends linked any c.if-at-ends-3.false c.if-at-ends.false in
     omega (arith, n.newer_high, ap (λ (z : Link). z.newer) read, s.links.ok.0)
 
 pub invariant_of-self-else-at-ends-3 : goal.invariant_of-self-else-at-ends-3
@@ -110,7 +110,7 @@ invariant_of-self-else-at-ends-3 c =
     let f = found s.lowest ls c.args.at any in
     let read : c.index-link.result.now ≡ get_or ls (c.args.at - s.lowest) bare = c.index-link.ensures ∙ link_any ls (c.args.at - s.lowest) c.index-link.result.now bare f.high in
     let same : c.index_mut.result.now ≡ get_or ls (c.args.at - s.lowest) bare = c.index_mut.ensures.value ∙ link_any ls (c.args.at - s.lowest) c.index_mut.result.now bare f.high in
-    let n = neighbours s.lowest ls c.args.at c.in-Some.ends linked any c.if-at-ends.false c.if-at-ends-3.false in
+    let n = neighbours s.lowest ls c.args.at c.in-Some.ends linked any c.if-at-ends-3.false c.if-at-ends.false in
     let first : List Link = set ls (c.args.at - s.lowest) (record { base = c.index_mut.result.now.base; cells = c.index_mut.result.now.cells; older = c.index_mut.result.now.older; newer = c.index_mut.result.now.newer; split = c.index_mut.result.now.split; marked = false }) in
     let long : length first ≡ length ls = length-set ls (c.args.at - s.lowest) (record { base = c.index_mut.result.now.base; cells = c.index_mut.result.now.cells; older = c.index_mut.result.now.older; newer = c.index_mut.result.now.newer; split = c.index_mut.result.now.split; marked = false }) in
     let a = c.index-link.result.now.older in
@@ -121,10 +121,10 @@ invariant_of-self-else-at-ends-3 c =
     let long2 : length second ≡ length first = length-set first (a - s.lowest) la in
     let b_high : b - s.lowest < length second = omega (arith, long, long2, n.newer_high, ap (λ (z : Link). z.newer) read) in
     let lb : Link = with_older c.index_mut-else-at-ends-3-2.result.now a in
-    let t = between_gone s.lowest ls c.args.at a b (record { base = c.index_mut.result.now.base; cells = c.index_mut.result.now.cells; older = c.index_mut.result.now.older; newer = c.index_mut.result.now.newer; split = c.index_mut.result.now.split; marked = false }) la lb c.in-Some.ends linked any c.if-at-ends.false c.if-at-ends-3.false (ap (λ (z : Link). z.older) read) (ap (λ (z : Link). z.newer) read) refl (ap (λ (z : Link). z.newer) same) (ap (λ (z : Link). z.older) same)
+    let t = between_gone s.lowest ls c.args.at a b (record { base = c.index_mut.result.now.base; cells = c.index_mut.result.now.cells; older = c.index_mut.result.now.older; newer = c.index_mut.result.now.newer; split = c.index_mut.result.now.split; marked = false }) la lb c.in-Some.ends linked any c.if-at-ends-3.false c.if-at-ends.false (ap (λ (z : Link). z.older) read) (ap (λ (z : Link). z.newer) read) refl (ap (λ (z : Link). z.newer) same) (ap (λ (z : Link). z.older) same)
     (ap (λ (z : Link). with_newer z b) (c.index_mut-else-at-ends-3.ensures.value ∙ link_any first (a - s.lowest) c.index_mut-else-at-ends-3.result.now bare a_high))
     (ap (λ (z : Link). with_older z a) (c.index_mut-else-at-ends-3-2.ensures.value ∙ link_any second (b - s.lowest) c.index_mut-else-at-ends-3-2.result.now bare b_high)) in
-    subst (AreLinked s.lowest (set second (b - s.lowest) lb)) (sym c.in-Some.is) t.linked
+    t.linked
 
 pub returns-then-at-ends-2 : goal.returns-then-at-ends-2
 returns-then-at-ends-2 c =
@@ -132,7 +132,7 @@ returns-then-at-ends-2 c =
     let ls = s.links.items in
     let any = subst (λ v. Any (λ m. m.at ≡ c.args.at) v.marks) (sym c.self.view_is) c.requires in
     let linked = opened s.lowest ls c.in-Some.ends (subst (AreLinked s.lowest ls) c.in-Some.is c.self.invariant) in
-    let t = alone s.lowest ls c.args.at (record { base = c.index_mut.result.now.base; cells = c.index_mut.result.now.cells; older = c.index_mut.result.now.older; newer = c.index_mut.result.now.newer; split = c.index_mut.result.now.split; marked = false }) c.in-Some.ends linked any c.if-at-ends.true c.if-at-ends-2.true refl in
+    let t = alone s.lowest ls c.args.at (record { base = c.index_mut.result.now.base; cells = c.index_mut.result.now.cells; older = c.index_mut.result.now.older; newer = c.index_mut.result.now.newer; split = c.index_mut.result.now.split; marked = false }) c.in-Some.ends linked any c.if-at-ends-2.true c.if-at-ends.true refl in
     (λ i. record { lowest = s.lowest; room = vec_capacity s.links; marks = t.marks i }) ∙ ap (λ v. without v c.args.at) c.self.view_is
 
 pub returns-else-at-ends-2 : goal.returns-else-at-ends-2
@@ -144,7 +144,7 @@ returns-else-at-ends-2 c =
     let f = found s.lowest ls c.args.at any in
     let read : c.index-link.result.now ≡ get_or ls (c.args.at - s.lowest) bare = c.index-link.ensures ∙ link_any ls (c.args.at - s.lowest) c.index-link.result.now bare f.high in
     let same : c.index_mut.result.now ≡ get_or ls (c.args.at - s.lowest) bare = c.index_mut.ensures.value ∙ link_any ls (c.args.at - s.lowest) c.index_mut.result.now bare f.high in
-    let t = oldest_gone s.lowest ls c.args.at c.index-link.result.now.newer (record { base = c.index_mut.result.now.base; cells = c.index_mut.result.now.cells; older = c.index_mut.result.now.older; newer = c.index_mut.result.now.newer; split = c.index_mut.result.now.split; marked = false }) c.in-Some.ends linked any c.if-at-ends.true c.if-at-ends-2.false (ap (λ (z : Link). z.newer) read) refl (ap (λ (z : Link). z.newer) same) (ap (λ (z : Link). z.older) same) in
+    let t = newest_gone s.lowest ls c.args.at c.index-link.result.now.older (record { base = c.index_mut.result.now.base; cells = c.index_mut.result.now.cells; older = c.index_mut.result.now.older; newer = c.index_mut.result.now.newer; split = c.index_mut.result.now.split; marked = false }) c.in-Some.ends linked any c.if-at-ends-2.false c.if-at-ends.true (ap (λ (z : Link). z.older) read) refl (ap (λ (z : Link). z.newer) same) (ap (λ (z : Link). z.older) same) in
     (λ i. record { lowest = s.lowest; room = vec_capacity s.links; marks = t.marks i }) ∙ ap (λ v. without v c.args.at) c.self.view_is
 
 pub returns-then-at-ends-3 : goal.returns-then-at-ends-3
@@ -156,7 +156,7 @@ returns-then-at-ends-3 c =
     let f = found s.lowest ls c.args.at any in
     let read : c.index-link.result.now ≡ get_or ls (c.args.at - s.lowest) bare = c.index-link.ensures ∙ link_any ls (c.args.at - s.lowest) c.index-link.result.now bare f.high in
     let same : c.index_mut.result.now ≡ get_or ls (c.args.at - s.lowest) bare = c.index_mut.ensures.value ∙ link_any ls (c.args.at - s.lowest) c.index_mut.result.now bare f.high in
-    let t = newest_gone s.lowest ls c.args.at c.index-link.result.now.older (record { base = c.index_mut.result.now.base; cells = c.index_mut.result.now.cells; older = c.index_mut.result.now.older; newer = c.index_mut.result.now.newer; split = c.index_mut.result.now.split; marked = false }) c.in-Some.ends linked any c.if-at-ends.false c.if-at-ends-3.true (ap (λ (z : Link). z.older) read) refl (ap (λ (z : Link). z.newer) same) (ap (λ (z : Link). z.older) same) in
+    let t = oldest_gone s.lowest ls c.args.at c.index-link.result.now.newer (record { base = c.index_mut.result.now.base; cells = c.index_mut.result.now.cells; older = c.index_mut.result.now.older; newer = c.index_mut.result.now.newer; split = c.index_mut.result.now.split; marked = false }) c.in-Some.ends linked any c.if-at-ends-3.true c.if-at-ends.false (ap (λ (z : Link). z.newer) read) refl (ap (λ (z : Link). z.newer) same) (ap (λ (z : Link). z.older) same) in
     (λ i. record { lowest = s.lowest; room = vec_capacity s.links; marks = t.marks i }) ∙ ap (λ v. without v c.args.at) c.self.view_is
 
 pub returns-else-at-ends-3 : goal.returns-else-at-ends-3
@@ -168,7 +168,7 @@ returns-else-at-ends-3 c =
     let f = found s.lowest ls c.args.at any in
     let read : c.index-link.result.now ≡ get_or ls (c.args.at - s.lowest) bare = c.index-link.ensures ∙ link_any ls (c.args.at - s.lowest) c.index-link.result.now bare f.high in
     let same : c.index_mut.result.now ≡ get_or ls (c.args.at - s.lowest) bare = c.index_mut.ensures.value ∙ link_any ls (c.args.at - s.lowest) c.index_mut.result.now bare f.high in
-    let n = neighbours s.lowest ls c.args.at c.in-Some.ends linked any c.if-at-ends.false c.if-at-ends-3.false in
+    let n = neighbours s.lowest ls c.args.at c.in-Some.ends linked any c.if-at-ends-3.false c.if-at-ends.false in
     let first : List Link = set ls (c.args.at - s.lowest) (record { base = c.index_mut.result.now.base; cells = c.index_mut.result.now.cells; older = c.index_mut.result.now.older; newer = c.index_mut.result.now.newer; split = c.index_mut.result.now.split; marked = false }) in
     let long : length first ≡ length ls = length-set ls (c.args.at - s.lowest) (record { base = c.index_mut.result.now.base; cells = c.index_mut.result.now.cells; older = c.index_mut.result.now.older; newer = c.index_mut.result.now.newer; split = c.index_mut.result.now.split; marked = false }) in
     let a = c.index-link.result.now.older in
@@ -179,7 +179,7 @@ returns-else-at-ends-3 c =
     let long2 : length second ≡ length first = length-set first (a - s.lowest) la in
     let b_high : b - s.lowest < length second = omega (arith, long, long2, n.newer_high, ap (λ (z : Link). z.newer) read) in
     let lb : Link = with_older c.index_mut-else-at-ends-3-2.result.now a in
-    let t = between_gone s.lowest ls c.args.at a b (record { base = c.index_mut.result.now.base; cells = c.index_mut.result.now.cells; older = c.index_mut.result.now.older; newer = c.index_mut.result.now.newer; split = c.index_mut.result.now.split; marked = false }) la lb c.in-Some.ends linked any c.if-at-ends.false c.if-at-ends-3.false (ap (λ (z : Link). z.older) read) (ap (λ (z : Link). z.newer) read) refl (ap (λ (z : Link). z.newer) same) (ap (λ (z : Link). z.older) same)
+    let t = between_gone s.lowest ls c.args.at a b (record { base = c.index_mut.result.now.base; cells = c.index_mut.result.now.cells; older = c.index_mut.result.now.older; newer = c.index_mut.result.now.newer; split = c.index_mut.result.now.split; marked = false }) la lb c.in-Some.ends linked any c.if-at-ends-3.false c.if-at-ends.false (ap (λ (z : Link). z.older) read) (ap (λ (z : Link). z.newer) read) refl (ap (λ (z : Link). z.newer) same) (ap (λ (z : Link). z.older) same)
     (ap (λ (z : Link). with_newer z b) (c.index_mut-else-at-ends-3.ensures.value ∙ link_any first (a - s.lowest) c.index_mut-else-at-ends-3.result.now bare a_high))
     (ap (λ (z : Link). with_older z a) (c.index_mut-else-at-ends-3-2.ensures.value ∙ link_any second (b - s.lowest) c.index_mut-else-at-ends-3-2.result.now bare b_high)) in
     (λ i. record { lowest = s.lowest; room = vec_capacity s.links; marks = t.marks i }) ∙ ap (λ v. without v c.args.at) c.self.view_is
