@@ -12,7 +12,7 @@ for i = 0, n - 1 do
   end
 end
 first[n] = k
-for turn = 1, 4 do
+for turn = 1, 40 do
   for i = 0, n - 1 do
     local s = 0
     for p = first[i], first[i + 1] - 1 do s = s + value[p] * x[column[p]] end

@@ -9,7 +9,7 @@ def main():
             column.append((i + j * 13) % n)
             value.append((i + j) % 5)
         first.append(len(column))
-    for _ in range(4):
+    for _ in range(40):
         for i in range(n):
             s = 0
             for p in range(first[i], first[i + 1]):

@@ -14,7 +14,7 @@ fn main() {
         first.push(column.len());
     }
     let mut y = vec![0_i64; n as usize];
-    for _turn in 0..4 {
+    for _turn in 0..40 {
         for i in 0..n as usize {
             let mut s = 0_i64;
             for p in first[i]..first[i + 1] {
