@@ -5,7 +5,7 @@ ghost use Rattle.expr_lower.specs.Registers.{last_left};
 ghost use Rattle.expr_lower.specs.Bodies.{below_test, row_test, col_test, range_tests, cell_read};
 
 use crate::registers::{LAST_LEFT, Places};
-use tp_value::NoMemory;
+use tp_value::{NoMemory, Place};
 use tpal_syntax::{Alu, Instr, Value};
 
 // Appends a trap where the row or the column is below 0.
@@ -93,60 +93,76 @@ pub fn push_range_tests(
     push_col_test(body, table, col, test, trap)
 }
 
-// Appends the tests in the registers where the instructions of the row and the column leave them,
-// and these instructions once more.
-fn push_tests_in_place(
-    body: &mut Vec<Instr>,
-    table: u8,
-    at: Places,
-    row: &[Instr],
-    col: &[Instr],
-    trap: u32,
-) -> Result<(), NoMemory>
-    requires { at.to ≤ last_left }
-    ensures { OnOk result
-        (body.new.items
-        ≡ body.old.items
-        ++ (below_test at.left at.right (at.to + 1) trap
-        ++ (row_test table at.left (at.to + 1) trap
-        ++ (col.now ++ (col_test table at.right at.to trap ++ (row.now ++ col.now)))))) }
-{
-    push_below_test(body, at.left, at.right, at.to + 1, trap)?;
-    push_row_test(body, table, at.left, at.to + 1, trap)?;
-    body.extend_from_slice(col)?;
-    push_col_test(body, table, at.right, at.to, trap)?;
-    body.extend_from_slice(row)?;
-    body.extend_from_slice(col)?;
-    Ok(())
+/// The read of a cell: where the table's name stands, its number, the registers, and the
+/// instructions of the row and of the column, behind which these stand in their registers.
+#[derive(Clone, Copy)]
+pub struct CellRead<'a> {
+    pub place: Place,
+    pub table: u8,
+    pub at: Places,
+    pub row: &'a [Instr],
+    pub col: &'a [Instr],
 }
 
-/// Appends the instructions that read a cell. Those of its row and its column, behind which these
-/// stand in their registers, are given.
-pub fn push_cell_read(
-    body: &mut Vec<Instr>,
-    table: u8,
-    at: Places,
-    row: &[Instr],
-    col: &[Instr],
-    trap: u32,
-) -> Result<(), NoMemory>
-    requires { at.to ≤ last_left }
-    ensures { OnOk result
-        (body.new.items
-        ≡ body.old.items ++ cell_read table at.to at.left at.right row.now col.now trap) }
-{
-    body.extend_from_slice(row)?;
-    body.extend_from_slice(col)?;
-    if at.to < LAST_LEFT {
-        push_range_tests(body, table, at.left, at.right, at.to + 2, trap)?;
-    } else {
-        push_tests_in_place(body, table, at, row, col, trap)?;
+impl CellRead<'_> {
+    // Appends the tests in the registers where the instructions of the row and the column leave
+    // them, and these instructions once more.
+    fn push_tests_in_place(self, body: &mut Vec<Instr>, trap: u32) -> Result<(), NoMemory>
+        requires { self.at.to ≤ last_left }
+        ensures { OnOk result
+            (body.new.items
+            ≡ body.old.items
+            ++ (below_test self.entry.at.left self.entry.at.right (self.entry.at.to + 1) trap
+            ++ (row_test self.entry.table self.entry.at.left (self.entry.at.to + 1) trap
+            ++ (self.entry.col.now
+            ++ (col_test self.entry.table self.entry.at.right self.entry.at.to trap
+            ++ (self.entry.row.now ++ self.entry.col.now)))))) }
+    {
+        let CellRead {
+            table,
+            at,
+            row,
+            col,
+            ..
+        } = self;
+        push_below_test(body, at.left, at.right, at.to + 1, trap)?;
+        push_row_test(body, table, at.left, at.to + 1, trap)?;
+        body.extend_from_slice(col)?;
+        push_col_test(body, table, at.right, at.to, trap)?;
+        body.extend_from_slice(row)?;
+        body.extend_from_slice(col)?;
+        Ok(())
     }
-    body.push(Instr::Fetch {
-        to: at.to,
-        table,
-        row: at.left,
-        col: at.right,
-    })?;
-    Ok(())
+
+    /// Appends the instructions that read the cell.
+    pub fn push_read(self, body: &mut Vec<Instr>, trap: u32) -> Result<(), NoMemory>
+        requires { self.at.to ≤ last_left }
+        ensures { OnOk result
+            (body.new.items
+            ≡ body.old.items
+            ++ cell_read self.entry.table self.entry.at.to self.entry.at.left self.entry.at.right
+            self.entry.row.now self.entry.col.now trap) }
+    {
+        let CellRead {
+            table,
+            at,
+            row,
+            col,
+            ..
+        } = self;
+        body.extend_from_slice(row)?;
+        body.extend_from_slice(col)?;
+        if at.to < LAST_LEFT {
+            push_range_tests(body, table, at.left, at.right, at.to + 2, trap)?;
+        } else {
+            self.push_tests_in_place(body, trap)?;
+        }
+        body.push(Instr::Fetch {
+            to: at.to,
+            table,
+            row: at.left,
+            col: at.right,
+        })?;
+        Ok(())
+    }
 }

@@ -23,7 +23,7 @@ ghost use Rattle.expr_lower.specs.Nodes.{IsNode, operation_height, operation_tra
 ghost use Rattle.expr_lower.specs.Scopes.{IsIn, home_of, offset_of, register_of};
 ghost use Rattle.expr_lower.specs.Standing.{AreAt};
 
-use crate::cells::push_cell_read;
+use crate::cells::CellRead;
 use crate::operators::{can_trap, literal, push_negation, push_operation};
 use crate::registers::{BASE, Places};
 use crate::scope::{Scope, home_of, offset_of, register_of, table_number};
@@ -91,66 +91,77 @@ fn push_variable(body: &mut Vec<Instr>, scope: &Scope, name: &[u8], to: u8) -> R
     Ok(())
 }
 
-// Appends the instructions that read a cell, and its trap block. Those of its row and of its column
-// are given.
+// Appends the instructions that read a cell, and its trap block.
 fn push_cell(
     alloc: Global,
     body: &mut Vec<Instr>,
     traps: &mut Vec<Block>,
     first: u32,
-    at: Places,
-    name: &Name,
-    table: u8,
-    row: &[Instr],
-    col: &[Instr],
+    cell: CellRead,
 ) -> Result<(), NoMemory>
-    requires registers { at.to ≤ last_left }
+    requires registers { cell.at.to ≤ last_left }
     requires labels { first + length traps.old.items < 2 ^ 32 }
     ensures body { OnOk result
         (body.new.items
         ≡ body.old.items
-        ++ cell_read table at.to at.left at.right row.now col.now
-        (first + length traps.old.items)) }
+        ++ cell_read cell.entry.table cell.entry.at.to cell.entry.at.left cell.entry.at.right
+        cell.entry.row.now cell.entry.col.now (first + length traps.old.items)) }
     ensures traps { OnOk result
         (traps.new.items
-        ≡ traps.old.items ++ trap_block (first + length traps.old.items) Index name.now.place
+        ≡ traps.old.items ++ trap_block (first + length traps.old.items) Index cell.entry.place
         ∷ []) }
     ensures count { OnOk result (length traps.new.items ≡ length traps.old.items + 1) }
 {
     let trap = first + traps.len() as u32;
-    push_trap(alloc, traps, trap, TrapKind::Index, name.place)?;
-    push_cell_read(body, table, at, row, col, trap)
+    push_trap(alloc, traps, trap, TrapKind::Index, cell.place)?;
+    cell.push_read(body, trap)
 }
 
-// Appends the instructions of an operator behind those of its left operand, and its trap block if
-// it has one. The instructions of the right operand are given, and its number where it is a
-// literal.
+// An operator behind the instructions of its left operand: where it stands, the registers, the
+// instructions of the right operand, and its number where it is a literal.
+#[derive(Clone, Copy)]
+struct Operator<'a> {
+    op: BinOp,
+    place: Place,
+    at: Places,
+    right: &'a [Instr],
+    number: Option<i64>,
+}
+
+// Appends the instructions of an operator, and its trap block if it has one.
 fn push_operator(
     alloc: Global,
     body: &mut Vec<Instr>,
     traps: &mut Vec<Block>,
     first: u32,
-    at: Places,
-    op: BinOp,
-    place: Place,
-    right: &[Instr],
-    number: Option<i64>,
+    operator: Operator,
 ) -> Result<(), NoMemory>
-    requires registers { at.to ≤ last_left }
+    requires registers { operator.at.to ≤ last_left }
     requires labels { first + length traps.old.items < 2 ^ 32 }
     ensures body { OnOk result
         (body.new.items
         ≡ body.old.items
-        ++ operation op at.to at.left at.right right.now number
+        ++ operation operator.entry.op operator.entry.at.to operator.entry.at.left
+        operator.entry.at.right operator.entry.right.now operator.entry.number
         (first + length traps.old.items)) }
     ensures traps { OnOk result
         (traps.new.items
         ≡ traps.old.items
-        ++ (if can_trap op number then trap_block (first + length traps.old.items) Divide place
-        ∷ [] else [])) }
+        ++ (if can_trap operator.entry.op operator.entry.number
+        then trap_block (first + length traps.old.items) Divide operator.entry.place ∷ []
+        else [])) }
     ensures count { OnOk result
-        (length traps.new.items ≡ length traps.old.items + (if can_trap op number then 1 else 0)) }
+        (length traps.new.items
+        ≡ length traps.old.items
+        + (if can_trap operator.entry.op operator.entry.number then 1 else 0)) }
 {
+    let Operator {
+        op,
+        place,
+        at,
+        right,
+        number,
+    } = operator;
     let trap = first + traps.len() as u32;
     push_operation(body, op, at, right, number, trap)?;
     if can_trap(op, number) {
@@ -225,19 +236,15 @@ pub fn push_binary(
     let left = push_operand(alloc, body, traps, operation.left, scope, at)?;
     let mut code = Vec::new(alloc);
     let right = push_operand(alloc, &mut code, traps, operation.right, scope, above(at))?;
-    let places = Places { to, left, right };
     let number = literal(operation.right);
-    push_operator(
-        alloc,
-        body,
-        traps,
-        first,
-        places,
-        operation.operator,
-        operation.place,
-        &code,
+    let operator = Operator {
+        op: operation.operator,
+        place: operation.place,
+        at: Places { to, left, right },
+        right: &code,
         number,
-    )?;
+    };
+    push_operator(alloc, body, traps, first, operator)?;
     Ok(())
 }
 
@@ -279,9 +286,14 @@ pub fn push_expr(
             let left = push_operand(alloc, &mut row, traps, i, scope, at)?;
             let mut col = Vec::new(alloc);
             let right = push_operand(alloc, &mut col, traps, j, scope, above(at))?;
-            let places = Places { to, left, right };
-            let table = table_number(scope, name.text.as_slice());
-            push_cell(alloc, body, traps, first, places, name, table, &row, &col)?;
+            let cell = CellRead {
+                place: name.place,
+                table: table_number(scope, name.text.as_slice()),
+                at: Places { to, left, right },
+                row: &row,
+                col: &col,
+            };
+            push_cell(alloc, body, traps, first, cell)?;
         }
         Expr::Rows(name) => {
             let table = table_number(scope, name.text.as_slice());
