@@ -1,6 +1,7 @@
 -- How many trap blocks an expression of some height can have.
 use Rattle.std.proofs.Common.{ℕ, suc, ◌+◌, ◌^◌, ◌<◌, ◌≤◌, Bool, true, false, cond, max, arith, lit≤}
 use Rattle.std.proofs.Math.Nat.{le-max_left, le-max_right, pow-suc, pow-le-pow_right}
+use Rattle.loop_syntax.specs.declared.BinOp.{BinOp}
 use Rattle.loop_syntax.specs.declared.Expr.{Expr}
 use Rattle.loop_syntax.specs.declared.Expr.TheVariants.{Int, Var, Cell', Rows, Cols, Neg', Bin'}
 use Rattle.loop_rules.specs.Limits.{height}
@@ -27,3 +28,15 @@ few (Bin' o place p a q b) = both (trap_count a) (trap_count b) (height a) (heig
 -- an expression that is evaluated in registers has fewer than 2^24
 pub few_traps : (e : Expr) (to : ℕ) → to + height e ≤ 24 → trap_count e < 16777216
 few_traps e to within = omega (arith, few e, pow-le-pow_right {n = 2} (lit≤ tt) {i = height e} {j = 24} (omega arith))
+
+-- so have two with an operator over them
+pub few_with_operator : (op : BinOp) (a b : Expr) (to : ℕ)
+    → to + suc (max (height a) (height b)) ≤ 24
+    → trap_count a + trap_count b + cond (can_trap op (literal b)) 1 0 < 16777216
+few_with_operator op a b to within =
+    omega (
+      arith,
+      both (trap_count a) (trap_count b) (height a) (height b)
+          (cond (can_trap op (literal b)) 1 0) (few a) (few b) (at_most_one (can_trap op (literal b))),
+      pow-le-pow_right {n = 2} (lit≤ tt) {i = suc (max (height a) (height b))} {j = 24} (omega arith),
+    )

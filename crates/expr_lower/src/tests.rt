@@ -166,6 +166,30 @@ const BEGIN: [Instr; 9] = [
     },
 ];
 
+// register 0, the value in register `to` and x are printed
+fn shows(to: u8) -> [Instr; 4] {
+    [
+        Instr::Print(0),
+        Instr::Print(to),
+        Instr::Load {
+            to: 0,
+            base: 31,
+            off: 2,
+        },
+        Instr::Print(0),
+    ]
+}
+
+// the code of these blocks
+fn with_tables(g: Global, blocks: Vec<Block>) -> Made<Option<Code>>
+    ensures { IfOk result (λ made. IfSome made (λ code. length code.tables ≡ 2)) }
+{
+    let mut tables = Vec::new(g);
+    tables.push(CodeTable::Input(Items::new(b"a".to_vec(g)?)))?;
+    tables.push(CodeTable::Input(Items::new(b"b".to_vec(g)?)))?;
+    Code::new(g, tables, blocks)
+}
+
 // the code that evaluates into register `to`, and prints register 0, the value and x
 fn code_of(g: Global, expr: &Expr, to: u8) -> Made<Option<Code>>
     requires { to + height expr.now ≤ 24 }
@@ -176,21 +200,8 @@ fn code_of(g: Global, expr: &Expr, to: u8) -> Made<Option<Code>>
     let mut blocks = Vec::new(g);
     blocks.push(block(g, b"begin", &BEGIN, Term::Jump(Value::Label(1)))?)?;
     blocks.append(&mut lowered)?;
-    let shows = [
-        Instr::Print(0),
-        Instr::Print(to),
-        Instr::Load {
-            to: 0,
-            base: 31,
-            off: 2,
-        },
-        Instr::Print(0),
-    ];
-    blocks.push(block(g, b"shows", &shows, Term::Halt)?)?;
-    let mut tables = Vec::new(g);
-    tables.push(CodeTable::Input(Items::new(b"a".to_vec(g)?)))?;
-    tables.push(CodeTable::Input(Items::new(b"b".to_vec(g)?)))?;
-    Code::new(g, tables, blocks)
+    blocks.push(block(g, b"shows", &shows(to), Term::Halt)?)?;
+    with_tables(g, blocks)
 }
 
 fn tables_of(g: Global) -> Made<Vec<Held>>
@@ -202,13 +213,12 @@ fn tables_of(g: Global) -> Made<Vec<Held>>
     Ok(tables)
 }
 
-// what the run of an expression comes to
-fn outcome_at(g: Global, expr: Expr, to: u8) -> Made<Option<Outcome>>
-    requires { to + height expr ≤ 24 }
+// what the run of a code comes to
+fn outcome_of(g: Global, code: Option<Code>) -> Made<Option<Outcome>>
+    requires { IfSome code (λ code. length code.tables ≡ 2) }
 {
-    let code = match code_of(g, &expr, to)? {
-        Some(code) => code,
-        None => return Ok(None),
+    let Some(code) = code else {
+        return Ok(None);
     };
     let task = Task::first(g, &code, tables_of(g)?, 100)?;
     match run_task(task, &code, PACE, 1000).turn {
@@ -220,6 +230,13 @@ fn outcome_at(g: Global, expr: Expr, to: u8) -> Made<Option<Outcome>>
         | Turn::Stuck { .. } => Ok(None),
         Turn::NoMemory => Err(NoMemory),
     }
+}
+
+// what the run of an expression comes to
+fn outcome_at(g: Global, expr: Expr, to: u8) -> Made<Option<Outcome>>
+    requires { to + height expr ≤ 24 }
+{
+    outcome_of(g, code_of(g, &expr, to)?)
 }
 
 fn is_printed(outcome: Option<Outcome>, text: &[u8]) -> bool {
@@ -562,6 +579,66 @@ fn the_first_of_two_traps(rt: HostRuntime) -> Result<(), Fail> {
     assert!(rt; traps(g, with_cell, TrapKind::Divide, at(1, 3))?);
     let in_index = cell(g, int(9), one_by_zero(g, at(1, 7))?)?;
     assert!(rt; traps(g, in_index, TrapKind::Divide, at(1, 7))?);
+    Ok(())
+}
+
+// ---- operations that are nodes of no tree
+
+// a block with an operation, whose sign stands at 2:2, and its trap blocks
+fn blocks_of_two(g: Global, op: BinOp, left: &Expr, right: &Expr) -> Made<Vec<Block>>
+    requires left { height left.now ≤ 3 }
+    requires right { height right.now ≤ 3 }
+{
+    let operation = Operation {
+        operator: op,
+        place: at(2, 2),
+        left,
+        right,
+    };
+    let scope = scope(g)?;
+    let mut body = BEGIN.to_vec(g)?;
+    let mut traps = Vec::new(g);
+    let site = Site { to: 1, first: 1 };
+    push_binary(g, &mut body, &mut traps, operation, &scope, site)?;
+    body.extend_from_slice(&shows(1))?;
+    let mut blocks = Vec::new(g);
+    blocks.push(block(g, b"begin", &body, Term::Halt)?)?;
+    blocks.append(&mut traps)?;
+    Ok(blocks)
+}
+
+// what the run of an operation comes to
+fn outcome_of_two(g: Global, op: BinOp, left: &Expr, right: &Expr) -> Made<Option<Outcome>>
+    requires left { height left.now ≤ 3 }
+    requires right { height right.now ≤ 3 }
+{
+    let blocks = blocks_of_two(g, op, left, right)?;
+    outcome_of(g, with_tables(g, blocks)?)
+}
+
+fn comes_to(g: Global, op: BinOp, left: &Expr, right: &Expr, text: &[u8]) -> Made<bool>
+    requires left { height left.now ≤ 3 }
+    requires right { height right.now ≤ 3 }
+{
+    Ok(is_printed(outcome_of_two(g, op, left, right)?, text))
+}
+
+#[test]
+fn operators_over_two_expressions(rt: HostRuntime) -> Result<(), Fail> {
+    let g = rt.alloc();
+    let x = var(g, b"x")?;
+    let y = var(g, b"y")?;
+    let w = var(g, b"w")?;
+    let sum = of_two(g, BinOp::Add, b"w", b"x")?;
+    assert!(rt; comes_to(g, BinOp::Add, &x, &x, b"111\n14\n7\n")?);
+    assert!(rt; comes_to(g, BinOp::Sub, &w, &x, b"111\n33\n7\n")?);
+    assert!(rt; comes_to(g, BinOp::Mul, &sum, &y, b"111\n-235\n7\n")?);
+    assert!(rt; comes_to(g, BinOp::Div, &sum, &int(2), b"111\n23\n7\n")?);
+    assert!(rt; comes_to(g, BinOp::Rem, &x, &y, b"111\n2\n7\n")?);
+    assert!(rt; comes_to(g, BinOp::Gt, &sum, &w, b"111\n1\n7\n")?);
+    assert!(rt; comes_to(g, BinOp::Le, &w, &sum, b"111\n1\n7\n")?);
+    let by_zero = outcome_of_two(g, BinOp::Div, &sum, &var(g, b"z")?)?.expect(&rt, "a trap");
+    assert_eq!(rt; by_zero.stop, Stop::Trap(TrapKind::Divide, at(2, 2)));
     Ok(())
 }
 
