@@ -9,3 +9,5 @@ mod meeting;
 mod sleeping;
 #[cfg(test)]
 mod sums;
+#[cfg(test)]
+mod waiting;

@@ -1,15 +1,12 @@
 // Two workers that each wait for a moment of the other, which one thread can't do.
 
 use crate::sums::{COUNT, Plan, is_right, ran};
-use crossbeam_utils::Backoff;
+use crate::waiting::is_set_in_time;
 use std::sync::atomic::{AtomicBool, Ordering};
 use std::test::Fail;
 use steal_pool::{Gate, GateEvent};
 use sum_code::sum_below;
 use tp_value::MAX_FORKS;
-
-/// How long one waits for the other, in turns of a loop that backs off.
-const PATIENCE: u32 = 10_000_000;
 
 /// Worker 0 waits, at its first turn after it has opened a record, for worker 1 to claim a child,
 /// and worker 1 then waits for worker 0 to stand there.
@@ -32,14 +29,9 @@ impl Meeting {
     }
 
     fn wait_for(&self, flag: &AtomicBool) {
-        let backoff = Backoff::new();
-        for _turn in 0..PATIENCE {
-            if flag.load(Ordering::SeqCst) {
-                return;
-            }
-            backoff.snooze();
+        if !is_set_in_time(flag) {
+            self.missed.store(true, Ordering::SeqCst);
         }
-        self.missed.store(true, Ordering::SeqCst);
     }
 
     // Sets one flag and waits for the other, the first time.

@@ -1,6 +1,7 @@
 // A worker that sleeps, and what wakes it.
 
 use crate::sums::{COUNT, Plan, is_right, ran};
+use crate::waiting::{PATIENCE, is_set_in_time};
 use crossbeam_utils::Backoff;
 use std::sync::atomic::{AtomicBool, AtomicU64, Ordering};
 use std::test::Fail;
@@ -8,10 +9,7 @@ use steal_pool::{Gate, GateEvent};
 use sum_code::sum_below;
 use tp_value::MAX_FORKS;
 
-/// How long a worker waits for what the other does, in turns of a loop that backs off.
-const PATIENCE: u32 = 10_000_000;
-
-/// The turns of such a loop within which a worker that is awake begins one of its own.
+/// The turns of a loop that backs off within which a worker that is awake begins one of its own.
 const STILL: u32 = 10_000;
 
 /// Worker 0 begins when worker 1 takes no more turns, and waits, at its first turn after it has
@@ -56,14 +54,9 @@ impl Sleeping {
     }
 
     fn wait_for_claim(&self) {
-        let backoff = Backoff::new();
-        for _turn in 0..PATIENCE {
-            if self.claimed.load(Ordering::SeqCst) {
-                return;
-            }
-            backoff.snooze();
+        if !is_set_in_time(&self.claimed) {
+            self.missed.store(true, Ordering::SeqCst);
         }
-        self.missed.store(true, Ordering::SeqCst);
     }
 }
 
