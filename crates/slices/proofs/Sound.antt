@@ -13,8 +13,9 @@ use Rattle.slices.specs.declared.spans.Span.TheVariants.{Flat, Cut}
 use Rattle.slices.specs.Stored.{store_at, is_open, full_span, HasBelow, IsSound}
 use Rattle.slices.specs.declared.full.Full.{Full}
 use Rattle.slices.specs.declared.store.Store.{Store}
-use Rattle.slices.specs.declared.store.Store.TheVariants.{Whole, Boxed, Owned, Shared}
-use Rattle.slices.specs.declared.store.Store.TheVariants.{SharedWhole, SharedBoxed}
+use Rattle.slices.specs.declared.store.Store.TheVariants.{Whole, Boxed, Parted}
+use Rattle.slices.specs.declared.store.Parts.TheVariants.{Owned, Shared}
+use Rattle.slices.specs.declared.store.First.TheVariants as first
 use Rattle.std.proofs.lemmas.Option.{slice_get-get_or}
 use Rattle.slices.proofs.Slots.{slot-zero, between_in}
 use Rattle.slices.proofs.Flats.{flat_within}
@@ -28,18 +29,18 @@ all_less m n (Cut chunks) h (e, k, l) = (e, omega (arith, h, k), omega (arith, h
 pub sound_less : (m n : ℕ) (s : Store) → m ≤ n → IsSound n s → IsSound m s
 sound_less m n (Whole cells) h k = omega (arith, h, k)
 sound_less m n (Boxed full) h (k, l) = (omega (arith, h, k), omega (arith, h, l))
-sound_less m n (Owned pieces) h k = tt
-sound_less m n (Shared pieces) h k = tt
-sound_less m n (SharedWhole pieces) h (f, k) = (f, all_less m n (arc_value pieces).first h k)
-sound_less m n (SharedBoxed pieces) h (f, k) = (f, all_less m n (arc_value pieces).first h k)
+sound_less m n (Parted (Owned pieces)) h k = tt
+sound_less m n (Parted (Shared pieces first.Open)) h k = tt
+sound_less m n (Parted (Shared pieces first.Flat)) h (f, k) = (f, all_less m n (arc_value pieces).first h k)
+sound_less m n (Parted (Shared pieces first.Boxed)) h (f, k) = (f, all_less m n (arc_value pieces).first h k)
 
 pub open_sound : (n : ℕ) (s : Store) → is_open s ≡ true → IsSound n s
 open_sound n (Whole cells) e = absurd (false≢true e)
 open_sound n (Boxed full) e = absurd (false≢true e)
-open_sound n (Owned pieces) e = tt
-open_sound n (Shared pieces) e = tt
-open_sound n (SharedWhole pieces) e = absurd (false≢true e)
-open_sound n (SharedBoxed pieces) e = absurd (false≢true e)
+open_sound n (Parted (Owned pieces)) e = tt
+open_sound n (Parted (Shared pieces first.Open)) e = tt
+open_sound n (Parted (Shared pieces first.Flat)) e = absurd (false≢true e)
+open_sound n (Parted (Shared pieces first.Boxed)) e = absurd (false≢true e)
 
 pub boxed_there : (n : ℕ) (full : Full) (i : ℕ)
     → HasBelow n full
@@ -100,11 +101,11 @@ pub sound_there : (n : ℕ) (s : Store) (i : ℕ)
 sound_there n (Whole cells) i e h k =
     ap is_some (flat_within cells i (pos 0) (omega (arith, h, k, cells.ok.0)))
 sound_there n (Boxed full) i e h k = boxed_there n full i h k
-sound_there n (Owned pieces) i e h k = absurd (false≢true (sym e))
-sound_there n (Shared pieces) i e h k = absurd (false≢true (sym e))
-sound_there n (SharedWhole pieces) i e (f, h) k =
+sound_there n (Parted (Owned pieces)) i e h k = absurd (false≢true (sym e))
+sound_there n (Parted (Shared pieces first.Open)) i e h k = absurd (false≢true (sym e))
+sound_there n (Parted (Shared pieces first.Flat)) i e (f, h) k =
     first_there n (arc_value pieces).first (arc_value pieces).more.items i h k
-sound_there n (SharedBoxed pieces) i e (f, h) k =
+sound_there n (Parted (Shared pieces first.Boxed)) i e (f, h) k =
     first_there n (arc_value pieces).first (arc_value pieces).more.items i h k
 
 -- a number that is set was there

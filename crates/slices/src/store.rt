@@ -10,6 +10,7 @@ ghost use Rattle.slices.specs.Spans.{or_else, between, AreApart};
 ghost use Rattle.slices.specs.Pieces.{spans_of, piece_at, reaching};
 ghost use Rattle.slices.specs.Stored.{stored, store_at, reaching_in, is_owned, is_open};
 ghost use Rattle.slices.specs.Stored.{further_spans, SameStored, IsSound};
+ghost use Rattle.slices.specs.declared.store.Store.TheVariants.{Parted};
 
 use crate::boxes::CHUNK;
 use crate::chunks::Chunks;
@@ -20,17 +21,29 @@ use std::alloc::{AllocError, Global};
 use std::mem::replace;
 use std::sync::Arc;
 
-/// Cells that are written in place, or pieces that several values read. A table's cells are flat
-/// until it is cut, and in boxes from position 0 on when all are put together again. Where the
-/// first of shared pieces has all cells, the state says how it has them.
+/// The cells of one value. They are flat until it is cut, and in boxes from position 0 on when all
+/// are put together again. The compiler compares between three cases and jumps through a table
+/// between more, which takes longer for each cell, so no case stands beside more than two.
 #[derive(Drop)]
 pub(crate) enum Store {
     Whole(Vec<i64>),
     Boxed(Full),
+    Parted(Parts),
+}
+
+/// Pieces that are written in place, or that several values read.
+#[derive(Drop)]
+pub(crate) enum Parts {
     Owned(Pieces),
-    Shared(Arc<Pieces, Global>),
-    SharedWhole(Arc<Pieces, Global>),
-    SharedBoxed(Arc<Pieces, Global>),
+    Shared(Arc<Pieces, Global>, First),
+}
+
+/// How the first of shared pieces has all cells, or that it isn't known to have them.
+#[derive(Clone, Copy)]
+pub(crate) enum First {
+    Flat,
+    Boxed,
+    Open,
 }
 
 impl Store {
@@ -44,44 +57,21 @@ impl Store {
             Store::Whole(cells) => {
                 let alloc = *cells.allocator();
                 let cells = replace(cells, Vec::new(alloc));
-                *self = Store::Owned(Pieces::whole(alloc, cells));
+                *self = Store::Parted(Parts::Owned(Pieces::whole(alloc, cells)));
             }
             Store::Boxed(full) => {
                 let alloc = *full.list.allocator();
                 let list = replace(&mut full.list, Vec::new(alloc));
                 let end = full.end;
-                *self = Store::Owned(Pieces::one(
-                    alloc,
-                    Span::Cut(Chunks {
-                        start: 0,
-                        end,
-                        list,
-                    }),
-                ));
+                let span = Span::Cut(Chunks {
+                    start: 0,
+                    end,
+                    list,
+                });
+                *self = Store::Parted(Parts::Owned(Pieces::one(alloc, span)));
             }
-            Store::SharedWhole(shared) => {
-                let alloc = shared.alloc();
-                self.open_shared(alloc);
-            }
-            Store::SharedBoxed(shared) => {
-                let alloc = shared.alloc();
-                self.open_shared(alloc);
-            }
-            _ => {}
-        }
-    }
-
-    fn open_shared(&mut self, alloc: Global)
-        requires { is_owned self.old ≡ false }
-        ensures spans { stored self.new ≡ stored self.old }
-        ensures owned { is_owned self.new ≡ is_owned self.old }
-        ensures open { is_open self.new ≡ true }
-    {
-        match replace(self, Store::Owned(Pieces::none(alloc))) {
-            Store::Shared(shared) => *self = Store::Shared(shared),
-            Store::SharedWhole(shared) => *self = Store::Shared(shared),
-            Store::SharedBoxed(shared) => *self = Store::Shared(shared),
-            _ => unreachable!(),
+            Store::Parted(Parts::Owned(_)) => {}
+            Store::Parted(Parts::Shared(_, first)) => *first = First::Open,
         }
     }
 
@@ -92,9 +82,8 @@ impl Store {
         ensures owned { is_owned self.new ≡ is_owned self.old }
         ensures sound { IsSound end self.new }
     {
-        if let Store::Owned(pieces) = self
-            && pieces.more.len() == 0
-            && let Some(store) = all_of(&mut pieces.first, end)
+        if let Store::Parted(parts) = self
+            && let Some(store) = parts.all(end)
         {
             *self = store;
         }
@@ -108,10 +97,10 @@ impl Store {
         match self {
             Store::Whole(cells) => Some(cells[at]),
             Store::Boxed(full) => Some(full.get(at)),
-            Store::Owned(pieces) => pieces.get(at),
-            Store::Shared(shared) => shared.get(at),
-            Store::SharedWhole(shared) => Some(shared.first.get_flat(at)),
-            Store::SharedBoxed(shared) => Some(shared.first.get_cut(at)),
+            Store::Parted(Parts::Owned(pieces)) => pieces.get(at),
+            Store::Parted(Parts::Shared(shared, First::Flat)) => Some(shared.first.get_flat(at)),
+            Store::Parted(Parts::Shared(shared, First::Boxed)) => Some(shared.first.get_cut(at)),
+            Store::Parted(Parts::Shared(shared, First::Open)) => shared.get(at),
         }
     }
 
@@ -124,10 +113,7 @@ impl Store {
         match self {
             Store::Whole(_) => true,
             Store::Boxed(_) => true,
-            Store::Owned(pieces) => pieces.is_full(n),
-            Store::Shared(shared) => shared.is_full(n),
-            Store::SharedWhole(_) => true,
-            Store::SharedBoxed(_) => true,
+            Store::Parted(parts) => parts.is_full(n),
         }
     }
 
@@ -139,8 +125,8 @@ impl Store {
         ensures len { vec_len result.now.more ≡ further_spans self.now }
     {
         match self {
-            Store::Owned(pieces) => pieces,
-            Store::Shared(shared) => &**shared,
+            Store::Parted(Parts::Owned(pieces)) => pieces,
+            Store::Parted(Parts::Shared(shared, _)) => &**shared,
             _ => unreachable!(),
         }
     }
@@ -162,14 +148,14 @@ impl Store {
     {
         self.open();
         match self {
-            Store::Owned(pieces) => {
+            Store::Parted(Parts::Owned(pieces)) => {
                 let upper = pieces.split_off(at)?;
                 Ok(upper)
             }
-            Store::Shared(shared) => {
+            Store::Parted(Parts::Shared(shared, _)) => {
                 let lower = shared.copy_between(shared.alloc(), 0, at)?;
                 let upper = shared.copy_between(shared.alloc(), at, end)?;
-                *self = Store::Owned(lower);
+                *self = Store::Parted(Parts::Owned(lower));
                 Ok(upper)
             }
             _ => unreachable!(),
@@ -206,11 +192,11 @@ impl Store {
     {
         self.open();
         match self {
-            Store::Owned(pieces) => pieces.cut_out(low, mid, high),
-            Store::Shared(shared) => {
+            Store::Parted(Parts::Owned(pieces)) => pieces.cut_out(low, mid, high),
+            Store::Parted(Parts::Shared(shared, _)) => {
                 let mut pieces = shared.copy(shared.alloc(), end)?;
                 let parts = pieces.cut_out(low, mid, high)?;
-                *self = Store::Owned(pieces);
+                *self = Store::Parted(Parts::Owned(pieces));
                 Ok(parts)
             }
             _ => unreachable!(),
@@ -242,10 +228,8 @@ impl Store {
                 full.put(at, value);
                 Some(true)
             }
-            Store::Owned(pieces) => Some(pieces.put(at, value)),
-            Store::Shared(_) => None,
-            Store::SharedWhole(_) => None,
-            Store::SharedBoxed(_) => None,
+            Store::Parted(Parts::Owned(pieces)) => Some(pieces.put(at, value)),
+            Store::Parted(Parts::Shared(_, _)) => None,
         }
     }
 
@@ -271,13 +255,13 @@ impl Store {
     {
         self.open();
         match self {
-            Store::Shared(shared) => {
+            Store::Parted(Parts::Shared(shared, _)) => {
                 if shared.get(at).is_none() {
                     return Ok(false);
                 }
                 let mut pieces = shared.copy(shared.alloc(), end)?;
                 pieces.put(at, value);
-                *self = Store::Owned(pieces);
+                *self = Store::Parted(Parts::Owned(pieces));
                 self.close(end);
                 Ok(true)
             }
@@ -302,14 +286,14 @@ impl Store {
         ensures handed_back { IfErr result (λ store. store ≡ other) }
     {
         match self {
-            Store::Owned(pieces) => join(pieces, other, end),
-            Store::Shared(shared) => {
+            Store::Parted(Parts::Owned(pieces)) => join(pieces, other, end),
+            Store::Parted(Parts::Shared(shared, _)) => {
                 let mut pieces = match shared.copy(shared.alloc(), end) {
                     Ok(pieces) => pieces,
                     Err(_) => return Err(other),
                 };
                 join(&mut pieces, other, end)?;
-                *self = Store::Owned(pieces);
+                *self = Store::Parted(Parts::Owned(pieces));
                 Ok(())
             }
             _ => unreachable!(),
@@ -329,16 +313,8 @@ impl Store {
         match self {
             Store::Whole(_) => Ok(()),
             Store::Boxed(_) => Ok(()),
-            Store::Owned(_) => Ok(()),
-            Store::Shared(shared) => {
-                *self = copy_of(shared, end)?;
-                Ok(())
-            }
-            Store::SharedWhole(shared) => {
-                *self = copy_of(shared, end)?;
-                Ok(())
-            }
-            Store::SharedBoxed(shared) => {
+            Store::Parted(Parts::Owned(_)) => Ok(()),
+            Store::Parted(Parts::Shared(shared, _)) => {
                 *self = copy_of(shared, end)?;
                 Ok(())
             }
@@ -358,12 +334,13 @@ impl Store {
         ensures sound { IsSound end self.old → IsSound end self.new }
         ensures second_sound { IfOk result (λ store. IsSound end self.old → IsSound end store) }
     {
-        match self {
-            Store::Shared(shared) => Ok(Store::Shared(Arc::try_clone(shared)?)),
-            Store::SharedWhole(shared) => Ok(Store::SharedWhole(Arc::try_clone(shared)?)),
-            Store::SharedBoxed(shared) => Ok(Store::SharedBoxed(Arc::try_clone(shared)?)),
-            _ => self.share_owned(end),
+        if let Store::Parted(parts) = self
+            && let Parts::Shared(shared, first) = parts
+        {
+            let second = Arc::try_clone(shared)?;
+            return Ok(Store::Parted(Parts::Shared(second, *first)));
         }
+        self.share_owned(end)
     }
 
     /// `share` where no other reads the cells yet.
@@ -381,8 +358,8 @@ impl Store {
     {
         self.open();
         let alloc = self.pieces().alloc();
-        match replace(self, Store::Owned(Pieces::none(alloc))) {
-            Store::Owned(pieces) => match handles_on(alloc, pieces, end) {
+        match replace(self, Store::Parted(Parts::Owned(Pieces::none(alloc)))) {
+            Store::Parted(Parts::Owned(pieces)) => match handles_on(alloc, pieces, end) {
                 Ok((first, second)) => {
                     *self = first;
                     Ok(second)
@@ -411,12 +388,46 @@ impl Store {
         ensures handed_back { IfErr result (λ store. store ≡ self) }
     {
         match self {
-            Store::Owned(pieces) => Ok(pieces),
-            Store::Shared(shared) => match shared.copy(shared.alloc(), end) {
-                Ok(pieces) => Ok(pieces),
-                Err(_) => Err(Store::Shared(shared)),
-            },
+            Store::Parted(Parts::Owned(pieces)) => Ok(pieces),
+            Store::Parted(Parts::Shared(shared, first)) => {
+                match shared.copy(shared.alloc(), end) {
+                    Ok(pieces) => Ok(pieces),
+                    Err(_) => Err(Store::Parted(Parts::Shared(shared, first))),
+                }
+            }
             _ => unreachable!(),
+        }
+    }
+}
+
+impl Parts {
+    fn is_full(&self, n: usize) -> bool
+        requires { IsSound n (Parted self.now) }
+        ensures yes { OnTrue result ((i : ℕ) → i < n → IsSome (store_at (Parted self.now) i)) }
+        ensures no { OnFalse result
+            ((i : ℕ) × (i < n) × (store_at (Parted self.now) i ≡ None)) }
+    {
+        match self {
+            Parts::Owned(pieces) => pieces.is_full(n),
+            Parts::Shared(shared, first) => match first {
+                First::Flat => true,
+                First::Boxed => true,
+                First::Open => shared.is_full(n),
+            },
+        }
+    }
+
+    /// The cells of a table of `end` cells, taken out where they are owned and one span has all.
+    fn all(&mut self, end: usize) -> Option<Store>
+        ensures spans { IfSome result (λ store. stored store ≡ stored (Parted self.old)) }
+        ensures owned { IfSome result
+            (λ store. (is_owned store ≡ true) × (is_owned (Parted self.old) ≡ true)) }
+        ensures sound { IfSome result (λ store. IsSound end store) }
+        ensures left { IfNone result (self.new ≡ self.old) }
+    {
+        match self {
+            Parts::Owned(pieces) if pieces.more.len() == 0 => all_of(&mut pieces.first, end),
+            _ => None,
         }
     }
 }
@@ -433,7 +444,7 @@ fn handles_on(alloc: Global, pieces: Pieces, end: usize) -> Result<(Store, Store
 {
     let shared = match Arc::new(alloc, pieces) {
         Ok(shared) => shared,
-        Err(failed) => return Err(Store::Owned(failed.value)),
+        Err(failed) => return Err(Store::Parted(Parts::Owned(failed.value))),
     };
     match Arc::try_clone(&shared) {
         Ok(second) => Ok((reader(shared, end), reader(second, end))),
@@ -447,7 +458,7 @@ fn unshared(shared: Arc<Pieces, Global>, end: usize) -> Store
     ensures sound { IsSound end result }
 {
     match Arc::try_unwrap(shared) {
-        Ok(pieces) => Store::Owned(pieces),
+        Ok(pieces) => Store::Parted(Parts::Owned(pieces)),
         Err(shared) => reader(shared, end),
     }
 }
@@ -458,14 +469,14 @@ fn reader(shared: Arc<Pieces, Global>, end: usize) -> Store
     ensures owned { is_owned result ≡ false }
     ensures sound { IsSound end result }
 {
-    if !shared.first.has_all(end) {
-        return Store::Shared(shared);
-    }
-    if shared.first.is_flat() {
-        Store::SharedWhole(shared)
+    let first = if !shared.first.has_all(end) {
+        First::Open
+    } else if shared.first.is_flat() {
+        First::Flat
     } else {
-        Store::SharedBoxed(shared)
-    }
+        First::Boxed
+    };
+    Store::Parted(Parts::Shared(shared, first))
 }
 
 /// A copy of the pieces of a table of `end` cells, owned.
@@ -477,7 +488,7 @@ fn copy_of(pieces: &Pieces, end: usize) -> Result<Store, AllocError>
     ensures owned { IfOk result (λ store. is_owned store ≡ true) }
     ensures sound { IfOk result (λ store. IsSound end store) }
 {
-    let mut store = Store::Owned(pieces.copy(pieces.alloc(), end)?);
+    let mut store = Store::Parted(Parts::Owned(pieces.copy(pieces.alloc(), end)?));
     store.close(end);
     Ok(store)
 }

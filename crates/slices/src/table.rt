@@ -13,7 +13,7 @@ ghost use Rattle.slices.specs.Holding.{SameSize, CommonCell, CauseOf, SameCells}
 ghost use Rattle.std.specs.Ordering.{int_eq};
 
 use crate::pieces::Pieces;
-use crate::store::Store;
+use crate::store::{Parts, Store};
 use std::alloc::Global;
 use std::marker::Model;
 use tp_value::NoMemory;
@@ -81,7 +81,7 @@ impl Held {
         Held {
             rows,
             cols,
-            store: Store::Owned(Pieces::none(alloc)),
+            store: Store::Parted(Parts::Owned(Pieces::none(alloc))),
         }
     }
 
@@ -167,7 +167,7 @@ impl Held {
         Ok(Held {
             rows: self.rows,
             cols: self.cols,
-            store: Store::Owned(upper),
+            store: Store::Parted(Parts::Owned(upper)),
         })
     }
 
@@ -186,12 +186,12 @@ impl Held {
             Held {
                 rows: self.rows,
                 cols: self.cols,
-                store: Store::Owned(lower),
+                store: Store::Parted(Parts::Owned(lower)),
             },
             Held {
                 rows: self.rows,
                 cols: self.cols,
-                store: Store::Owned(upper),
+                store: Store::Parted(Parts::Owned(upper)),
             },
         ))
     }

@@ -1,8 +1,9 @@
-use Rattle.std.proofs.Common.{subst, sym}
+use Rattle.std.proofs.Common.{◌∙◌, ap, subst, sym}
 use Rattle.slices.specs.Spans.{AreApart}
 use Rattle.slices.specs.Pieces.{spans_of}
 use Rattle.slices.specs.Stored.{stored}
+use Rattle.slices.specs.declared.store.Store.TheVariants.{Parted}
 use Rattle.slices.proofs.store.Store.take_in.Goals as goal
 
 pub copy-requires : goal.copy-requires
-copy-requires c = subst (λ p. AreApart c.args.end (spans_of p)) (sym c.deref.ensures) (subst (λ s. AreApart c.args.end (stored s)) c.in-Shared.is c.requires.apart)
+copy-requires c = subst (λ p. AreApart c.args.end (spans_of p)) (sym c.deref.ensures) (subst (λ s. AreApart c.args.end (stored s)) (c.in-Parted-Shared.is ∙ ap Parted c.in-Parted-Shared.field-0-is) c.requires.apart)
