@@ -22,6 +22,7 @@ mod joined;
 mod joining;
 pub mod laws;
 mod levels;
+mod loops;
 mod making;
 mod moves;
 mod numbers;
@@ -46,6 +47,8 @@ pub use rest::Rest;
 pub use task::Task;
 pub use turn::{Ran, Turn, run_task};
 
+#[cfg(test)]
+mod loop_tests;
 #[cfg(test)]
 mod op_tests;
 #[cfg(test)]

@@ -10,11 +10,11 @@ use std::test::Fail;
 use tp_value::{NoMemory, Outcome, Stop};
 use tpal_syntax::{Alu, Code, Instr, Term, Value};
 
-const fn load(to: u8, off: u16) -> Instr {
+pub(crate) const fn load(to: u8, off: u16) -> Instr {
     Instr::Load { to, base: 31, off }
 }
 
-const fn calc(to: u8, left: u8, alu: Alu, right: Value) -> Instr {
+pub(crate) const fn calc(to: u8, left: u8, alu: Alu, right: Value) -> Instr {
     Instr::Calc {
         to,
         left,
@@ -117,11 +117,11 @@ fn each_of_several_faults_at_its_place(rt: HostRuntime) -> Result<(), Fail> {
     Ok(())
 }
 
-const fn number_at(off: u16, number: i64) -> Instr {
+pub(crate) const fn number_at(off: u16, number: i64) -> Instr {
     store(off, Value::Int(number))
 }
 
-const fn store(off: u16, value: Value) -> Instr {
+pub(crate) const fn store(off: u16, value: Value) -> Instr {
     Instr::Store {
         base: 31,
         off,
@@ -129,7 +129,7 @@ const fn store(off: u16, value: Value) -> Instr {
     }
 }
 
-const fn test(test: u8) -> Instr {
+pub(crate) const fn test(test: u8) -> Instr {
     Instr::IfJump { test, label: 5 }
 }
 
@@ -174,7 +174,7 @@ fn ending_of(task: Task, code: &Code, budget: u32, turns: u8, steps: u64) -> Opt
 }
 
 // The same of a code with this main, and a side that jumps to both, with fuel for 3 ticks.
-fn ended(
+pub(crate) fn ended(
     alloc: Global,
     main: &[Instr],
     end: Term,
@@ -228,7 +228,7 @@ const PUT: Instr = Instr::Put {
     value: 6,
 };
 
-const TO_BOTH: Term = Term::Jump(Value::Label(5));
+pub(crate) const TO_BOTH: Term = Term::Jump(Value::Label(5));
 
 // A turn that has steps enough executes ops; in turns of one instruction each is executed alone.
 #[test]
@@ -399,7 +399,7 @@ fn comparisons_jump_where_they_hold(rt: HostRuntime) -> Result<(), Fail> {
     Ok(())
 }
 
-const TO_SIDE: Term = Term::Jump(Value::Label(4));
+pub(crate) const TO_SIDE: Term = Term::Jump(Value::Label(4));
 
 // What a call leaves to its callee: the levels in the cell and in register 0, and cells above those
 // of the caller.

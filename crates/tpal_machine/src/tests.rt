@@ -112,23 +112,29 @@ const PACE: Pace = Pace {
     allowed: true,
 };
 
-// The fault that a task comes to, with its place, in so many turns. Each wait is answered with
-// record 7, and a fork goes on with the child.
-fn fault_from(task: Task, code: &Code, turns: u8) -> Option<(Fault, u32, u32)>
-    requires { RunsOn code.now task }
+// The fault that a task comes to, with its place, in turns of so many instructions, at most so many
+// turns. Each wait is answered with record 7, and a fork goes on with the child.
+pub(crate) fn fault_from(
+    task: Task,
+    code: &Code,
+    budget: u32,
+    turns: u8,
+) -> Option<(Fault, u32, u32)>
+    requires belongs { RunsOn code.now task }
+    requires budget { 1 ≤ budget }
 {
     if turns == 0 {
         return None;
     }
-    match run_task(task, code, PACE, 100).turn {
-        Turn::Pause(next) => fault_from(next, code, turns - 1),
-        Turn::NeedRecord(waits) => fault_from(answer(waits, Some(7)), code, turns - 1),
+    match run_task(task, code, PACE, budget).turn {
+        Turn::Pause(next) => fault_from(next, code, budget, turns - 1),
+        Turn::NeedRecord(waits) => fault_from(answer(waits, Some(7)), code, budget, turns - 1),
         Turn::Forked {
             left: _,
             rest: _,
             child,
             rec: _,
-        } => fault_from(child, code, turns - 1),
+        } => fault_from(child, code, budget, turns - 1),
         Turn::Stuck { fault, block, at } => Some((fault, block, at)),
         Turn::Arrived {
             rec: _,
@@ -180,7 +186,7 @@ pub(crate) fn fault_of(
         None => Ok(None),
         Some(code) => {
             let task = first_on(alloc, &code, ground)?;
-            Ok(fault_from(task, &code, 9))
+            Ok(fault_from(task, &code, 100, 9))
         }
     }
 }

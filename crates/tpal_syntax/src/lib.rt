@@ -11,6 +11,7 @@ mod conditions;
 mod instructions;
 mod joined;
 mod levels;
+mod loops;
 mod names;
 mod notes;
 mod ops;
@@ -28,5 +29,7 @@ pub use parts::{is_instr, is_term};
 pub use sites::{CallSite, LeafSite, LoopSite};
 pub use words::Word;
 
+#[cfg(test)]
+mod loop_tests;
 #[cfg(test)]
 mod tests;

@@ -7,7 +7,7 @@ use std::alloc::Global;
 use std::test::Fail;
 use tp_value::{Items, NoMemory, Place};
 
-fn block(
+pub(crate) fn block(
     alloc: Global,
     name: &[u8],
     note: Note,
@@ -191,7 +191,7 @@ fn blocks_are_ops(rt: HostRuntime) -> Result<(), Fail> {
     Ok(())
 }
 
-const fn calc(to: u8, left: u8, alu: Alu, right: Value) -> Instr {
+pub(crate) const fn calc(to: u8, left: u8, alu: Alu, right: Value) -> Instr {
     Instr::Calc {
         to,
         left,
@@ -200,15 +200,15 @@ const fn calc(to: u8, left: u8, alu: Alu, right: Value) -> Instr {
     }
 }
 
-const fn load(to: u8, base: u8, off: u16) -> Instr {
+pub(crate) const fn load(to: u8, base: u8, off: u16) -> Instr {
     Instr::Load { to, base, off }
 }
 
-const fn store(base: u8, off: u16, value: Value) -> Instr {
+pub(crate) const fn store(base: u8, off: u16, value: Value) -> Instr {
     Instr::Store { base, off, value }
 }
 
-const fn if_jump(test: u8, label: u32) -> Instr {
+pub(crate) const fn if_jump(test: u8, label: u32) -> Instr {
     Instr::IfJump { test, label }
 }
 
