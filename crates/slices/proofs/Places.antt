@@ -54,61 +54,61 @@ at-right (x ∷ xs) ys zero h = absurd (omega arith)
 at-right (x ∷ xs) ys (suc m) h =
     let e : m - length xs ≡ suc m - suc (length xs) = omega arith in at-right xs ys m (omega arith) ∙ ap (slice_get ys) e
 
-pub in_list_some : (start : ℕ) (xs : List Chunk) (i : ℕ) (d : Chunk) → i / 512 - start / 512 < length xs → in_list start xs i ≡ Some (number (get_or xs (i / 512 - start / 512) d).value (i % 512))
+pub in_list_some : (start : ℕ) (xs : List Chunk) (i : ℕ) (d : Chunk) → i / 256 - start / 256 < length xs → in_list start xs i ≡ Some (number (get_or xs (i / 256 - start / 256) d).value (i % 256))
 unfolding in_list
-in_list_some start xs i d h = ap (λ v. in_chunk v (i % 512)) (slice_get-get_or xs (i / 512 - start / 512) d h)
+in_list_some start xs i d h = ap (λ v. in_chunk v (i % 256)) (slice_get-get_or xs (i / 256 - start / 256) d h)
 
-pub in_list_none : (start : ℕ) (xs : List Chunk) (i : ℕ) → length xs ≤ i / 512 - start / 512 → in_list start xs i ≡ None
+pub in_list_none : (start : ℕ) (xs : List Chunk) (i : ℕ) → length xs ≤ i / 256 - start / 256 → in_list start xs i ≡ None
 unfolding in_list
-in_list_none start xs i h = ap (λ v. in_chunk v (i % 512)) (slice_get_past xs (i / 512 - start / 512) h)
+in_list_none start xs i h = ap (λ v. in_chunk v (i % 256)) (slice_get_past xs (i / 256 - start / 256) h)
 
 -- two lists that hold the same at a position
-pub in_list_same : (start other : ℕ) (xs ys : List Chunk) (i : ℕ) → held_in xs (i / 512 - start / 512) (i % 512) ≡ held_in ys (i / 512 - other / 512) (i % 512) → in_list start xs i ≡ in_list other ys i
+pub in_list_same : (start other : ℕ) (xs ys : List Chunk) (i : ℕ) → held_in xs (i / 256 - start / 256) (i % 256) ≡ held_in ys (i / 256 - other / 256) (i % 256) → in_list start xs i ≡ in_list other ys i
 unfolding in_list
 in_list_same start other xs ys i e = e
 
 -- a box with one number set
-pub set_in_list : (start at i : ℕ) (xs : List Chunk) (d y : Chunk) (value : ℤ) → start ≤ at → start ≤ i → at / 512 - start / 512 < length xs → ((j : ℕ) → number y.value j ≡ cond (nat_eq j (at % 512)) value (number (get_or xs (at / 512 - start / 512) d).value j)) → in_list start (set xs (at / 512 - start / 512) y) i ≡ cond (nat_eq i at) (Some value) (in_list start xs i)
+pub set_in_list : (start at i : ℕ) (xs : List Chunk) (d y : Chunk) (value : ℤ) → start ≤ at → start ≤ i → at / 256 - start / 256 < length xs → ((j : ℕ) → number y.value j ≡ cond (nat_eq j (at % 256)) value (number (get_or xs (at / 256 - start / 256) d).value j)) → in_list start (set xs (at / 256 - start / 256) y) i ≡ cond (nat_eq i at) (Some value) (in_list start xs i)
 unfolding in_list
 set_in_list start at i xs d y value h k l f =
-    elim (cases_eq (i / 512) (at / 512)) [
+    elim (cases_eq (i / 256) (at / 256)) [
       | inl e ↦
-          ap (λ m. in_chunk (slice_get (set xs (at / 512 - start / 512) y) (m - start / 512)) (i % 512)) e
-          ∙ ap (λ v. in_chunk v (i % 512)) (at-set xs (at / 512 - start / 512) y l)
-          ∙ ap Some (f (i % 512))
+          ap (λ m. in_chunk (slice_get (set xs (at / 256 - start / 256) y) (m - start / 256)) (i % 256)) e
+          ∙ ap (λ v. in_chunk v (i % 256)) (at-set xs (at / 256 - start / 256) y l)
+          ∙ ap Some (f (i % 256))
           ∙ same_box e (cases_eq i at)
       | inr n ↦
-          ap (λ v. in_chunk v (i % 512)) (at-set_other xs (at / 512 - start / 512) (i / 512 - start / 512) y (λ e. n (omega (arith, e, h, k))))
-          ∙ sym (ap (λ b. cond b (Some value) (in_chunk (slice_get xs (i / 512 - start / 512)) (i % 512))) (ne_eqb i at (λ e. n (ap (λ m. m / 512) e))))
+          ap (λ v. in_chunk v (i % 256)) (at-set_other xs (at / 256 - start / 256) (i / 256 - start / 256) y (λ e. n (omega (arith, e, h, k))))
+          ∙ sym (ap (λ b. cond b (Some value) (in_chunk (slice_get xs (i / 256 - start / 256)) (i % 256))) (ne_eqb i at (λ e. n (ap (λ m. m / 256) e))))
     ]
   where
-    same_box : i / 512 ≡ at / 512 → (i ≡ at) ⊎ (i ≡ at → ⊥) → Some (cond (nat_eq (i % 512) (at % 512)) value (number (get_or xs (at / 512 - start / 512) d).value (i % 512))) ≡ cond (nat_eq i at) (Some value) (in_chunk (slice_get xs (i / 512 - start / 512)) (i % 512))
+    same_box : i / 256 ≡ at / 256 → (i ≡ at) ⊎ (i ≡ at → ⊥) → Some (cond (nat_eq (i % 256) (at % 256)) value (number (get_or xs (at / 256 - start / 256) d).value (i % 256))) ≡ cond (nat_eq i at) (Some value) (in_chunk (slice_get xs (i / 256 - start / 256)) (i % 256))
     same_box e (inl q) =
-        ap (λ b. Some (cond b value (number (get_or xs (at / 512 - start / 512) d).value (i % 512)))) (eq-eqb (i % 512) (at % 512) (ap (λ m. m % 512) q))
-        ∙ sym (ap (λ b. cond b (Some value) (in_chunk (slice_get xs (i / 512 - start / 512)) (i % 512))) (eq-eqb i at q))
+        ap (λ b. Some (cond b value (number (get_or xs (at / 256 - start / 256) d).value (i % 256)))) (eq-eqb (i % 256) (at % 256) (ap (λ m. m % 256) q))
+        ∙ sym (ap (λ b. cond b (Some value) (in_chunk (slice_get xs (i / 256 - start / 256)) (i % 256))) (eq-eqb i at q))
     same_box e (inr q) =
-        ap (λ b. Some (cond b value (number (get_or xs (at / 512 - start / 512) d).value (i % 512)))) (ne_eqb (i % 512) (at % 512) (λ r. q (omega (arith, e, r))))
-        ∙ sym (ap (λ b. cond b (Some value) (in_chunk (slice_get xs (i / 512 - start / 512)) (i % 512))) (ne_eqb i at q)
-        ∙ ap (λ m. in_chunk (slice_get xs (m - start / 512)) (i % 512)) e
-        ∙ ap (λ v. in_chunk v (i % 512)) (slice_get-get_or xs (at / 512 - start / 512) d l))
+        ap (λ b. Some (cond b value (number (get_or xs (at / 256 - start / 256) d).value (i % 256)))) (ne_eqb (i % 256) (at % 256) (λ r. q (omega (arith, e, r))))
+        ∙ sym (ap (λ b. cond b (Some value) (in_chunk (slice_get xs (i / 256 - start / 256)) (i % 256))) (ne_eqb i at q)
+        ∙ ap (λ m. in_chunk (slice_get xs (m - start / 256)) (i % 256)) e
+        ∙ ap (λ v. in_chunk v (i % 256)) (slice_get-get_or xs (at / 256 - start / 256) d l))
 
 -- the same in boxes from position 0 on
-pub in_front_some : (xs : List Chunk) (i : ℕ) (d : Chunk) → i / 512 < length xs → in_list 0 xs i ≡ Some (number (get_or xs (i / 512) d).value (i % 512))
+pub in_front_some : (xs : List Chunk) (i : ℕ) (d : Chunk) → i / 256 < length xs → in_list 0 xs i ≡ Some (number (get_or xs (i / 256) d).value (i % 256))
 in_front_some xs i d = subst There index (in_list_some 0 xs i d)
   where
     There : ℕ → Type 0
-    There k = k < length xs → in_list 0 xs i ≡ Some (number (get_or xs k d).value (i % 512))
+    There k = k < length xs → in_list 0 xs i ≡ Some (number (get_or xs k d).value (i % 256))
 
-    index : i / 512 - 0 / 512 ≡ i / 512
+    index : i / 256 - 0 / 256 ≡ i / 256
     index = omega arith
 
-pub set_in_front : (at i : ℕ) (xs : List Chunk) (d y : Chunk) (value : ℤ) → at / 512 < length xs → ((j : ℕ) → number y.value j ≡ cond (nat_eq j (at % 512)) value (number (get_or xs (at / 512) d).value j)) → in_list 0 (set xs (at / 512) y) i ≡ cond (nat_eq i at) (Some value) (in_list 0 xs i)
+pub set_in_front : (at i : ℕ) (xs : List Chunk) (d y : Chunk) (value : ℤ) → at / 256 < length xs → ((j : ℕ) → number y.value j ≡ cond (nat_eq j (at % 256)) value (number (get_or xs (at / 256) d).value j)) → in_list 0 (set xs (at / 256) y) i ≡ cond (nat_eq i at) (Some value) (in_list 0 xs i)
 set_in_front at i xs d y value = subst Set index (set_in_list 0 at i xs d y value (omega arith) (omega arith))
   where
     Set : ℕ → Type 0
-    Set k = k < length xs → ((j : ℕ) → number y.value j ≡ cond (nat_eq j (at % 512)) value (number (get_or xs k d).value j)) → in_list 0 (set xs k y) i ≡ cond (nat_eq i at) (Some value) (in_list 0 xs i)
+    Set k = k < length xs → ((j : ℕ) → number y.value j ≡ cond (nat_eq j (at % 256)) value (number (get_or xs k d).value j)) → in_list 0 (set xs k y) i ≡ cond (nat_eq i at) (Some value) (in_list 0 xs i)
 
-    index : at / 512 - 0 / 512 ≡ at / 512
+    index : at / 256 - 0 / 256 ≡ at / 256
     index = omega arith
 
 -- the same between the ends
@@ -124,12 +124,12 @@ put_between start end at i u v value h k f =
 
 -- what a cut leaves below
 abbrev pub LowerIs : List Chunk → ℕ → ℕ → Option Chunk → Type 0
-LowerIs xs idx at lower = MatchOption lower ((at % 512 ≡ 0) ⊎ (length xs ≤ idx)) (λ chunk. (idx < length xs) × ((j : ℕ) → held_in xs idx j ≡ Some (number chunk.value j)))
+LowerIs xs idx at lower = MatchOption lower ((at % 256 ≡ 0) ⊎ (length xs ≤ idx)) (λ chunk. (idx < length xs) × ((j : ℕ) → held_in xs idx j ≡ Some (number chunk.value j)))
 
 pub length-front : (xs : List Chunk) (n : ℕ) → n ≤ length xs → length (take n xs) ≡ n
 length-front xs n h = length-take n xs ∙ omega (arith, h)
 
-kept_held : (xs : List Chunk) (idx at k j : ℕ) (lower : Option Chunk) → idx ≤ length xs → (k ≡ idx) ⊎ (length xs ≤ k) → (k ≡ idx → idx < length xs → at % 512 ≡ 0 → ⊥) → (idx < length xs → k ≡ idx) → LowerIs xs idx at lower → in_chunk (slice_get (take idx xs ++ option_to_list lower) k) j ≡ in_chunk (slice_get xs k) j
+kept_held : (xs : List Chunk) (idx at k j : ℕ) (lower : Option Chunk) → idx ≤ length xs → (k ≡ idx) ⊎ (length xs ≤ k) → (k ≡ idx → idx < length xs → at % 256 ≡ 0 → ⊥) → (idx < length xs → k ≡ idx) → LowerIs xs idx at lower → in_chunk (slice_get (take idx xs ++ option_to_list lower) k) j ≡ in_chunk (slice_get xs k) j
 kept_held xs idx at k j None h w f g (inl z) =
     elim (cases_lt idx (length xs)) [
       | inl l ↦ absurd (f (g l) l z)
@@ -155,19 +155,19 @@ kept_held xs idx at k j (Some chunk) h w f g (l, same) =
     ap (λ v. in_chunk v j) (at-right (take idx xs) (chunk ∷ []) k (omega (arith, length-front xs idx h, e)) ∙ ap (slice_get (chunk ∷ [])) z)
     ∙ sym (same j) ∙ ap (λ m. in_chunk (slice_get xs m) j) (sym e)
 
-pub kept_in : (start at i idx : ℕ) (xs : List Chunk) (lower : Option Chunk) → start ≤ i → i < at → idx ≡ min (at / 512 - start / 512) (length xs) → LowerIs xs idx at lower → in_list start (take idx xs ++ option_to_list lower) i ≡ in_list start xs i
+pub kept_in : (start at i idx : ℕ) (xs : List Chunk) (lower : Option Chunk) → start ≤ i → i < at → idx ≡ min (at / 256 - start / 256) (length xs) → LowerIs xs idx at lower → in_list start (take idx xs ++ option_to_list lower) i ≡ in_list start xs i
 kept_in start at i idx xs lower h k e low =
-    elim (cases_lt (i / 512 - start / 512) idx) [
+    elim (cases_lt (i / 256 - start / 256) idx) [
       | inl l ↦ in_list_same start start (take idx xs ++ option_to_list lower) xs i
-          (ap (λ v. in_chunk v (i % 512)) (at-left (take idx xs) (option_to_list lower) (i / 512 - start / 512) (omega (arith, l, e, length-front xs idx (omega (arith, e)))) ∙ at-take xs idx (i / 512 - start / 512) l))
+          (ap (λ v. in_chunk v (i % 256)) (at-left (take idx xs) (option_to_list lower) (i / 256 - start / 256) (omega (arith, l, e, length-front xs idx (omega (arith, e)))) ∙ at-take xs idx (i / 256 - start / 256) l))
       | inr l ↦ in_list_same start start (take idx xs ++ option_to_list lower) xs i
-          (kept_held xs idx at (i / 512 - start / 512) (i % 512) lower (omega (arith, e)) (which l) (λ q m z. omega (arith, q, m, z, e, h, k)) (λ m. omega (arith, m, l, e, h, k)) low)
+          (kept_held xs idx at (i / 256 - start / 256) (i % 256) lower (omega (arith, e)) (which l) (λ q m z. omega (arith, q, m, z, e, h, k)) (λ m. omega (arith, m, l, e, h, k)) low)
     ]
   where
-    which : idx ≤ i / 512 - start / 512 → (i / 512 - start / 512 ≡ idx) ⊎ (length xs ≤ i / 512 - start / 512)
+    which : idx ≤ i / 256 - start / 256 → (i / 256 - start / 256 ≡ idx) ⊎ (length xs ≤ i / 256 - start / 256)
     which l = elim (cases_lt idx (length xs)) [ inl m ↦ inl (omega (arith, m, l, e, h, k)) | inr m ↦ inr (omega (arith, m, l)) ]
 
-pub kept_between : (start at end i idx : ℕ) (xs : List Chunk) (lower : Option Chunk) → at ≤ end → idx ≡ min (at / 512 - start / 512) (length xs) → LowerIs xs idx at lower → between start at i (in_list start (take idx xs ++ option_to_list lower) i) ≡ cond (nat_lt i at) (between start end i (in_list start xs i)) None
+pub kept_between : (start at end i idx : ℕ) (xs : List Chunk) (lower : Option Chunk) → at ≤ end → idx ≡ min (at / 256 - start / 256) (length xs) → LowerIs xs idx at lower → between start at i (in_list start (take idx xs ++ option_to_list lower) i) ≡ cond (nat_lt i at) (between start end i (in_list start xs i)) None
 kept_between start at end i idx xs lower h e low =
     elim (cases_lt i at) [
       | inr k ↦ between_past start at i _ k ∙ sym (ap (λ b. cond b (between start end i (in_list start xs i)) None) (le-ltb i at k))
@@ -180,17 +180,17 @@ kept_between start at end i idx xs lower h e low =
       | inr l ↦ between_in start at i _ l k ∙ kept_in start at i idx xs lower l k e low ∙ sym (between_in start end i _ l (omega (arith, k, h)))
     ]
 
-given_in : (start at i idx : ℕ) (xs : List Chunk) → start ≤ at → at ≤ i → idx ≡ min (at / 512 - start / 512) (length xs) → in_list at (drop idx xs) i ≡ in_list start xs i
+given_in : (start at i idx : ℕ) (xs : List Chunk) → start ≤ at → at ≤ i → idx ≡ min (at / 256 - start / 256) (length xs) → in_list at (drop idx xs) i ≡ in_list start xs i
 given_in start at i idx xs h k e =
-    in_list_same at start (drop idx xs) xs i (ap (λ v. in_chunk v (i % 512)) (at-drop xs idx (i / 512 - at / 512) ∙ place))
+    in_list_same at start (drop idx xs) xs i (ap (λ v. in_chunk v (i % 256)) (at-drop xs idx (i / 256 - at / 256) ∙ place))
   where
-    place : slice_get xs (idx + (i / 512 - at / 512)) ≡ slice_get xs (i / 512 - start / 512)
-    place = elim (cases_lt (at / 512 - start / 512) (length xs)) [
-      | inl m ↦ let q : idx + (i / 512 - at / 512) ≡ i / 512 - start / 512 = omega (arith, m, e, h, k) in ap (slice_get xs) q
+    place : slice_get xs (idx + (i / 256 - at / 256)) ≡ slice_get xs (i / 256 - start / 256)
+    place = elim (cases_lt (at / 256 - start / 256) (length xs)) [
+      | inl m ↦ let q : idx + (i / 256 - at / 256) ≡ i / 256 - start / 256 = omega (arith, m, e, h, k) in ap (slice_get xs) q
       | inr m ↦ slice_get_past xs _ (omega (arith, m, e, h, k)) ∙ sym (slice_get_past xs _ (omega (arith, m, e, h, k)))
     ]
 
-pub given_between : (start at end i idx : ℕ) (xs : List Chunk) → start ≤ at → idx ≡ min (at / 512 - start / 512) (length xs) → between at end i (in_list at (drop idx xs) i) ≡ cond (nat_lt i at) None (between start end i (in_list start xs i))
+pub given_between : (start at end i idx : ℕ) (xs : List Chunk) → start ≤ at → idx ≡ min (at / 256 - start / 256) (length xs) → between at end i (in_list at (drop idx xs) i) ≡ cond (nat_lt i at) None (between start end i (in_list start xs i))
 given_between start at end i idx xs h e =
     elim (cases_lt i at) [
       | inl k ↦ between_before at end i _ k ∙ sym (ap (λ b. cond b None (between start end i (in_list start xs i))) (lt-ltb i at k))
@@ -233,41 +233,41 @@ joined_between start mid end i u v w h k f g =
     ]
 
 -- boxes behind others, where the lower ones end between two
-pub next_below : (start end i : ℕ) (xs ys : List Chunk) → start ≤ i → i < end → end ≤ (start / 512 + length xs) * 512 → in_list start (xs ++ ys) i ≡ in_list start xs i
+pub next_below : (start end i : ℕ) (xs ys : List Chunk) → start ≤ i → i < end → end ≤ (start / 256 + length xs) * 256 → in_list start (xs ++ ys) i ≡ in_list start xs i
 next_below start end i xs ys h k l =
-    in_list_same start start (xs ++ ys) xs i (ap (λ v. in_chunk v (i % 512)) (at-left xs ys (i / 512 - start / 512) (omega (arith, h, k, l))))
+    in_list_same start start (xs ++ ys) xs i (ap (λ v. in_chunk v (i % 256)) (at-left xs ys (i / 256 - start / 256) (omega (arith, h, k, l))))
 
-pub next_above : (start end i : ℕ) (xs ys : List Chunk) → start ≤ end → end ≤ i → end / 512 - start / 512 ≡ length xs → in_list start (xs ++ ys) i ≡ in_list end ys i
+pub next_above : (start end i : ℕ) (xs ys : List Chunk) → start ≤ end → end ≤ i → end / 256 - start / 256 ≡ length xs → in_list start (xs ++ ys) i ≡ in_list end ys i
 next_above start end i xs ys h k l =
-    in_list_same start end (xs ++ ys) ys i (ap (λ v. in_chunk v (i % 512)) (at-right xs ys (i / 512 - start / 512) (omega (arith, h, k, l)) ∙ place))
+    in_list_same start end (xs ++ ys) ys i (ap (λ v. in_chunk v (i % 256)) (at-right xs ys (i / 256 - start / 256) (omega (arith, h, k, l)) ∙ place))
   where
-    place : slice_get ys (i / 512 - start / 512 - length xs) ≡ slice_get ys (i / 512 - end / 512)
-    place = let e : i / 512 - start / 512 - length xs ≡ i / 512 - end / 512 = omega (arith, h, k, l) in ap (slice_get ys) e
+    place : slice_get ys (i / 256 - start / 256 - length xs) ≡ slice_get ys (i / 256 - end / 256)
+    place = let e : i / 256 - start / 256 - length xs ≡ i / 256 - end / 256 = omega (arith, h, k, l) in ap (slice_get ys) e
 
 -- the first upper box with lower cells in it
-pub blended_above : (end i : ℕ) (ys : List Chunk) (d y : Chunk) → 0 < length ys → end ≤ i → ((j : ℕ) → end % 512 ≤ j → number y.value j ≡ number (get_or ys 0 d).value j) → in_list end (set ys 0 y) i ≡ in_list end ys i
+pub blended_above : (end i : ℕ) (ys : List Chunk) (d y : Chunk) → 0 < length ys → end ≤ i → ((j : ℕ) → end % 256 ≤ j → number y.value j ≡ number (get_or ys 0 d).value j) → in_list end (set ys 0 y) i ≡ in_list end ys i
 blended_above end i ys d y h k f =
-    in_list_same end end (set ys 0 y) ys i (elim (cases_eq (i / 512 - end / 512) 0) [
+    in_list_same end end (set ys 0 y) ys i (elim (cases_eq (i / 256 - end / 256) 0) [
       | inl e ↦
-          ap (λ m. in_chunk (slice_get (set ys 0 y) m) (i % 512)) e ∙ ap (λ v. in_chunk v (i % 512)) (at-set ys 0 y h)
-          ∙ ap Some (f (i % 512) (omega (arith, e, k)))
-          ∙ sym (ap (λ v. in_chunk v (i % 512)) (slice_get-get_or ys 0 d h))
-          ∙ sym (ap (λ m. in_chunk (slice_get ys m) (i % 512)) e)
-      | inr n ↦ ap (λ v. in_chunk v (i % 512)) (at-set_other ys 0 (i / 512 - end / 512) y (λ e. n (sym e)))
+          ap (λ m. in_chunk (slice_get (set ys 0 y) m) (i % 256)) e ∙ ap (λ v. in_chunk v (i % 256)) (at-set ys 0 y h)
+          ∙ ap Some (f (i % 256) (omega (arith, e, k)))
+          ∙ sym (ap (λ v. in_chunk v (i % 256)) (slice_get-get_or ys 0 d h))
+          ∙ sym (ap (λ m. in_chunk (slice_get ys m) (i % 256)) e)
+      | inr n ↦ ap (λ v. in_chunk v (i % 256)) (at-set_other ys 0 (i / 256 - end / 256) y (λ e. n (sym e)))
     ])
 
-pub blended_below : (start end i : ℕ) (xs ys : List Chunk) (c d y : Chunk) → start ≤ i → i < end → 0 < end % 512 → length xs ≡ end / 512 - start / 512 + 1 → 0 < length ys → ((j : ℕ) → j < end % 512 → number y.value j ≡ number (get_or xs (end / 512 - start / 512) c).value j) → in_list start (take (end / 512 - start / 512) xs ++ set ys 0 y) i ≡ in_list start xs i
+pub blended_below : (start end i : ℕ) (xs ys : List Chunk) (c d y : Chunk) → start ≤ i → i < end → 0 < end % 256 → length xs ≡ end / 256 - start / 256 + 1 → 0 < length ys → ((j : ℕ) → j < end % 256 → number y.value j ≡ number (get_or xs (end / 256 - start / 256) c).value j) → in_list start (take (end / 256 - start / 256) xs ++ set ys 0 y) i ≡ in_list start xs i
 blended_below start end i xs ys c d y h k z l m f =
-    let n : length (take (end / 512 - start / 512) xs) ≡ end / 512 - start / 512 = length-front xs _ (omega (arith, l)) in
-    in_list_same start start (take (end / 512 - start / 512) xs ++ set ys 0 y) xs i (elim (cases_lt (i / 512 - start / 512) (end / 512 - start / 512)) [
-      | inl q ↦ ap (λ v. in_chunk v (i % 512)) (at-left (take (end / 512 - start / 512) xs) (set ys 0 y) (i / 512 - start / 512) (omega (arith, q, n)) ∙ at-take xs _ _ q)
+    let n : length (take (end / 256 - start / 256) xs) ≡ end / 256 - start / 256 = length-front xs _ (omega (arith, l)) in
+    in_list_same start start (take (end / 256 - start / 256) xs ++ set ys 0 y) xs i (elim (cases_lt (i / 256 - start / 256) (end / 256 - start / 256)) [
+      | inl q ↦ ap (λ v. in_chunk v (i % 256)) (at-left (take (end / 256 - start / 256) xs) (set ys 0 y) (i / 256 - start / 256) (omega (arith, q, n)) ∙ at-take xs _ _ q)
       | inr q ↦
-          let e : i / 512 - start / 512 ≡ end / 512 - start / 512 = omega (arith, q, h, k) in
-          let zero_at : i / 512 - start / 512 - length (take (end / 512 - start / 512) xs) ≡ 0 = omega (arith, n, e) in
-          ap (λ v. in_chunk v (i % 512)) (at-right (take (end / 512 - start / 512) xs) (set ys 0 y) (i / 512 - start / 512) (omega (arith, q, n)) ∙ ap (slice_get (set ys 0 y)) zero_at ∙ at-set ys 0 y m)
-          ∙ ap Some (f (i % 512) (omega (arith, q, h, k, z)))
-          ∙ sym (ap (λ v. in_chunk v (i % 512)) (slice_get-get_or xs (end / 512 - start / 512) c (omega (arith, l))))
-          ∙ sym (ap (λ v. in_chunk (slice_get xs v) (i % 512)) e)
+          let e : i / 256 - start / 256 ≡ end / 256 - start / 256 = omega (arith, q, h, k) in
+          let zero_at : i / 256 - start / 256 - length (take (end / 256 - start / 256) xs) ≡ 0 = omega (arith, n, e) in
+          ap (λ v. in_chunk v (i % 256)) (at-right (take (end / 256 - start / 256) xs) (set ys 0 y) (i / 256 - start / 256) (omega (arith, q, n)) ∙ ap (slice_get (set ys 0 y)) zero_at ∙ at-set ys 0 y m)
+          ∙ ap Some (f (i % 256) (omega (arith, q, h, k, z)))
+          ∙ sym (ap (λ v. in_chunk v (i % 256)) (slice_get-get_or xs (end / 256 - start / 256) c (omega (arith, l))))
+          ∙ sym (ap (λ v. in_chunk (slice_get xs v) (i % 256)) e)
     ])
 
 some_held : (xs : List Chunk) (k j : ℕ) → k < length xs → IsSome (in_chunk (slice_get xs k) j)
@@ -275,28 +275,28 @@ some_held [] k j h = absurd (omega arith)
 some_held (x ∷ xs) zero j h = refl
 some_held (x ∷ xs) (suc k) j h = some_held xs k j (omega arith)
 
-some_in_list : (start i : ℕ) (xs : List Chunk) → i / 512 - start / 512 < length xs → IsSome (in_list start xs i)
+some_in_list : (start i : ℕ) (xs : List Chunk) → i / 256 - start / 256 < length xs → IsSome (in_list start xs i)
 unfolding in_list
-some_in_list start i xs h = some_held xs (i / 512 - start / 512) (i % 512) h
+some_in_list start i xs h = some_held xs (i / 256 - start / 256) (i % 256) h
 
 -- a position between the ends that has a box
-pub chunks_some : (start end i : ℕ) (xs : List Chunk) → start ≤ i → i < end → i / 512 - start / 512 < length xs → IsSome (between start end i (in_list start xs i))
+pub chunks_some : (start end i : ℕ) (xs : List Chunk) → start ≤ i → i < end → i / 256 - start / 256 < length xs → IsSome (between start end i (in_list start xs i))
 chunks_some start end i xs h k l = subst IsSome (sym (between_in start end i _ h k)) (some_in_list start i xs l)
 
 -- a part of the boxes
-pub copied_in : (start other last i : ℕ) (xs cs : List Chunk) (from to : ℕ) → start ≤ other → other ≤ i → i ≤ last → from ≡ min (other / 512 - start / 512) (length xs) → to ≡ min (last / 512 - start / 512 + 1) (length xs) → ((k j : ℕ) → held_in cs k j ≡ held_in (take (to - from) (drop from xs)) k j) → in_list other cs i ≡ in_list start xs i
+pub copied_in : (start other last i : ℕ) (xs cs : List Chunk) (from to : ℕ) → start ≤ other → other ≤ i → i ≤ last → from ≡ min (other / 256 - start / 256) (length xs) → to ≡ min (last / 256 - start / 256 + 1) (length xs) → ((k j : ℕ) → held_in cs k j ≡ held_in (take (to - from) (drop from xs)) k j) → in_list other cs i ≡ in_list start xs i
 copied_in start other last i xs cs from to h k l e f same =
-    in_list_same other start cs xs i (same (i / 512 - other / 512) (i % 512) ∙ ap (λ v. in_chunk v (i % 512)) place)
+    in_list_same other start cs xs i (same (i / 256 - other / 256) (i % 256) ∙ ap (λ v. in_chunk v (i % 256)) place)
   where
-    short : (to - from ≤ i / 512 - other / 512) → length (take (to - from) (drop from xs)) ≤ i / 512 - other / 512
+    short : (to - from ≤ i / 256 - other / 256) → length (take (to - from) (drop from xs)) ≤ i / 256 - other / 256
     short q = omega (arith, q, length-take (to - from) (drop from xs))
 
-    place : slice_get (take (to - from) (drop from xs)) (i / 512 - other / 512) ≡ slice_get xs (i / 512 - start / 512)
-    place = elim (cases_lt (i / 512 - start / 512) (length xs)) [
+    place : slice_get (take (to - from) (drop from xs)) (i / 256 - other / 256) ≡ slice_get xs (i / 256 - start / 256)
+    place = elim (cases_lt (i / 256 - start / 256) (length xs)) [
       | inl m ↦
-          let q : from + (i / 512 - other / 512) ≡ i / 512 - start / 512 = omega (arith, h, k, l, e, m) in
-          at-take (drop from xs) (to - from) (i / 512 - other / 512) (omega (arith, h, k, l, e, f, m)) ∙ at-drop xs from (i / 512 - other / 512) ∙ ap (slice_get xs) q
-      | inr m ↦ slice_get_past (take (to - from) (drop from xs)) (i / 512 - other / 512) (short (omega (arith, h, k, l, e, f, m))) ∙ sym (slice_get_past xs (i / 512 - start / 512) m)
+          let q : from + (i / 256 - other / 256) ≡ i / 256 - start / 256 = omega (arith, h, k, l, e, m) in
+          at-take (drop from xs) (to - from) (i / 256 - other / 256) (omega (arith, h, k, l, e, f, m)) ∙ at-drop xs from (i / 256 - other / 256) ∙ ap (slice_get xs) q
+      | inr m ↦ slice_get_past (take (to - from) (drop from xs)) (i / 256 - other / 256) (short (omega (arith, h, k, l, e, f, m))) ∙ sym (slice_get_past xs (i / 256 - start / 256) m)
     ]
 
 -- between the inner ends of two
@@ -325,20 +325,20 @@ between_both low high start end i u v f =
     nowhere e = ap (between low high i) e ∙ between_none low high i
 
 -- the boxes filled so far, and one more
-pub filled_more : (start done n i : ℕ) (xs : List Chunk) (c : Chunk) (cells : List ℤ) → length xs ≡ (start + done) / 512 - start / 512 → (0 < done → (start + done) % 512 ≡ 0) → (start + done) % 512 + n ≤ 512 → ((j : ℕ) → j < n → number c.value ((start + done) % 512 + j) ≡ number cells (done + j)) → (i < start + done → in_list start xs i ≡ Some (number cells (i - start))) → start ≤ i → i < start + (done + n) → in_list start (xs ++ c ∷ []) i ≡ Some (number cells (i - start))
+pub filled_more : (start done n i : ℕ) (xs : List Chunk) (c : Chunk) (cells : List ℤ) → length xs ≡ (start + done) / 256 - start / 256 → (0 < done → (start + done) % 256 ≡ 0) → (start + done) % 256 + n ≤ 256 → ((j : ℕ) → j < n → number c.value ((start + done) % 256 + j) ≡ number cells (done + j)) → (i < start + done → in_list start xs i ≡ Some (number cells (i - start))) → start ≤ i → i < start + (done + n) → in_list start (xs ++ c ∷ []) i ≡ Some (number cells (i - start))
 unfolding in_list
 filled_more start done n i xs c cells e a room f before h k =
     elim (cases_lt i (start + done)) [
-      | inl l ↦ in_list_same start start (xs ++ c ∷ []) xs i (ap (λ v. in_chunk v (i % 512)) (at-left xs (c ∷ []) (i / 512 - start / 512) (omega (arith, e, h, l, a (omega (arith, h, l)))))) ∙ before l
+      | inl l ↦ in_list_same start start (xs ++ c ∷ []) xs i (ap (λ v. in_chunk v (i % 256)) (at-left xs (c ∷ []) (i / 256 - start / 256) (omega (arith, e, h, l, a (omega (arith, h, l)))))) ∙ before l
       | inr l ↦ here l
     ]
   where
     here : start + done ≤ i → in_list start (xs ++ c ∷ []) i ≡ Some (number cells (i - start))
     here l =
-        let z : i / 512 - start / 512 - length xs ≡ 0 = omega (arith, e, h, k, l, room) in
-        let q : i % 512 ≡ (start + done) % 512 + (i - (start + done)) = omega (arith, k, l, room) in
+        let z : i / 256 - start / 256 - length xs ≡ 0 = omega (arith, e, h, k, l, room) in
+        let q : i % 256 ≡ (start + done) % 256 + (i - (start + done)) = omega (arith, k, l, room) in
         let r : done + (i - (start + done)) ≡ i - start = omega (arith, l) in
-        ap (λ v. in_chunk v (i % 512)) (at-right xs (c ∷ []) (i / 512 - start / 512) (omega (arith, e, h, l)) ∙ ap (slice_get (c ∷ [])) z)
+        ap (λ v. in_chunk v (i % 256)) (at-right xs (c ∷ []) (i / 256 - start / 256) (omega (arith, e, h, l)) ∙ ap (slice_get (c ∷ [])) z)
         ∙ ap (λ j. Some (number c.value j)) q
         ∙ ap Some (f (i - (start + done)) (omega (arith, k, l)) ∙ ap (number cells) r)
 

@@ -65,9 +65,9 @@ flat_there s i d e h =
 pub cut_there : (chunks : Chunks) (i : ℕ) (d : Chunk)
     → chunks.start ≡ 0
     → i < chunks.end
-    → i < 512 * length chunks.list.items
+    → i < 256 * length chunks.list.items
     → span_at (Cut chunks) i
-    ≡ Some (number (get_or chunks.list.items (i / 512) d).value (i % 512))
+    ≡ Some (number (get_or chunks.list.items (i / 256) d).value (i % 256))
 cut_there chunks i d e h k =
     ap (λ z. between z chunks.end i (in_list z chunks.list.items i)) e
     ∙ between_in 0 chunks.end i _ (omega arith) h

@@ -22,7 +22,7 @@ reaches_from_start (Flat stretch) j i h k t =
 reaches_from_start (Cut chunks) j i h k t =
     elim (cases_lt i chunks.end) [
       | inr m ↦ absurd (false≢true (subst IsSome (between_past chunks.start chunks.end i _ m) t))
-      | inl m ↦ elim (cases_lt (i / 512 - chunks.start / 512) (length chunks.list.items)) [
+      | inl m ↦ elim (cases_lt (i / 256 - chunks.start / 256) (length chunks.list.items)) [
         | inr n ↦ absurd (false≢true (subst IsSome (ap (between chunks.start chunks.end i) (in_list_none chunks.start chunks.list.items i n) ∙ between_none chunks.start chunks.end i) t))
         | inl n ↦ chunks_some chunks.start chunks.end j chunks.list.items h (omega (arith, k, m)) (omega (arith, k, n))
       ]

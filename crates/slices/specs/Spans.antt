@@ -46,7 +46,7 @@ held_in list k j = in_chunk (slice_get list k) j
 
 -- the number at a position in boxes, of which the first has position `start`
 unfoldable pub in_list : ℕ → List (Box (List ℤ) Global) → ℕ → Option ℤ
-in_list start list i = held_in list (i / 512 - start / 512) (i % 512)
+in_list start list i = held_in list (i / 256 - start / 256) (i % 256)
 
 -- what cells in boxes hold at a position
 abbrev pub chunks_at : Chunks → ℕ → Option ℤ
@@ -89,4 +89,4 @@ is_flat (Cut chunks) = false
 abbrev pub HasAll : ℕ → Span → Type 0
 HasAll n (Flat stretch) = (stretch.start ≡ 0) × (n ≤ vec_len stretch.cells)
 HasAll n (Cut chunks) =
-    (chunks.start ≡ 0) × (n ≤ chunks.end) × (n ≤ 512 * length chunks.list.items)
+    (chunks.start ≡ 0) × (n ≤ chunks.end) × (n ≤ 256 * length chunks.list.items)

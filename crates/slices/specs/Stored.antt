@@ -19,7 +19,7 @@ full_span full = Cut (record { start = 0; end = full.end; list = full.list })
 
 -- the boxes have all cells below a position
 abbrev pub HasBelow : ℕ → Full → Type 0
-HasBelow n full = (n ≤ full.end) × (n ≤ 512 * length full.list.items)
+HasBelow n full = (n ≤ full.end) × (n ≤ 256 * length full.list.items)
 
 abbrev pub stored : Store → List Span
 stored (Whole cells) = flat_span cells ∷ []

@@ -1,4 +1,4 @@
-// Boxes of 512 cells, and lists of them.
+// Boxes of 256 cells, and lists of them.
 
 ghost use Rattle.std.specs.Prelude.{◌≡◌, ℕ, ◌+◌, ◌-◌, ◌/◌, ◌%◌, ◌<◌, ◌≤◌, ◌==◌, ◌⊎◌, if◌then◌else◌};
 ghost use Rattle.std.specs.Prelude.{Some, IsSome, IfOk, OnSome, MatchOption, length, ◌++◌};
@@ -10,7 +10,7 @@ ghost use Rattle.slices.specs.Spans.{number, held_in, in_list};
 use std::alloc::{AllocError, Global};
 
 /// How many cells a box has.
-pub(crate) const CHUNK: usize = 512;
+pub(crate) const CHUNK: usize = 256;
 
 /// A box of cells. A cell stands at the remainder of its position by the number of cells.
 pub(crate) type Chunk = Box<[i64; CHUNK]>;
@@ -18,7 +18,7 @@ pub(crate) type Chunk = Box<[i64; CHUNK]>;
 /// The cell at a position that the box has.
 #[inline(always)]
 pub(crate) fn read(chunk: &[i64; CHUNK], at: usize) -> i64
-    ensures { result ≡ number chunk.now (at % 512) }
+    ensures { result ≡ number chunk.now (at % 256) }
 {
     chunk[at % CHUNK]
 }
@@ -27,14 +27,14 @@ pub(crate) fn read(chunk: &[i64; CHUNK], at: usize) -> i64
 #[inline(always)]
 pub(crate) fn write(chunk: &mut [i64; CHUNK], at: usize, value: i64)
     ensures { (j : ℕ)
-        → number chunk.new j ≡ (if j == at % 512 then value else number chunk.old j) }
+        → number chunk.new j ≡ (if j == at % 256 then value else number chunk.old j) }
 {
     chunk[at % CHUNK] = value;
 }
 
 /// A box with these cells from index `skip` on.
 pub(crate) fn chunk_of(alloc: Global, skip: usize, part: &[i64]) -> Result<Chunk, AllocError>
-    requires { skip + length part.now ≤ 512 }
+    requires { skip + length part.now ≤ 256 }
     ensures { IfOk result
         (λ chunk.
         (j : ℕ) → j < length part.now → number chunk.value (skip + j) ≡ number part.now j) }
@@ -77,7 +77,7 @@ pub(crate) fn lower_copy(
     at: usize,
 ) -> Result<Option<Chunk>, AllocError>
     ensures { IfOk result
-        (λ lower. MatchOption lower ((at % 512 ≡ 0) ⊎ (length list.now ≤ index))
+        (λ lower. MatchOption lower ((at % 256 ≡ 0) ⊎ (length list.now ≤ index))
         (λ chunk. (index < length list.now)
         × ((j : ℕ) → held_in list.now index j ≡ Some (number chunk.value j)))) }
 {
@@ -106,7 +106,7 @@ pub(crate) fn joined(
     end: usize,
 ) -> bool
     requires order { start < end }
-    requires len { vec_len lower.old ≡ (end - 1) / 512 - start / 512 + 1 }
+    requires len { vec_len lower.old ≡ (end - 1) / 256 - start / 256 + 1 }
     ensures below { OnTrue result
         ((i : ℕ)
         → start ≤ i
@@ -131,8 +131,8 @@ pub(crate) fn joined(
 /// The last lower box and the first upper one become one.
 fn joined_within(lower: &mut Vec<Chunk>, upper: &mut Vec<Chunk>, start: usize, end: usize) -> bool
     requires order { start < end }
-    requires inside { 0 < end % 512 }
-    requires len { vec_len lower.old ≡ (end - 1) / 512 - start / 512 + 1 }
+    requires inside { 0 < end % 256 }
+    requires len { vec_len lower.old ≡ (end - 1) / 256 - start / 256 + 1 }
     ensures below { OnTrue result
         ((i : ℕ)
         → start ≤ i
@@ -158,7 +158,7 @@ fn joined_within(lower: &mut Vec<Chunk>, upper: &mut Vec<Chunk>, start: usize, e
 
 /// Copies the lower box's cells below index `n` into the upper one.
 fn blend(lower: &[i64; CHUNK], upper: &mut [i64; CHUNK], n: usize)
-    requires { n ≤ 512 }
+    requires { n ≤ 256 }
     ensures below { (j : ℕ) → j < n → number upper.new j ≡ number lower.now j }
     ensures above { (j : ℕ) → n ≤ j → number upper.new j ≡ number upper.old j }
 {

@@ -1,4 +1,4 @@
-// Cells in boxes of 512. The box of a position is told by the position alone, so that a run of
+// Cells in boxes of 256. The box of a position is told by the position alone, so that a run of
 // cells is cut and put together again by moving boxes; only one that a cut goes through is copied.
 
 ghost use Rattle.std.specs.Prelude.{◌≡◌, ℕ, ◌+◌, ◌-◌, ◌*◌, ◌/◌, ◌%◌, ◌<◌, ◌≤◌, ◌==◌, ◌&&◌};
@@ -17,7 +17,7 @@ use std::mem::replace;
 
 /// The cells at the positions from `start` up to `end`, where positions count a table's cells row
 /// by row. The first box has the cell at `start`, and a cell stands in its box at the remainder of
-/// its position by 512; what the first and the last box have beside means nothing.
+/// its position by 256; what the first and the last box have beside means nothing.
 #[derive(Drop)]
 pub(crate) struct Chunks {
     pub(crate) start: usize,

@@ -9,7 +9,7 @@ returns c = λ i. filled c.args.start c.args.end i c.loop-done.list.items c.args
 
 pub loop-done-preserved : goal.loop-done-preserved
 loop-done-preserved c =
-    let len : length c.loop-done.list.items ≡ (c.args.start + c.loop-done.done) / 512 - c.args.start / 512 = omega (arith, c.loop-done.invariant.len c.loop-done-test.true) in
+    let len : length c.loop-done.list.items ≡ (c.args.start + c.loop-done.done) / 256 - c.args.start / 256 = omega (arith, c.loop-done.invariant.len c.loop-done-test.true) in
     record {
       below = omega (arith, c.min-n.ensures, c.loop-done-test.true);
       cells = λ i h k. rw c.in_ok-push.ensures.items

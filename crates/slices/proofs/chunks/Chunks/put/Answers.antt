@@ -17,4 +17,4 @@ pub returns-clause-cells : goal.returns-clause-cells
 returns-clause-cells c = λ i.
     put_between c.args.self.now.start c.args.self.now.end c.args.at i _ _ c.args.value c.if-at-self.false c.if-at-self-2.false
     (λ l. set_in_list c.args.self.now.start c.args.at i c.args.self.now.list.items c.index_mut.result.now _ c.args.value c.if-at-self.false l (omega (arith, c.if-index-len.false, c.len.ensures))
-    (λ j. (rw (to_z-of_z c.ranges.value) at (c.write.ensures j)) ∙ ap (λ xs. cond (nat_eq j (c.args.at % 512)) c.args.value (number xs j)) (c.deref_mut.ensures.value ∙ ap (λ b. b.value) c.index_mut.ensures.value)))
+    (λ j. (rw (to_z-of_z c.ranges.value) at (c.write.ensures j)) ∙ ap (λ xs. cond (nat_eq j (c.args.at % 256)) c.args.value (number xs j)) (c.deref_mut.ensures.value ∙ ap (λ b. b.value) c.index_mut.ensures.value)))

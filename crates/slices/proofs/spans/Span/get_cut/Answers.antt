@@ -8,5 +8,5 @@ use Rattle.slices.proofs.spans.Span.get_cut.Goals as goal
 pub returns : goal.returns
 returns c =
     let all : HasAll (c.args.at + 1) (Cut c.in-Cut.cut) = subst (HasAll (c.args.at + 1)) c.in-Cut.is c.requires.here in
-    let item : Some (to_z w64 (of_z w64 c.read.result)) ≡ Some (number (get_or c.in-Cut.cut.list.items (c.args.at / 512) c.index.result.now).value (c.args.at % 512)) = search rules in
+    let item : Some (to_z w64 (of_z w64 c.read.result)) ≡ Some (number (get_or c.in-Cut.cut.list.items (c.args.at / 256) c.index.result.now).value (c.args.at % 256)) = search rules in
     item ∙ sym (cut_there c.in-Cut.cut c.args.at c.index.result.now all.0 (omega (arith, all.1)) (omega (arith, all.2))) ∙ ap (λ s. span_at s c.args.at) (sym c.in-Cut.is)
