@@ -19,6 +19,3 @@ mod table;
 
 pub use laws::{cells_join_again, rows_join_again};
 pub use table::{Held, HeldFault};
-
-#[cfg(test)]
-mod tests;

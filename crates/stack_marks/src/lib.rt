@@ -14,6 +14,3 @@ mod marks;
 pub use cells::Stack;
 pub use cuts::{Cut, in_order};
 pub use mark::{Mark, StackFault};
-
-#[cfg(test)]
-mod tests;

@@ -46,10 +46,3 @@ pub use records::answer;
 pub use rest::Rest;
 pub use task::Task;
 pub use turn::{Ran, Turn, run_task};
-
-#[cfg(test)]
-mod loop_tests;
-#[cfg(test)]
-mod op_tests;
-#[cfg(test)]
-mod tests;

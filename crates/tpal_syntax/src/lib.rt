@@ -28,8 +28,3 @@ pub use ops::{Flat, Op, Span};
 pub use parts::{is_instr, is_term};
 pub use sites::{CallSite, LeafSite, LoopSite};
 pub use words::Word;
-
-#[cfg(test)]
-mod loop_tests;
-#[cfg(test)]
-mod tests;

@@ -1,20 +1,14 @@
 // What compiled loops are made of, as ops: which instructions stand together in one, and which only
 // look so.
 
-use crate::ops::flattened;
-use crate::tests::{block, calc, if_jump, load, store};
-use crate::{Alu, Instr, Note, Op, Term, Value};
+use crate::codes::{calc, first_op, if_jump, load, store};
 use std::alloc::Global;
 use std::test::Fail;
 use tp_value::NoMemory;
+use tpal_syntax::{Alu, Instr, Op, Term, Value};
 
-// The op that stands at the beginning of a block. No code is made of that, so that its labels can
-// be beyond 16 bits without as many blocks.
 fn op_of(alloc: Global, body: &[Instr]) -> Result<Option<Op>, NoMemory> {
-    let mut blocks = Vec::new(alloc);
-    blocks.push(block(alloc, b"main", Note::Plain, body, Term::Halt)?)?;
-    let flat = flattened(alloc, &blocks)?;
-    Ok(flat.ops.first().copied())
+    first_op(alloc, body, Term::Halt)
 }
 
 #[test]
@@ -58,11 +52,10 @@ fn a_comparison_with_nil_and_its_jump_are_one_op(rt: HostRuntime) -> Result<(), 
     let other = calc(2, 0, Alu::Ne, Value::Nil);
     let below = calc(2, 0, Alu::Lt, Value::Nil);
     let label = calc(2, 0, Alu::Eq, Value::Label(1));
-    let cases: [(&[Instr], Op); 10] = [
+    let cases: [(&[Instr], Op); 9] = [
         (&[nil, if_jump(2, 1)], Op::NilTest(2, 0, 1)),
         (&[own, if_jump(2, 1)], Op::NilTest(2, 2, 1)),
-        (&[nil, if_jump(2, 1 << 16)], Op::NilTest(2, 0, 1 << 16)),
-        (&[nil, if_jump(2, u32::MAX)], Op::NilTest(2, 0, u32::MAX)),
+        (&[nil, if_jump(2, 0)], Op::NilTest(2, 0, 0)),
         (&[nil], Op::Leave),
         (&[nil, if_jump(0, 1)], Op::Leave),
         (&[nil, Instr::Tick, if_jump(2, 1)], Op::Leave),
@@ -93,8 +86,6 @@ fn a_range_and_its_tests_are_one_op(rt: HostRuntime) -> Result<(), Fail> {
     let alone = Op::SubReg(2, 1, 0);
     let cases = [
         (2, if_jump(3, 0), Op::RangeTest(2, 1, 0, 3, 0)),
-        (2, if_jump(3, 65_535), Op::RangeTest(2, 1, 0, 3, 65_535)),
-        (2, if_jump(3, 65_536), alone),
         (2, if_jump(2, 1), alone),
         (2, Instr::Tick, alone),
         (3, calc(3, 2, Alu::Le, Value::Int(MOST + 1)), alone),
@@ -171,8 +162,7 @@ fn a_next_iteration_is_one_op(rt: HostRuntime) -> Result<(), Fail> {
         (5, store(31, 6, Value::Reg(1)), start),
         (5, store(31, 5, Value::Reg(0)), start),
         (5, store(30, 5, Value::Reg(1)), start),
-        (7, if_jump(2, 65_535), Op::NextTurn(5, 6, 7, 65_535)),
-        (7, if_jump(2, 65_536), start),
+        (7, if_jump(2, 0), Op::NextTurn(5, 6, 7, 0)),
         (7, if_jump(3, 1), start),
         (7, Instr::Tick, start),
     ];

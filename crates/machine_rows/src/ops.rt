@@ -3,11 +3,11 @@
 ghost use Rattle.std.specs.Prelude.{◌≤◌};
 ghost use Rattle.tpal_machine.specs.Belonging.{RunsOn};
 
-use crate::tests::{Ground, ONE_CELL, ROWS, code_of, fault_of, set, tables_of};
-use crate::{Fault, Pace, Task, Turn, run_task};
+use crate::codes::{ONE_CELL, ROWS, code_of, fault_of, set, tables_of};
 use std::alloc::Global;
 use std::test::Fail;
 use tp_value::{NoMemory, Outcome, Stop};
+use tpal_machine::{Fault, Pace, Task, Turn, run_task};
 use tpal_syntax::{Alu, Code, Instr, Term, Value};
 
 pub(crate) const fn load(to: u8, off: u16) -> Instr {
@@ -109,10 +109,7 @@ fn each_of_several_faults_at_its_place(rt: HostRuntime) -> Result<(), Fail> {
         ),
     ];
     for (main, wanted) in cases {
-        assert_eq!(rt;
-            fault_of(rt.alloc(), Ground::Zero, &main, Term::Halt, &[])?,
-            Some(wanted)
-        );
+        assert_eq!(rt; fault_of(rt.alloc(), &main, Term::Halt, &[])?, Some(wanted));
     }
     Ok(())
 }
@@ -620,10 +617,7 @@ fn reads_fail_where_a_place_is_no_number(rt: HostRuntime) -> Result<(), Fail> {
         (read_behind(nil, set(3, 0)), (Fault::NotInt, 0, 6)),
     ];
     for (main, wanted) in cases {
-        assert_eq!(rt;
-            fault_of(rt.alloc(), Ground::Zero, &main, Term::Halt, &[])?,
-            Some(wanted)
-        );
+        assert_eq!(rt; fault_of(rt.alloc(), &main, Term::Halt, &[])?, Some(wanted));
     }
     Ok(())
 }

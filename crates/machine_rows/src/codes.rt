@@ -1,18 +1,14 @@
-// Codes written by hand: each fault, a fork and its merge, and what a turn counts.
+// Codes written by hand: each fault that a run comes to, a fork with what both sides hand over, and
+// what a turn counts. No run comes to a stack without room: its cells would fill all memory before.
 
-ghost use Rattle.std.specs.Prelude.{◌≡◌, ◌≤◌, [], length, IfOk, IfSome, IsTrue};
+ghost use Rattle.std.specs.Prelude.{◌≡◌, ◌≤◌, length, IfOk, IfSome};
 ghost use Rattle.tpal_machine.specs.Belonging.{RunsOn};
-ghost use Rattle.tpal_machine.specs.Belongs.{RestBelongsTo, SideBelongsTo};
-ghost use Rattle.tpal_machine.specs.Reading.{the_target};
 
-use crate::blocks::{carries_of, renames_of};
-use crate::joining::merge_parts;
-use crate::{End, Fault, Merged, Pace, Ran, Rest, Side, Task, Turn, answer, merge, run_task};
 use slices::Held;
-use stack_marks::Stack;
 use std::alloc::Global;
 use std::test::Fail;
-use tp_value::{Items, MAX_STACK_POSITION, NoMemory, Outcome, Place, Stop};
+use tp_value::{Items, NoMemory, Outcome, Place, Stop};
+use tpal_machine::{End, Fault, Pace, Ran, Rest, Side, Task, Turn, answer, run_task};
 use tpal_syntax::{
     Alu, Block, CarryAt, Code, CodeTable, CutKind, Instr, Note, Target, Term, Value, Word,
 };
@@ -146,38 +142,9 @@ pub(crate) fn fault_from(
     }
 }
 
-// Where the empty stack of a task begins: at 0, or at the last position, where no cell has room.
-#[derive(Clone, Copy)]
-pub(crate) enum Ground {
-    Zero,
-    Last,
-}
-
-fn stack_at(alloc: Global, ground: Ground) -> Stack
-    ensures cells { result.cells ≡ [] }
-    ensures marks { result.marks ≡ [] }
-{
-    match ground {
-        Ground::Zero => Stack::new(alloc, 0),
-        Ground::Last => Stack::new(alloc, MAX_STACK_POSITION),
-    }
-}
-
-// A first task, but for its empty stack. No run comes to a stack without room: its cells would fill
-// all memory before.
-fn first_on(alloc: Global, code: &Code, ground: Ground) -> Result<Task, NoMemory>
-    requires { length code.now.tables ≡ 2 }
-    ensures { IfOk result (RunsOn code.now) }
-{
-    let Task { mut frame } = Task::first(alloc, code, tables_of(alloc)?, 100)?;
-    frame.stack = stack_at(alloc, ground);
-    Ok(Task { frame })
-}
-
 // The fault of a code with this main and this side.
 pub(crate) fn fault_of(
     alloc: Global,
-    ground: Ground,
     main: &[Instr],
     end: Term,
     side: &[Instr],
@@ -185,7 +152,7 @@ pub(crate) fn fault_of(
     match code_of(alloc, ROWS, main, end, side, Term::Halt)? {
         None => Ok(None),
         Some(code) => {
-            let task = first_on(alloc, &code, ground)?;
+            let task = Task::first(alloc, &code, tables_of(alloc)?, 100)?;
             Ok(fault_from(task, &code, 100, 9))
         }
     }
@@ -246,96 +213,35 @@ fn each_fault_has_a_code(rt: HostRuntime) -> Result<(), Fail> {
     let bad_target = Instr::JrAlloc { to: 0, target: 0 };
     let fork = Instr::Fork { rec: 0, child: 4 };
     let again = Instr::Fork { rec: 4, child: 4 };
-    let (zero_up, no_room) = (Ground::Zero, Ground::Last);
-    let cases: [(Ground, &[Instr], Term, &[Instr], (Fault, u32, u32)); 16] = [
+    let cases: [(&[Instr], Term, &[Instr], (Fault, u32, u32)); 15] = [
+        (&[Instr::Print(1)], Term::Halt, &[], (Fault::NotInt, 0, 0)),
+        (&[zero, divide], Term::Halt, &[], (Fault::DivZero, 0, 1)),
+        (&[load], Term::Halt, &[], (Fault::OutOfRange, 0, 0)),
         (
-            zero_up,
-            &[Instr::Print(1)],
-            Term::Halt,
-            &[],
-            (Fault::NotInt, 0, 0),
-        ),
-        (
-            zero_up,
-            &[zero, divide],
-            Term::Halt,
-            &[],
-            (Fault::DivZero, 0, 1),
-        ),
-        (zero_up, &[load], Term::Halt, &[], (Fault::OutOfRange, 0, 0)),
-        (
-            no_room,
-            &[zero, ONE_CELL],
-            Term::Halt,
-            &[],
-            (Fault::TooLong, 0, 1),
-        ),
-        (
-            zero_up,
             &[ONE_CELL, MARK, Instr::Sfree(1)],
             Term::Halt,
             &[],
             (Fault::MarkedCell, 0, 2),
         ),
         (
-            zero_up,
             &[ONE_CELL, MARK, MARK],
             Term::Halt,
             &[],
             (Fault::MarkOrder, 0, 2),
         ),
-        (
-            zero_up,
-            &[Instr::PrmDrop],
-            Term::Halt,
-            &[],
-            (Fault::NoMark, 0, 0),
-        ),
-        (zero_up, &[ASK], Term::Halt, &[], (Fault::Pending, 0, 1)),
-        (
-            zero_up,
-            &[bad_target],
-            Term::Halt,
-            &[],
-            (Fault::BadTarget, 0, 0),
-        ),
-        (zero_up, &[fork], Term::Halt, &[], (Fault::NotRec, 0, 0)),
-        (
-            zero_up,
-            &PROMOTED,
-            TO_HEAD,
-            &[again],
-            (Fault::WrongRecord, 4, 0),
-        ),
-        (
-            zero_up,
-            &[ASK, fork],
-            Term::Halt,
-            &[],
-            (Fault::NoBeat, 0, 1),
-        ),
-        (
-            zero_up,
-            &[zero, fetch],
-            Term::Halt,
-            &[],
-            (Fault::NotHeld, 0, 1),
-        ),
-        (zero_up, &[zero, make], Term::Halt, &[], (Fault::Made, 0, 1)),
-        (
-            zero_up,
-            &[],
-            Term::Jump(Value::Reg(1)),
-            &[],
-            (Fault::NotLabel, 0, 0),
-        ),
-        (zero_up, &PROMOTED, TO_HEAD, &[], (Fault::NotRoot, 4, 0)),
+        (&[Instr::PrmDrop], Term::Halt, &[], (Fault::NoMark, 0, 0)),
+        (&[ASK], Term::Halt, &[], (Fault::Pending, 0, 1)),
+        (&[bad_target], Term::Halt, &[], (Fault::BadTarget, 0, 0)),
+        (&[fork], Term::Halt, &[], (Fault::NotRec, 0, 0)),
+        (&PROMOTED, TO_HEAD, &[again], (Fault::WrongRecord, 4, 0)),
+        (&[ASK, fork], Term::Halt, &[], (Fault::NoBeat, 0, 1)),
+        (&[zero, fetch], Term::Halt, &[], (Fault::NotHeld, 0, 1)),
+        (&[zero, make], Term::Halt, &[], (Fault::Made, 0, 1)),
+        (&[], Term::Jump(Value::Reg(1)), &[], (Fault::NotLabel, 0, 0)),
+        (&PROMOTED, TO_HEAD, &[], (Fault::NotRoot, 4, 0)),
     ];
-    for (ground, main, end, side, wanted) in cases {
-        assert_eq!(rt;
-            fault_of(rt.alloc(), ground, main, end, side)?,
-            Some(wanted)
-        );
+    for (main, end, side, wanted) in cases {
+        assert_eq!(rt; fault_of(rt.alloc(), main, end, side)?, Some(wanted));
     }
     Ok(())
 }
@@ -421,7 +327,6 @@ fn a_turn_counts_its_beats(rt: HostRuntime) -> Result<(), Fail> {
 fn forked(task: Task, code: &Code, turns: u8) -> Option<(Task, Rest, Task)>
     requires { RunsOn code.now task }
     ensures left { IfSome result (λ parts. RunsOn code.now parts.0) }
-    ensures rest { IfSome result (λ parts. RestBelongsTo code.now parts.1) }
     ensures child { IfSome result (λ parts. RunsOn code.now parts.2) }
 {
     if turns == 0 {
@@ -454,7 +359,6 @@ fn forked(task: Task, code: &Code, turns: u8) -> Option<(Task, Rest, Task)>
 // What a task arrives with in one turn.
 fn arrived(task: Task, code: &Code) -> Option<Side>
     requires { RunsOn code.now task }
-    ensures { IfSome result (SideBelongsTo code.now) }
 {
     match run_task(task, code, PACE, 100).turn {
         Turn::Arrived {
@@ -480,94 +384,42 @@ fn arrived(task: Task, code: &Code) -> Option<Side>
     }
 }
 
-// The task behind the join of a rest and two sides.
-fn joined(rest: Rest, left: Side, right: Side, code: &Code) -> Option<Task> {
-    if left.ticks > rest.kept.limit + 1 || right.ticks > rest.kept.limit + 1 {
-        return None;
-    }
-    match merge_parts(rest, left, right, code) {
-        Ok(Merged::Runs(task)) => Some(task),
-        Ok(
-            Merged::Arrived {
-                rec: _,
-                side: _,
-                out: _,
-            }
-            | Merged::Halted(_),
-        )
-        | Err(_) => None,
-    }
-}
-
-// The merged task of a rest, its left and its child, each of which arrives in one turn.
-fn merged(rest: Rest, left: Task, child: Task, code: &Code) -> Option<Task>
-    requires left { RunsOn code.now left }
-    requires child { RunsOn code.now child }
+// What both sides of the first fork of a code hand over at its join, left then right.
+fn sides(alloc: Global, code: &Code) -> Result<Option<(Side, Side)>, NoMemory>
+    requires { length code.now.tables ≡ 2 }
 {
-    match arrived(left, code) {
-        None => None,
-        Some(lower) => match arrived(child, code) {
-            None => None,
-            Some(upper) => joined(rest, lower, upper, code),
-        },
-    }
-}
-
-// Whether a side hands nothing over.
-fn is_bare(side: &Side) -> bool
-    ensures { IsTrue result → side.now.words ≡ [] × side.now.slices ≡ [] }
-{
-    side.words.items().is_empty() && side.slices.items().is_empty()
-}
-
-// Whether a join target takes nothing from its sides.
-fn takes_nothing(code: &Code, target: u32) -> bool
-    ensures renames { IsTrue result → (the_target code.now target).renames ≡ [] }
-    ensures carries { IsTrue result → (the_target code.now target).carries ≡ [] }
-{
-    renames_of(code, target).is_empty() && carries_of(code, target).is_empty()
-}
-
-// The task that a rest and two sides merge to that hand nothing over, by the public call.
-fn joined_bare(rest: Rest, left: Side, right: Side, code: &Code) -> Result<Option<Task>, NoMemory>
-    requires rest { RestBelongsTo code.now rest }
-    requires left { SideBelongsTo code.now left }
-    requires right { SideBelongsTo code.now right }
-{
-    let limit = rest.kept.limit;
-    if left.ticks > limit + 1 || right.ticks > limit + 1 {
+    let task = Task::first(alloc, code, tables_of(alloc)?, 100)?;
+    let Some((left, rest, child)) = forked(task, code, 3) else {
+        return Ok(None);
+    };
+    if rest.end() != End::Root {
         return Ok(None);
     }
-    if !takes_nothing(code, rest.kept.target) || !is_bare(&left) || !is_bare(&right) {
-        return Ok(None);
-    }
-    match merge(rest, left, right, code)? {
-        Merged::Runs(task) => Ok(Some(task)),
-        Merged::Arrived {
-            rec: _,
-            side: _,
-            out: _,
-        }
-        | Merged::Halted(_) => Ok(None),
+    match (arrived(left, code), arrived(child, code)) {
+        (Some(lower), Some(upper)) => Ok(Some((lower, upper))),
+        (None, _) | (_, None) => Ok(None),
     }
 }
 
-// What is held at a cell of the first table.
-fn cell(tables: &[Held], row: i64, col: i64) -> Option<i64> {
-    match tables.first() {
-        Some(held) => held.fetch(row, col),
+// The word of the register that the join's renaming takes from a side.
+fn word(side: &Side) -> Option<Word> {
+    match side.words.items().first() {
+        Some((_, word)) => Some(*word),
         None => None,
     }
 }
 
-// What is held of the first table, row by row.
-fn cells(tables: &[Held]) -> [Option<i64>; 4] {
-    [
-        cell(tables, 0, 0),
-        cell(tables, 0, 1),
-        cell(tables, 1, 0),
-        cell(tables, 1, 1),
-    ]
+// What a side hands over of the first table, row by row.
+fn cells(side: &Side) -> [Option<i64>; 4] {
+    match side.slices.items().first() {
+        Some((_, held)) => [
+            held.fetch(0, 0),
+            held.fetch(0, 1),
+            held.fetch(1, 0),
+            held.fetch(1, 1),
+        ],
+        None => [None; 4],
+    }
 }
 
 pub(crate) const fn set(to: u8, number: i64) -> Instr {
@@ -587,51 +439,30 @@ const fn put(row: u8, col: u8) -> Instr {
 }
 
 #[test]
-fn rows_are_cut_and_put_together(rt: HostRuntime) -> Result<(), Fail> {
+fn rows_are_cut_and_handed_over(rt: HostRuntime) -> Result<(), Fail> {
     let alloc = rt.alloc();
     let main = [set(1, 10), set(3, 1), ONE_CELL, MARK];
     let side = [set(1, 20), put(3, 31)];
     let code = code_of(alloc, ROWS, &main, TO_HEAD, &side, Term::Join(4))?.expect(&rt, "a code");
-    let task = Task::first(alloc, &code, tables_of(alloc)?, 100)?;
-    let (left, rest, child) = forked(task, &code, 3).expect(&rt, "a fork");
-    assert_eq!(rt; cells(&left.frame.tables), [Some(1), Some(2), None, None]);
-    assert_eq!(rt; cells(&rest.kept.tables), [None, None, None, None]);
-    assert_eq!(rt; cells(&child.frame.tables), [None, None, Some(3), Some(4)]);
-    let both = merged(rest, left, child, &code).expect(&rt, "the merged task");
-    assert_eq!(rt; both.frame.registers[1], Word::Int(10));
-    assert_eq!(rt; both.frame.registers[2], Word::Int(20));
-    assert_eq!(rt; both.frame.registers[31], Word::Int(0));
-    assert_eq!(rt;
-        cells(&both.frame.tables),
-        [Some(1), Some(2), Some(20), Some(4)]
-    );
-    assert_eq!(rt; both.frame.block, 5);
+    let (left, right) = sides(alloc, &code)?.expect(&rt, "two sides");
+    assert_eq!(rt; word(&left), Some(Word::Int(10)));
+    assert_eq!(rt; cells(&left), [Some(1), Some(2), None, None]);
+    assert_eq!(rt; word(&right), Some(Word::Int(20)));
+    assert_eq!(rt; cells(&right), [None, None, Some(20), Some(4)]);
     Ok(())
 }
 
 // Row 1 is cut at column 1; the rest keeps row 0.
 #[test]
-fn cells_of_a_row_are_cut_and_put_together(rt: HostRuntime) -> Result<(), Fail> {
+fn cells_of_a_row_are_cut_and_handed_over(rt: HostRuntime) -> Result<(), Fail> {
     let alloc = rt.alloc();
     let main = [set(1, 10), set(3, 1), set(5, 1), ONE_CELL, MARK];
     let side = [set(1, 20), put(3, 5)];
     let code = code_of(alloc, CELLS, &main, TO_HEAD, &side, Term::Join(4))?.expect(&rt, "a code");
-    let task = Task::first(alloc, &code, tables_of(alloc)?, 100)?;
-    let (left, rest, child) = forked(task, &code, 3).expect(&rt, "a fork");
-    assert_eq!(rt; cells(&left.frame.tables), [None, None, Some(3), None]);
-    assert_eq!(rt; cells(&rest.kept.tables), [Some(1), Some(2), None, None]);
-    assert_eq!(rt; cells(&child.frame.tables), [None, None, None, Some(4)]);
-    let both = merged(rest, left, child, &code).expect(&rt, "the merged task");
-    assert_eq!(rt;
-        cells(&both.frame.tables),
-        [Some(1), Some(2), Some(3), Some(20)]
-    );
+    let (left, right) = sides(alloc, &code)?.expect(&rt, "two sides");
+    assert_eq!(rt; cells(&left), [None, None, Some(3), None]);
+    assert_eq!(rt; cells(&right), [None, None, None, Some(20)]);
     Ok(())
-}
-
-// The lowest three cells of a stack, by position.
-fn lowest(stack: &Stack) -> [Option<Word>; 3] {
-    [stack.get(0).ok(), stack.get(1).ok(), stack.get(2).ok()]
 }
 
 const fn store(off: u16, number: i64) -> Instr {
@@ -642,10 +473,10 @@ const fn store(off: u16, number: i64) -> Instr {
     }
 }
 
-// Cells 7, 8 and 9, with a mark for the one cell at position 1: the child has this cell, the left
-// what lies above it, and the rest what lies up to it.
+// A mark's activation begins at cell 1, and its second call is the child's: the child has cell 1
+// alone, to which its register 31 points, and the left the cells above.
 #[test]
-fn a_call_is_cut_and_put_together(rt: HostRuntime) -> Result<(), Fail> {
+fn a_call_is_cut(rt: HostRuntime) -> Result<(), Fail> {
     let alloc = rt.alloc();
     let mark = Instr::PrmPush {
         base: 6,
@@ -653,61 +484,41 @@ fn a_call_is_cut_and_put_together(rt: HostRuntime) -> Result<(), Fail> {
         cells: 1,
         split: 1,
     };
-    let stores = [store(0, 7), store(1, 8), store(2, 9)];
     let main = [
         set(1, 10),
         set(6, 1),
         Instr::Salloc(3),
-        stores[0],
-        stores[1],
-        stores[2],
+        store(0, 7),
+        store(1, 8),
+        store(2, 9),
         mark,
     ];
-    let side = [set(1, 20)];
-    let code = code_of(alloc, CALL, &main, TO_HEAD, &side, Term::Join(4))?.expect(&rt, "a code");
-    let task = Task::first(alloc, &code, tables_of(alloc)?, 100)?;
-    let (left, rest, child) = forked(task, &code, 3).expect(&rt, "a fork");
-    let (seven, eight, nine) = (Word::Int(7), Word::Int(8), Word::Int(9));
-    assert_eq!(rt; lowest(&left.frame.stack), [None, None, Some(nine)]);
-    assert_eq!(rt; lowest(&rest.kept.stack), [Some(seven), Some(eight), None]);
-    assert_eq!(rt; lowest(&child.frame.stack), [None, Some(eight), None]);
-    assert_eq!(rt; left.frame.registers[31], Word::Int(0));
-    assert_eq!(rt; child.frame.registers[31], Word::Int(1));
-    let both = merged(rest, left, child, &code).expect(&rt, "the merged task");
-    assert_eq!(rt; lowest(&both.frame.stack), [Some(seven), Some(eight), None]);
-    assert_eq!(rt; both.frame.registers[31], Word::Int(1));
-    assert_eq!(rt; both.frame.registers[2], Word::Int(20));
+    let load = |off| Instr::Load {
+        to: 1,
+        base: 31,
+        off,
+    };
+    let code = code_of(alloc, CALL, &main, TO_HEAD, &[load(0)], Term::Join(4))?;
+    let (left, right) = sides(alloc, &code.expect(&rt, "a code"))?.expect(&rt, "two sides");
+    assert_eq!(rt; word(&left), Some(Word::Int(10)));
+    assert_eq!(rt; word(&right), Some(Word::Int(8)));
+    let above = code_of(alloc, CALL, &main, TO_HEAD, &[load(1)], Term::Join(4))?;
+    assert!(rt; sides(alloc, &above.expect(&rt, "a code"))?.is_none());
     Ok(())
 }
 
-// The same from a left and a child, each of which arrives in one turn.
-fn merged_bare(rest: Rest, left: Task, child: Task, code: &Code) -> Result<Option<Task>, NoMemory>
-    requires rest { RestBelongsTo code.now rest }
-    requires left { RunsOn code.now left }
-    requires child { RunsOn code.now child }
-{
-    match arrived(left, code) {
-        None => Ok(None),
-        Some(lower) => match arrived(child, code) {
-            None => Ok(None),
-            Some(upper) => joined_bare(rest, lower, upper, code),
-        },
-    }
-}
-
-// The rest printed 1, the left nothing and the child 2.
+// The left prints nothing and the child 2; what was printed before stays with the rest.
 #[test]
-fn two_sides_that_hand_nothing_over_merge(rt: HostRuntime) -> Result<(), Fail> {
+fn two_sides_may_hand_nothing_over(rt: HostRuntime) -> Result<(), Fail> {
     let alloc = rt.alloc();
     let main = [set(1, 1), Instr::Print(1), ONE_CELL, MARK];
     let side = [set(1, 2), Instr::Print(1)];
     let code = code_of(alloc, BARE, &main, TO_HEAD, &side, Term::Join(4))?.expect(&rt, "a code");
-    let task = Task::first(alloc, &code, tables_of(alloc)?, 100)?;
-    let (left, rest, child) = forked(task, &code, 3).expect(&rt, "a fork");
-    assert_eq!(rt; rest.end(), End::Root);
-    let both = merged_bare(rest, left, child, &code)?.expect(&rt, "the merged task");
-    assert_eq!(rt; both.frame.block, 5);
-    assert_eq!(rt; both.frame.output.as_slice(), b"1\n2\n".as_slice());
+    let (left, right) = sides(alloc, &code)?.expect(&rt, "two sides");
+    assert_eq!(rt; left.output.items(), b"".as_slice());
+    assert_eq!(rt; right.output.items(), b"2\n".as_slice());
+    assert!(rt; left.words.items().is_empty() && right.words.items().is_empty());
+    assert!(rt; left.slices.items().is_empty() && right.slices.items().is_empty());
     Ok(())
 }
 

@@ -3,12 +3,12 @@
 
 ghost use Rattle.std.specs.Prelude.{◌≤◌};
 
-use crate::op_tests::{TO_BOTH, TO_SIDE, calc, ended, load, number_at, store, test};
-use crate::tests::{ROWS, code_of, fault_from, set, tables_of};
-use crate::{Fault, Task};
+use crate::codes::{ROWS, code_of, fault_from, set, tables_of};
+use crate::ops::{TO_BOTH, TO_SIDE, calc, ended, load, number_at, store, test};
 use std::alloc::Global;
 use std::test::Fail;
 use tp_value::NoMemory;
+use tpal_machine::{Fault, Task};
 use tpal_syntax::{Alu, Instr, Term, Value};
 
 const MIN: i64 = i64::MIN;
@@ -226,7 +226,7 @@ fn a_variable_may_share_its_cell(rt: HostRuntime) -> Result<(), Fail> {
 }
 
 // The fault of a code with this main, with its place, in turns of so many instructions.
-fn fault_in(
+pub(crate) fn fault_in(
     alloc: Global,
     main: &[Instr],
     budget: u32,
@@ -242,7 +242,7 @@ fn fault_in(
     }
 }
 
-const fn nil(to: u8) -> Instr {
+pub(crate) const fn nil(to: u8) -> Instr {
     Instr::Move {
         to,
         value: Value::Nil,

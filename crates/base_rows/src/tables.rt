@@ -1,7 +1,7 @@
 // A table of three rows and two columns, cut and put together again, and the two holders of a
 // shared one. The cells are 1 to 6, row by row.
 
-use crate::{Held, HeldFault, cells_join_again, rows_join_again};
+use slices::{Held, HeldFault, cells_join_again, rows_join_again};
 use std::process::Abort;
 use std::test::Fail;
 

@@ -1,4 +1,4 @@
-use Rattle.tpal_machine.proofs.tests.+forked.Given as goal
+use Rattle.machine_rows.proofs.codes.+forked.Given as goal
 
 abbrev pub decreases-forked : goal.decreases-forked
 decreases-forked l = l.turns

@@ -1,4 +1,4 @@
-use Rattle.tpal_machine.proofs.op_tests.+ending_of.Given as goal
+use Rattle.machine_rows.proofs.ops.+ending_of.Given as goal
 
 abbrev pub decreases-ending_of : goal.decreases-ending_of
 decreases-ending_of l = l.turns

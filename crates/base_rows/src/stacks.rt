@@ -1,6 +1,6 @@
 // A stack of two activations with a mark on each, and its cuts.
 
-use crate::{Mark, Stack, StackFault};
+use stack_marks::{Mark, Stack, StackFault};
 use std::process::Abort;
 use std::test::Fail;
 use tpal_syntax::{CutKind, Word};

@@ -1,4 +1,4 @@
-use Rattle.tpal_machine.proofs.tests.+fault_from.Given as goal
+use Rattle.machine_rows.proofs.codes.+fault_from.Given as goal
 
 abbrev pub decreases-fault_from : goal.decreases-fault_from
 decreases-fault_from l = l.turns

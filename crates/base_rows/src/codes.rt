@@ -1,13 +1,13 @@
 // Codes that are made, and codes that are refused.
 
-use crate::{
-    Alu, Block, CarryAt, Code, CodeTable, CutKind, Instr, Note, Op, Span, Target, Term, Value,
-};
 use std::alloc::Global;
 use std::test::Fail;
 use tp_value::{Items, NoMemory, Place};
+use tpal_syntax::{
+    Alu, Block, CarryAt, Code, CodeTable, CutKind, Instr, Note, Op, Span, Target, Term, Value,
+};
 
-pub(crate) fn block(
+fn block(
     alloc: Global,
     name: &[u8],
     note: Note,
@@ -231,7 +231,7 @@ const fn put(table: u8, row: u8, col: u8, value: u8) -> Instr {
 }
 
 // The op that stands at the beginning of a block, in a code of two blocks and two tables.
-fn first_op(alloc: Global, body: &[Instr], term: Term) -> Result<Option<Op>, NoMemory> {
+pub(crate) fn first_op(alloc: Global, body: &[Instr], term: Term) -> Result<Option<Op>, NoMemory> {
     let mut blocks = Vec::new(alloc);
     blocks.push(block(alloc, b"main", Note::Plain, body, term)?)?;
     blocks.push(block(alloc, b"last", Note::Plain, &[], Term::Halt)?)?;

@@ -1,0 +1,14 @@
+//! Tests of what the machine stands on, by public calls alone: codes that are made or refused, the
+//! ops that instructions become, tables that are cut and put together again, and stacks with marks.
+//! It stands on the crates that it tests and has no code of its own, so that proving a test proves
+//! none of their laws again.
+#![tactic(auto)]
+
+#[cfg(test)]
+mod codes;
+#[cfg(test)]
+mod loops;
+#[cfg(test)]
+mod stacks;
+#[cfg(test)]
+mod tables;
