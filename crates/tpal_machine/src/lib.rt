@@ -33,6 +33,7 @@ mod records;
 mod rest;
 mod stack;
 mod stops;
+mod sums;
 mod tables;
 mod task;
 mod turn;

@@ -17,6 +17,7 @@ mod notes;
 mod ops;
 mod parts;
 mod sites;
+mod sums;
 mod words;
 
 pub use blocks::{Block, CodeTable};
