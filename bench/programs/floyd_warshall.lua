@@ -1,4 +1,4 @@
-local n = 160
+local n = 320
 local d = {}
 for i = 0, n - 1 do
   d[i] = {}

@@ -1,5 +1,5 @@
 def main():
-    n = 160
+    n = 320
     d = [[(i * 17 + j * 31) % 1009 + 1 for j in range(n)] for i in range(n)]
     for i in range(n):
         d[i][i] = 0

@@ -1,5 +1,5 @@
 fn main() {
-    let n = 160;
+    let n = 320;
     let mut d = vec![vec![0_i64; n]; n];
     for i in 0..n {
         for j in 0..n {
