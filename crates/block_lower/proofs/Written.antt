@@ -1,11 +1,5 @@
--- What is written is the code of what was read.
-
--- the statements of a vector are quiet as its row is
-pub mod QuietRows
 -- cells of a scope, where variables become visible and leave
 pub mod Laying
--- what a scope sees, told by the names alone
-pub mod Seeing
 -- variables that stand in registers, where others become visible
 pub mod Standing
 -- the variables of a leaf loop stand in its registers
@@ -45,3 +39,10 @@ pub mod WrittenFunctions
 pub mod WrittenTables
 -- the code of a program is written where that of its parts is
 pub mod WrittenPrograms
+-- the code of a program has no more blocks than it is counted with, and its activations are not too
+-- large
+pub mod Planning
+-- the literals of statements that have a code are numbers of 64 bits
+pub mod Ranges
+-- facts of lists of statements that loops and calls over them need
+pub mod Stepping

@@ -44,23 +44,23 @@ use Rattle.block_lower.specs.declared.repeat.Bound.TheVariants as bound
 use Rattle.block_lower.specs.declared.repeat.Turns.{Turns}
 use Rattle.block_lower.specs.declared.round.Round as told
 use Rattle.block_lower.specs.Bodies.{entries, activation}
-use Rattle.block_lower.specs.Code.{Opens, OpensAs, Computes, Operand, Arguments}
-use Rattle.block_lower.specs.Code.{parameter_cell, passed}
-use Rattle.block_lower.specs.Code.{Calls, Code, Codes, Other, to, store, load, below_test}
-use Rattle.block_lower.specs.Code.{step_up, put_tested}
-use Rattle.block_lower.specs.DeepMarked.{IsDeepSite, last_begun, next_begun}
-use Rattle.block_lower.specs.Fitting.{IsVisible, AreVisible, Fits, AllFit}
-use Rattle.block_lower.specs.Layout.{value_cell, bound_cell, Entry, Activation, kept_argument}
-use Rattle.block_lower.specs.LeafMarked.{IsLeafAt, leaf_turn}
-use Rattle.block_lower.specs.Marked.{length_test, marked_begin, unmark, side_test, IsQuietSite}
-use Rattle.block_lower.specs.Names.{Sees, SeesAs, StandFor}
-use Rattle.block_lower.specs.Opposite.{opposite}
-use Rattle.block_lower.specs.Pairs.{IsPair, call_enters, call_site, pair_begins, pair_joined}
-use Rattle.block_lower.specs.Pairs.{passed_call, second_call}
-use Rattle.block_lower.specs.Quiet.{list_is_quiet}
-use Rattle.block_lower.specs.Round.{Round}
-use Rattle.block_lower.specs.Sites.{rows_from}
-use Rattle.block_lower.specs.Sizes.{has_row}
+use Rattle.code_laws.specs.Code.{Opens, OpensAs, Computes, Operand, Arguments}
+use Rattle.code_laws.specs.Code.{parameter_cell, passed}
+use Rattle.code_laws.specs.Code.{Calls, Code, Codes, Other, to, store, load, below_test}
+use Rattle.code_laws.specs.Code.{step_up, put_tested}
+use Rattle.code_laws.specs.DeepMarked.{IsDeepSite, last_begun, next_begun}
+use Rattle.code_laws.specs.Fitting.{IsVisible, AreVisible, Fits, AllFit}
+use Rattle.code_laws.specs.Layout.{value_cell, bound_cell, Entry, Activation, kept_argument}
+use Rattle.code_laws.specs.LeafMarked.{IsLeafAt, leaf_turn}
+use Rattle.code_laws.specs.Marked.{length_test, marked_begin, unmark, side_test, IsQuietSite}
+use Rattle.code_laws.specs.Names.{Sees, SeesAs, StandFor}
+use Rattle.code_laws.specs.Opposite.{opposite}
+use Rattle.code_laws.specs.Pairs.{IsPair, call_enters, call_site, pair_begins, pair_joined}
+use Rattle.code_laws.specs.Pairs.{passed_call, second_call}
+use Rattle.code_laws.specs.Quiet.{list_is_quiet}
+use Rattle.code_laws.specs.Round.{Round}
+use Rattle.code_laws.specs.Sites.{rows_from}
+use Rattle.code_laws.specs.Sizes.{has_row}
 use Rattle.block_lower.specs.Writing.{label, next_label, IsFresh, Pushes, Stands, Continues}
 use Rattle.block_lower.specs.Writing.{Leads}
 

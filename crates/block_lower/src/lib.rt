@@ -1,10 +1,10 @@
 //! The compiler: from a checked program to the code of the machine. It stands on the tree and the
 //! rules of `loop_syntax`, `loop_rules` and `loop_check`, on the code of expressions of
-//! `expr_lower`, and on the handlers and joins of `handler_gen` and `join_gen`. Start with
-//! `specs/Code.antt`, which says which code is the code of a statement, and `laws`; what writes
-//! such code begins in `program`. `lowering` has the type that writes it, whose methods stand by
-//! what they write; `statement` says which of them writes which form, `par` how one that a beat can
-//! cut is marked, and `leaf` which variables of a loop stand in registers.
+//! `expr_lower`, and on the handlers and joins of `handler_gen` and `join_gen`; `code_laws` says
+//! which code is the code of a program and what it owes. What writes such code begins in `program`.
+//! `lowering` has the type that writes it, whose methods stand by what they write; `statement` says
+//! which of them writes which form, `par` how one that a beat can cut is marked, and `leaf` which
+//! variables of a loop stand in registers.
 #![tactic(auto)]
 
 mod body;
@@ -13,7 +13,6 @@ mod count;
 mod deep;
 mod fault;
 mod function;
-pub mod laws;
 mod layout;
 mod leaf;
 mod lowering;

@@ -6,17 +6,17 @@ ghost use Rattle.tp_value.specs.declared.limits.TheConstants.{MAX_BLOCKS, MAX_TA
 ghost use Rattle.tpal_syntax.specs.Listing.{Listing};
 ghost use Rattle.expr_lower.specs.Standing.{AreAt};
 ghost use Rattle.block_lower.specs.Bodies.{entries, HasRoomFor};
-ghost use Rattle.block_lower.specs.Code as codes;
-ghost use Rattle.block_lower.specs.Count.{blocks_of_program};
-ghost use Rattle.block_lower.specs.Fitting.{ProgramFits};
-ghost use Rattle.block_lower.specs.Layout.{levels_cell, value_cell};
-ghost use Rattle.block_lower.specs.Main.{IsProgram, table_name};
-ghost use Rattle.block_lower.specs.Names.{SeesBare};
-ghost use Rattle.block_lower.specs.Owing.{AreDeclared, OwesMeaning};
+ghost use Rattle.code_laws.specs.Code as codes;
+ghost use Rattle.code_laws.specs.Count.{blocks_of_program};
+ghost use Rattle.code_laws.specs.Fitting.{ProgramFits};
+ghost use Rattle.code_laws.specs.Layout.{levels_cell, value_cell};
+ghost use Rattle.code_laws.specs.Main.{IsProgram, table_name};
+ghost use Rattle.code_laws.specs.Names.{SeesBare};
+ghost use Rattle.code_laws.specs.Owing.{AreDeclared, OwesMeaning};
 ghost use Rattle.block_lower.specs.Programs as programs;
 ghost use Rattle.block_lower.specs.Programs.{LowersMain};
 ghost use Rattle.block_lower.specs.Refusing.{IsCause};
-ghost use Rattle.block_lower.specs.Sizes as sizes;
+ghost use Rattle.code_laws.specs.Sizes as sizes;
 ghost use Rattle.block_lower.specs.Writing as writing;
 ghost use Rattle.block_lower.specs.Writing.{IsFresh, Pushes};
 

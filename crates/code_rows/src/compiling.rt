@@ -1,7 +1,7 @@
 // From a source text to a program and its code, and what the code's first task holds.
 
 ghost use Rattle.std.specs.Prelude.{◌≡◌, ◌≤◌, length, IfOk, IfSome};
-ghost use Rattle.block_lower.specs.Owing.{AreHeld, AreNamed, OwesMeaning};
+ghost use Rattle.code_laws.specs.Owing.{AreHeld, AreNamed, OwesMeaning};
 ghost use Rattle.code_rows.specs.Owed.{given_to};
 
 use block_lower::lower;

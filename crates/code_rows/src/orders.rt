@@ -2,7 +2,7 @@
 
 ghost use Rattle.std.specs.Prelude.{◌≡◌, ◌≤◌, ◌<◌, IfOk, IfErr, IfSome, length};
 ghost use Rattle.tp_value.specs.declared.limits.TheConstants.{MAX_BEAT, MAX_WORKERS};
-ghost use Rattle.block_lower.specs.Owing.{OwesMeaning};
+ghost use Rattle.code_laws.specs.Owing.{OwesMeaning};
 ghost use Rattle.schedule_core.specs.Apply.{Belongs, IsSound};
 ghost use Rattle.schedule_core.specs.Standing.{stands};
 ghost use Rattle.code_rows.specs.Owed.{owed};

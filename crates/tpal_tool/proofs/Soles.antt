@@ -22,8 +22,8 @@ use Rattle.loop_rules.proofs.Firsts.{first-tree, resolved-tree, firsts_agree, no
 use Rattle.loop_check.specs.Checking as parallel
 use Rattle.loop_check.specs.Unbroken.{NoneBroken}
 use Rattle.loop_check.proofs.Firsts as parallels
-use Rattle.block_lower.specs.Count.{blocks_of_program}
-use Rattle.block_lower.proofs.Counts.TreeBlocks.{blocks_of_tree}
+use Rattle.code_laws.specs.Count.{blocks_of_program}
+use Rattle.code_laws.proofs.Counts.TreeBlocks.{blocks_of_tree}
 
 -- ---- faults of the lexer
 

@@ -15,7 +15,7 @@ use Rattle.tpal_syntax.specs.Text.{CodeText}
 use Rattle.tpal_machine.specs.State.{first_state}
 use Rattle.schedule_core.specs.declared.lanes.Tally.{Tally}
 use Rattle.schedule_core.specs.Solo.{SoloRun}
-use Rattle.block_lower.specs.Owing.{AreHeld, OwesMeaning}
+use Rattle.code_laws.specs.Owing.{AreHeld, OwesMeaning}
 use Rattle.tpal_tool.specs.declared.status.Status.{Status}
 use Rattle.tpal_tool.specs.declared.status.Status.TheVariants.{Done, Trap, OutOfFuel, Refused}
 use Rattle.tpal_tool.specs.declared.status.Status.TheVariants.{NoMemory, ReadFault, WriteFault}

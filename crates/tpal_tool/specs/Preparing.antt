@@ -6,7 +6,7 @@ use Rattle.loop_syntax.specs.declared.program.Program.{Program}
 use Rattle.loop_meaning.specs.Answers.{status_of, text_of}
 use Rattle.loop_meaning.specs.Meaning.{meaning}
 use Rattle.tpal_syntax.specs.Listing.{Listing}
-use Rattle.block_lower.specs.Owing.{AreHeld, AreNamed, IsTable, OwesMeaning}
+use Rattle.code_laws.specs.Owing.{AreHeld, AreNamed, IsTable, OwesMeaning}
 use Rattle.tpal_tool.specs.declared.prepared.Prepared.{Prepared}
 use Rattle.tpal_tool.specs.declared.prepared.Prepared.TheVariants.{Answered, Ready}
 use Rattle.tpal_tool.specs.declared.status.Status.{Status}

@@ -4,7 +4,7 @@ ghost use Rattle.std.specs.Prelude.{◌≡◌, ◌≤◌, List, None, Some, All,
 ghost use Rattle.std.specs.Prelude.{length, option_map, true};
 ghost use Rattle.std.specs.List.{position};
 ghost use Rattle.std.specs.Prelude.{bytes_eq};
-ghost use Rattle.block_lower.specs.Owing.{AreHeld, IsTable, IsWholeOf};
+ghost use Rattle.code_laws.specs.Owing.{AreHeld, IsTable, IsWholeOf};
 ghost use Rattle.tp_value.specs.declared.limits.TheConstants.{MAX_TABLES_BYTES};
 ghost use Rattle.loop_meaning.specs.State.{table_of};
 ghost use Rattle.table_text.specs.TablesText.{TablesOf};

@@ -1,7 +1,7 @@
 // From a source text to a program that can be compiled, or a refusal.
 
 ghost use Rattle.std.specs.Prelude.{◌≡◌, ◌-◌, ◌<◌, ◌≤◌, ◌^◌, ℕ, List, IfErr, IfOk, length};
-ghost use Rattle.block_lower.specs.Count.{blocks_of_program};
+ghost use Rattle.code_laws.specs.Count.{blocks_of_program};
 ghost use Rattle.loop_rules.specs.Unbroken.{IsResolved};
 ghost use Rattle.loop_check.specs.Unbroken.{NoneBroken};
 ghost use Rattle.tpal_tool.specs.Answering.{Halts, RefusesSource};

@@ -2,8 +2,8 @@
 
 ghost use Rattle.std.specs.Prelude.{◌≡◌, ◌≤◌, List, ℕ, None, All, IfOk, Option, true, false};
 ghost use Rattle.tp_value.specs.declared.limits.TheConstants.{MAX_BLOCKS};
-ghost use Rattle.block_lower.specs.Count.{blocks_of_program};
-ghost use Rattle.block_lower.specs.Owing.{IsTable, OwesMeaning};
+ghost use Rattle.code_laws.specs.Count.{blocks_of_program};
+ghost use Rattle.code_laws.specs.Owing.{IsTable, OwesMeaning};
 ghost use Rattle.loop_meaning.specs.Answers.{status_of, text_of};
 ghost use Rattle.schedule_core.specs.Counting.{tally_of};
 ghost use Rattle.table_text.specs.TablesText.{TablesOf};

@@ -3,7 +3,7 @@
 ghost use Rattle.std.specs.Prelude.{◌≡◌, ℕ, ◌≤◌, Option, List, IfErr, IfOk, IsSomeAnd, Some, None};
 ghost use Rattle.std.specs.Prelude.{false, true, length, map, option_map, string_bytes};
 ghost use Rattle.tp_value.specs.declared.limits.TheConstants.{MAX_BLOCKS, MAX_TABLES_BYTES};
-ghost use Rattle.block_lower.specs.Count.{blocks_of_program};
+ghost use Rattle.code_laws.specs.Count.{blocks_of_program};
 ghost use Rattle.tpal_tool.specs.Answering.{Halts, OwesRefusal, whole_of};
 ghost use Rattle.tpal_tool.specs.Asking.{command_of, options_seen};
 ghost use Rattle.tpal_tool.specs.Owed.{CompilesTo, Ends, Finished, IsFinal, IsWritten};

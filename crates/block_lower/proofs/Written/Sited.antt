@@ -28,14 +28,14 @@ use Rattle.handler_gen.specs.Sites.{IsLoopSite, IsLowCarry, IsNoRow, at_of}
 use Rattle.block_lower.specs.declared.body.Body.{Body}
 use Rattle.block_lower.specs.declared.round.Round as told
 use Rattle.block_lower.specs.Bodies.{HasRoomFor, entries}
-use Rattle.block_lower.specs.Fitting.{CanBeCut}
-use Rattle.block_lower.specs.Layout.{bound_cell, cursor_cell, rec_cell, value_cell, Entry}
+use Rattle.code_laws.specs.Fitting.{CanBeCut}
+use Rattle.code_laws.specs.Layout.{bound_cell, cursor_cell, rec_cell, value_cell, Entry}
 use Rattle.block_lower.specs.Lowering.{FitsIn}
-use Rattle.block_lower.specs.Names.{Sees}
-use Rattle.block_lower.specs.Sites.{accs_of, carried_table, carries_from, carry_at, loop_site}
+use Rattle.code_laws.specs.Names.{Sees}
+use Rattle.code_laws.specs.Sites.{accs_of, carried_table, carries_from, carry_at, loop_site}
 use Rattle.block_lower.proofs.Written.LoweredPars.{targets_seen}
-use Rattle.block_lower.proofs.Written.Seeing.{as_long, cell_of_level, one_cell, seen_table}
-use Rattle.block_lower.proofs.Rules.UnbrokenSpots.{at_level}
+use Rattle.code_laws.proofs.Scenes.Seeing.{as_long, cell_of_level, one_cell, seen_table}
+use Rattle.code_laws.proofs.Rules.UnbrokenSpots.{at_level}
 
 pub no_pairs : {X : Type 0} (R : X → X → Type 0) → AllPairs R []
 no_pairs R i j d less below = absurd (omega (arith, below))

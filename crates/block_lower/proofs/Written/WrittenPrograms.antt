@@ -10,7 +10,6 @@ use Rattle.loop_syntax.specs.declared.Func.{Func}
 use Rattle.loop_syntax.specs.declared.Program.{Program}
 use Rattle.loop_syntax.specs.declared.TableDecl.{TableDecl}
 use Rattle.loop_rules.specs.Names.{texts}
-use Rattle.tpal_syntax.specs.Conditions.{IsCode}
 use Rattle.tpal_syntax.specs.declared.blocks.Block.{Block}
 use Rattle.tpal_syntax.specs.declared.blocks.CodeTable.{CodeTable}
 use Rattle.tpal_syntax.specs.declared.instructions.Instr.{Instr}
@@ -19,8 +18,6 @@ use Rattle.tpal_syntax.specs.declared.instructions.Term.{Term}
 use Rattle.tpal_syntax.specs.declared.instructions.Term.TheVariants as term
 use Rattle.tpal_syntax.specs.declared.instructions.Value.TheVariants as value
 use Rattle.tpal_syntax.specs.Listing.{Listing}
-use Rattle.tpal_machine.proofs.Given.{first_of}
-use Rattle.expr_lower.proofs.Law.{expr_law}
 use Rattle.expr_lower.specs.declared.scope.Scope.{Scope}
 use Rattle.expr_lower.specs.Standing.{AreAt}
 use Rattle.handler_gen.specs.Blocks.{dispatch_block}
@@ -29,30 +26,25 @@ use Rattle.block_lower.specs.declared.body.Body.{Body}
 use Rattle.block_lower.specs.declared.output.Output.{Output}
 use Rattle.block_lower.specs.declared.round.Round as told
 use Rattle.block_lower.specs.Bodies.{entries, activation, HasRoomFor}
-use Rattle.block_lower.specs.Code.{Codes, store}
-use Rattle.block_lower.specs.Fitting.{IsVisible, AllFit, FuncFits, DeclsFit, ProgramFits}
-use Rattle.block_lower.specs.Heights.{FuncIsLow}
-use Rattle.block_lower.specs.Layout.{levels_cell, value_cell, Entry, entry_of, Activation}
+use Rattle.code_laws.specs.Code.{Codes, store}
+use Rattle.code_laws.specs.Fitting.{IsVisible, AllFit, FuncFits, DeclsFit, ProgramFits}
+use Rattle.code_laws.specs.Heights.{FuncIsLow}
+use Rattle.code_laws.specs.Layout.{levels_cell, value_cell, Entry, entry_of, Activation}
 use Rattle.block_lower.specs.Lowering.{IsRound, FitsIn, LowersAll}
-use Rattle.block_lower.specs.Main.{IsFunction, AreFunctions, IsProgram, Makes, table_name}
-use Rattle.block_lower.specs.Names.{Sees, SeesAfter, SeesBare, names_after_list}
-use Rattle.block_lower.specs.Owing.{IsDeclared, AreDeclared, OwesMeaning}
+use Rattle.code_laws.specs.Main.{IsFunction, AreFunctions, IsProgram, Makes, table_name}
+use Rattle.code_laws.specs.Names.{Sees, SeesAfter, SeesBare, names_after_list}
+use Rattle.code_laws.specs.Owing.{IsDeclared, AreDeclared}
 use Rattle.block_lower.specs.Programs.{most_of, entries_from, quiet_calls, dispatch_of}
 use Rattle.block_lower.specs.Programs.{added_by_main, added_by_funcs, FuncFitsIn, FuncsFitNow}
 use Rattle.block_lower.specs.Programs.{activation_of, AreWritten, LowersFuncs, SeesTables}
 use Rattle.block_lower.specs.Programs.{WritesMakes, IsMainAt, LowersMain}
-use Rattle.block_lower.specs.Round.{outermost}
-use Rattle.block_lower.specs.Sizes.{added_by_func, declared_by_list, kept_by_list, kept_by_decls}
+use Rattle.code_laws.specs.Round.{outermost}
+use Rattle.code_laws.specs.Sizes.{added_by_func, declared_by_list, kept_by_list, kept_by_decls}
 use Rattle.block_lower.specs.Writing.{label, next_label, IsFresh, Pushes, Closes, Stands, Continues}
 use Rattle.block_lower.specs.Writing.{Leads}
-use Rattle.block_lower.proofs.Forms.Makes.{given_tables_are}
-use Rattle.block_lower.proofs.Counts.Planning.{IsPlanned, entry_is_planned, main_fits}
-use Rattle.block_lower.proofs.Counts.Planning.{fitting_main_is_small, fitting_body, fitting_main}
-use Rattle.block_lower.proofs.Whole.Cutting.{ProgramRules}
-use Rattle.block_lower.proofs.Whole.Found.{program_rules}
-use Rattle.block_lower.proofs.Whole.Ranges.{codes_ranged, functions_ranged, makes_ranged}
-use Rattle.block_lower.proofs.Whole.Root.{as_many_held, owes_promoted}
-use Rattle.loop_check.specs.Unbroken.{NoneBroken}
+use Rattle.block_lower.proofs.Written.Planning.{IsPlanned, entry_is_planned, main_fits}
+use Rattle.block_lower.proofs.Written.Planning.{fitting_main_is_small, fitting_body, fitting_main}
+use Rattle.block_lower.proofs.Written.Ranges.{codes_ranged, functions_ranged, makes_ranged}
 use Rattle.block_lower.proofs.Written.Standing.{sees_bare}
 use Rattle.block_lower.proofs.Written.Writing.{reopened, pushed, closed_block, fresh_opens}
 use Rattle.block_lower.proofs.Written.WrittenFunctions.{room_of, fresh_label}
@@ -241,16 +233,4 @@ program_written p on kept scope old main new fits same most calls beat room empt
         funcs = functions_ranged code (activation on tables) (label main) p.funcs.items f.1;
         main = codes_ranged code (activation on tables) m.statements;
       };
-    }
-
--- a code that is the code of a program owes its meaning
-pub owes_of : (p : Program) (code : Listing) → NoneBroken p → IsCode code.tables code.blocks → IsProgram code p → OwesMeaning p code
-owes_of p code unbroken right is =
-    let rules : ProgramRules p is.act.tables = subst (ProgramRules p) (sym is.tables) (program_rules p unbroken is.ranged) in
-    record {
-      declared = is.declared;
-      promoted = λ given holdings heartbeat fuel are named held.
-          owes_promoted code heartbeat (λ K scope vars tables e label r inside low blocks. expr_law code heartbeat K scope vars tables e label r inside low blocks)
-          p given holdings fuel is rules (given_tables_are p.tables.items given are named) held
-          (record { right = right; runs = first_of code holdings fuel right (as_many_held p.tables.items code.tables given holdings is.declared held) });
     }

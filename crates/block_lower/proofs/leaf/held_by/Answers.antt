@@ -3,7 +3,7 @@ use Rattle.std.proofs.Common.{ℕ, Vec, ◌+◌, [], ◌∷◌, ◌++◌, List, 
 use Rattle.std.proofs.lemmas.List.{length-take-le}
 use Rattle.loop_syntax.specs.declared.Reduce.{Reduce}
 use Rattle.block_lower.specs.Lowering.{AreHeld, held_from}
-use Rattle.block_lower.proofs.Forms.Stepping.{first_more}
+use Rattle.block_lower.proofs.Written.Stepping.{first_more}
 use Rattle.block_lower.proofs.Written.Held.{held_more}
 use Rattle.block_lower.proofs.leaf.held_by.Goals as goal
 

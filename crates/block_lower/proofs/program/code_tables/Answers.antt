@@ -1,6 +1,6 @@
 use Rattle.std.proofs.Common.{◌∙◌}
 use Rattle.std.proofs.Common.{take}
-use Rattle.block_lower.proofs.Forms.Stepping.{first_more}
+use Rattle.block_lower.proofs.Written.Stepping.{first_more}
 use Rattle.block_lower.proofs.Written.WrittenPrograms.{declared_more}
 use Rattle.block_lower.proofs.program.code_tables.Goals as goal
 use Rattle.block_lower.proofs.program.code_tables.Goals.{in-Input+in_ok-name-in-Input+in_ok-push-in-Input}

@@ -2,12 +2,12 @@ use Rattle.std.proofs.Common.{◌≡◌, ◌≤◌, length, sym, subst, arith}
 use Rattle.loop_syntax.specs.declared.Program.{Program}
 use Rattle.tpal_syntax.specs.Conditions.{IsCode}
 use Rattle.tpal_syntax.specs.Listing.{Listing}
-use Rattle.block_lower.specs.Count.{blocks_of_program}
-use Rattle.block_lower.specs.Owing.{OwesMeaning}
-use Rattle.block_lower.proofs.Counts.Planning.{fewer_blocks}
-use Rattle.block_lower.proofs.Rules.Unbroken.{program_fits}
-use Rattle.block_lower.proofs.Counts.Wholes.{stand_whole}
-use Rattle.block_lower.proofs.Written.WrittenPrograms.{owes_of}
+use Rattle.code_laws.specs.Count.{blocks_of_program}
+use Rattle.code_laws.specs.Owing.{OwesMeaning}
+use Rattle.block_lower.proofs.Written.Planning.{fewer_blocks}
+use Rattle.code_laws.proofs.Rules.Unbroken.{program_fits}
+use Rattle.code_laws.proofs.Counts.Wholes.{stand_whole}
+use Rattle.code_laws.proofs.Whole.Owes.{owes_of}
 use Rattle.block_lower.proofs.program.lower.Goals as goal
 
 pub program_blocks-requires-clause-fits : goal.program_blocks-requires-clause-fits

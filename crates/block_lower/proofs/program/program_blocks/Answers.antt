@@ -3,8 +3,8 @@ use Rattle.std.proofs.lemmas.List.{length-append}
 use Rattle.tpal_syntax.specs.declared.blocks.Block.{Block}
 use Rattle.expr_lower.specs.Standing.{AreAt}
 use Rattle.handler_gen.specs.Blocks.{dispatch_block}
-use Rattle.block_lower.specs.Sizes.{kept_by_list, kept_by_decls}
-use Rattle.block_lower.proofs.Counts.Planning.{fitting_are_small}
+use Rattle.code_laws.specs.Sizes.{kept_by_list, kept_by_decls}
+use Rattle.block_lower.proofs.Written.Planning.{fitting_are_small}
 use Rattle.block_lower.proofs.Written.WrittenPrograms.{funcs_fit_now, funcs_low, main_room}
 use Rattle.block_lower.proofs.Written.WrittenPrograms.{program_written}
 use Rattle.block_lower.proofs.program.program_blocks.Goals as goal

@@ -9,8 +9,8 @@ use Rattle.loop_syntax.specs.declared.program.TableDecl.TheVariants.{Input, Made
 use Rattle.loop_meaning.specs.InRange.{InRange}
 use Rattle.tpal_machine.specs.Owes.{Owes}
 use Rattle.tpal_machine.specs.State.{first_state}
-use Rattle.block_lower.specs.Owing.{AreHeld, AreNamed, IsTable}
-use Rattle.block_lower.proofs.Whole.Owed.{owes_anyhow}
+use Rattle.code_laws.specs.Owing.{AreHeld, AreNamed, IsTable}
+use Rattle.code_laws.proofs.Whole.Owed.{owes_anyhow}
 use Rattle.code_rows.specs.Owed.{column, given_to, owed}
 use Rattle.code_rows.proofs.orders.first.Goals as goal
 

@@ -1,5 +1,5 @@
 use Rattle.std.proofs.Common.{◌≡◌, ap, refl, arith}
-use Rattle.block_lower.specs.Count.{blocks_of_program}
+use Rattle.code_laws.specs.Count.{blocks_of_program}
 use Rattle.tpal_tool.specs.Lines.{blocks_line}
 use Rattle.tpal_tool.proofs.Soles.{accepted-only, too_many-only}
 use Rattle.tpal_tool.proofs.judging.fitting.Goals as goal

@@ -1,7 +1,7 @@
 use Rattle.std.proofs.Common.{◌≡◌, ℕ, ◌*◌, ◌≤◌, length, ap, subst, ◌∙◌, arith}
 use Rattle.loop_syntax.specs.declared.program.Program.{Program}
-use Rattle.block_lower.specs.Count.{blocks_of_program}
-use Rattle.block_lower.proofs.Counts.FewBlocks.{few_blocks_of}
+use Rattle.code_laws.specs.Count.{blocks_of_program}
+use Rattle.code_laws.proofs.Counts.FewBlocks.{few_blocks_of}
 use Rattle.tpal_tool.proofs.judging.judge.Goals as goal
 
 pub fitting-requires-clause-few : goal.fitting-requires-clause-few

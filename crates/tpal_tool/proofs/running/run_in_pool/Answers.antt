@@ -6,7 +6,7 @@ use Rattle.tpal_machine.specs.declared.ends.Ending.TheVariants.{Root}
 use Rattle.tpal_machine.specs.Owes.{Owes}
 use Rattle.tpal_machine.specs.State.{first_state}
 use Rattle.schedule_core.specs.Counting.{tally_of}
-use Rattle.block_lower.specs.Owing.{AreHeld}
+use Rattle.code_laws.specs.Owing.{AreHeld}
 use Rattle.tpal_tool.specs.Asking.{options_seen}
 use Rattle.tpal_tool.proofs.Declarations.{as_many}
 use Rattle.tpal_tool.proofs.Finishing.{first_owes, finished-owed, outcome_in}

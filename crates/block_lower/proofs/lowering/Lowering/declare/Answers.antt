@@ -1,4 +1,4 @@
-use Rattle.block_lower.proofs.Forms.Stepping.{on_ok}
+use Rattle.block_lower.proofs.Written.Stepping.{on_ok}
 use Rattle.block_lower.proofs.lowering.Lowering.declare.Goals as goal
 
 pub returns-clause-sees : goal.returns-clause-sees

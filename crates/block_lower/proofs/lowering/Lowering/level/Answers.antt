@@ -1,4 +1,4 @@
-use Rattle.block_lower.proofs.Forms.Stepping.{long_as}
+use Rattle.block_lower.proofs.Written.Stepping.{long_as}
 use Rattle.block_lower.proofs.lowering.Lowering.level.Goals as goal
 
 pub returns : goal.returns

@@ -1,6 +1,6 @@
 use Rattle.std.proofs.Common.{sym}
 use Rattle.block_lower.proofs.Written.LoweredTables.{fold_nothing_written}
-use Rattle.block_lower.proofs.Forms.Stepping.{on_ok}
+use Rattle.block_lower.proofs.Written.Stepping.{on_ok}
 use Rattle.block_lower.proofs.lowering.Lowering.lower_fold.Goals as goal
 
 pub returns-in-None-clause-code : goal.returns-in-None-clause-code

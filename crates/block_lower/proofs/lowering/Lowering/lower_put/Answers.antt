@@ -1,4 +1,4 @@
-use Rattle.block_lower.proofs.Forms.Stepping.{on_ok}
+use Rattle.block_lower.proofs.Written.Stepping.{on_ok}
 use Rattle.block_lower.proofs.lowering.Lowering.lower_put.Goals as goal
 
 pub returns-then-is_low_at-2-clause-code : goal.returns-then-is_low_at-2-clause-code

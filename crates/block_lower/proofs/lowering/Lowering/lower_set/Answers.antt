@@ -1,5 +1,5 @@
 use Rattle.std.proofs.Common.{sym}
-use Rattle.block_lower.proofs.Forms.Stepping.{on_ok}
+use Rattle.block_lower.proofs.Written.Stepping.{on_ok}
 use Rattle.block_lower.proofs.Written.Lowered.{set_register_written, set_written}
 use Rattle.block_lower.proofs.lowering.Lowering.lower_set.Goals as goal
 

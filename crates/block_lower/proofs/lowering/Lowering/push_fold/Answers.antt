@@ -1,5 +1,5 @@
 use Rattle.std.proofs.Common.{sym}
-use Rattle.block_lower.proofs.Forms.Stepping.{on_ok}
+use Rattle.block_lower.proofs.Written.Stepping.{on_ok}
 use Rattle.block_lower.proofs.Written.LoweredTables.{fold_register_written, fold_written}
 use Rattle.block_lower.proofs.lowering.Lowering.push_fold.Goals as goal
 

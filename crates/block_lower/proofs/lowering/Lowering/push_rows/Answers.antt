@@ -1,9 +1,9 @@
 use Rattle.std.proofs.Common.{[], ◌∷◌, subst, ◌∙◌, arith}
 use Rattle.expr_lower.specs.declared.scope.Scope.{Scope}
-use Rattle.block_lower.specs.Sites.{rows_from}
+use Rattle.code_laws.specs.Sites.{rows_from}
 use Rattle.block_lower.specs.Writing.{Pushes}
 use Rattle.block_lower.proofs.Written.LoweredRows.{rows_pushed}
-use Rattle.block_lower.proofs.Forms.Stepping.{first_more}
+use Rattle.block_lower.proofs.Written.Stepping.{first_more}
 use Rattle.block_lower.proofs.lowering.Lowering.push_rows.Goals as goal
 
 pub loop-before-preserved : goal.loop-before-preserved

@@ -1,5 +1,0 @@
-use Rattle.block_lower.proofs.Counts.FewBlocks.{few_blocks_of}
-use Rattle.block_lower.proofs.laws.texts_have_few_blocks.Goals as goal
-
-pub returns : goal.returns
-returns c = few_blocks_of c.args.source.now c.args.program.now
