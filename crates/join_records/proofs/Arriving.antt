@@ -3,7 +3,7 @@ use Rattle.tpal_machine.specs.declared.ends.End.{End}
 use Rattle.tpal_machine.specs.declared.ends.End.TheVariants.{Root, At}
 use Rattle.tpal_machine.specs.declared.ends.SideName.TheVariants.{Left, Right}
 use Rattle.join_records.specs.declared.views.Grip.TheVariants.{Emptying}
-use Rattle.join_records.specs.declared.views.Stage.TheVariants.{Steady, Arriving}
+use Rattle.join_records.specs.declared.views.CallState.TheVariants.{Steady, Arriving}
 use Rattle.join_records.specs.Ends.{code_of}
 use Rattle.std.proofs.Common.{◌≡◌, ◌≢◌, ◌⊎◌, ℕ, ◌+◌, ◌*◌, ◌<◌, ◌≤◌, ◌%◌, ◌/◌, List, [], ◌∷◌, length}
 use Rattle.std.proofs.Common.{get_or, set, Bool, true, false, refl, sym, ap, ◌∙◌, subst, inl, inr}

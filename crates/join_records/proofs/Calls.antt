@@ -5,7 +5,7 @@ use Rattle.tpal_machine.specs.declared.ends.SideName.TheVariants.{Left, Right}
 use Rattle.join_records.specs.Ends.{code_of, IsEndOf}
 use Rattle.join_records.specs.declared.views.Grip.{Grip}
 use Rattle.join_records.specs.declared.views.Grip.TheVariants.{Filling, Emptying, Emptied}
-use Rattle.join_records.specs.declared.views.Stage.TheVariants.{Steady}
+use Rattle.join_records.specs.declared.views.CallState.TheVariants.{Steady}
 use Rattle.std.proofs.Common.{inl, inr, ◌≡◌, ◌≢◌, ◌⊎◌, ℕ, ◌+◌, ◌*◌, ◌<◌, ◌≤◌, List, [], ◌∷◌, ◌++◌}
 use Rattle.std.proofs.Common.{length, refl, sym, ap, ◌∙◌, subst, arith, append_assoc, Bool, true}
 use Rattle.std.proofs.Common.{false, ◌&&◌, ◌||◌, cond, eqb, eq-eqb, ne_eqb, Some}

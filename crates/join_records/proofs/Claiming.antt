@@ -2,8 +2,8 @@
 use Rattle.tpal_machine.specs.declared.ends.End.{End}
 use Rattle.tpal_machine.specs.declared.ends.End.TheVariants.{At}
 use Rattle.tpal_machine.specs.declared.ends.SideName.TheVariants.{Right}
-use Rattle.join_records.specs.declared.views.Stage.{Stage}
-use Rattle.join_records.specs.declared.views.Stage.TheVariants.{Steady, Claiming}
+use Rattle.join_records.specs.declared.views.CallState.{CallState}
+use Rattle.join_records.specs.declared.views.CallState.TheVariants.{Steady, Claiming}
 use Rattle.join_records.specs.Ends.{code_of}
 use Rattle.std.proofs.Common.{◌≡◌, ◌≢◌, ◌⊎◌, ℕ, ◌+◌, ◌*◌, ◌<◌, ◌%◌, eqb, List, [], ◌∷◌, length}
 use Rattle.std.proofs.Common.{get_or, set, Bool, true, false, refl, sym, ap, ◌∙◌, subst, inl, inr}
@@ -135,7 +135,7 @@ module _ {R C D E : Type 0} (F : Facts R C D E) (born : C) where
           idle = λ z. absurd (alive z);
         }
       where
-        seat_kept : {j i : ℕ} {m : Stage} → seat j m ≡ kept i → ⊥
+        seat_kept : {j i : ℕ} {m : CallState} → seat j m ≡ kept i → ⊥
         seat_kept z = cc
 
   pub claims : (n id : ℕ) (me : M) (k f : ℕ) → me.0.parts ≢ 0 → 4 * k < n → f % 8 ≡ 3 → me.0.ends ≡ [] → Allows (Kept F born) n id me (k + 1) (λ y. either (eqb y f) (f + 4) y) (record_claimed F.has_end F.owes (step n (k + 1) f (f + 4) none) me)
@@ -242,10 +242,10 @@ module _ {R C D E : Type 0} (F : Facts R C D E) (born : C) where
           idle = λ z. absurd (alive z);
         }
       where
-        seat_kept : {j i : ℕ} {m : Stage} → seat j m ≡ kept i → ⊥
+        seat_kept : {j i : ℕ} {m : CallState} → seat j m ≡ kept i → ⊥
         seat_kept z = cc
 
-        kept_seat : {j i : ℕ} {m : Stage} → kept i ≡ seat j m → ⊥
+        kept_seat : {j i : ℕ} {m : CallState} → kept i ≡ seat j m → ⊥
         kept_seat z = cc
 
         given_left : (b : Bool) → LeftOk F s.words s.homes r.holder r.ending k b → LeftOk F (set s.words (k + 1) given_x) given_homes given_holder r.ending k b

@@ -2,8 +2,8 @@
 use Rattle.tpal_machine.specs.declared.ends.End.{End}
 use Rattle.tpal_machine.specs.declared.ends.End.TheVariants.{Root}
 use Rattle.join_records.specs.declared.views.Grip.TheVariants.{Emptying, Emptied}
-use Rattle.join_records.specs.declared.views.Stage.{Stage}
-use Rattle.join_records.specs.declared.views.Stage.TheVariants.{Steady}
+use Rattle.join_records.specs.declared.views.CallState.{CallState}
+use Rattle.join_records.specs.declared.views.CallState.TheVariants.{Steady}
 use Rattle.join_records.specs.Ends.{code_of}
 use Rattle.std.proofs.Common.{◌≡◌, ◌≢◌, ◌⊎◌, ℕ, ◌+◌, ◌*◌, ◌<◌, ◌≤◌, eqb, List, [], ◌∷◌, length}
 use Rattle.std.proofs.Common.{get_or, set, false, refl, sym, ap, ◌∙◌, subst, inl, inr, ⊎_elim}
@@ -201,7 +201,7 @@ module _ {R C D E : Type 0} (F : Facts R C D E) (born : C) where
         nobody_kept : {k : ℕ} → nobody ≡ kept k → ⊥
         nobody_kept z = cc
 
-        nobody_seat : {j : ℕ} {m : Stage} → nobody ≡ seat j m → ⊥
+        nobody_seat : {j : ℕ} {m : CallState} → nobody ≡ seat j m → ⊥
         nobody_seat z = cc
 
         rooted_on : r.era ≡ running → (b : Option C) (o : Option E) → Rooted born r.root r.era b o → Rooted born r.root finished b o

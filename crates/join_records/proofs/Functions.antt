@@ -2,7 +2,7 @@
 use Rattle.tpal_machine.specs.declared.ends.End.{End}
 use Rattle.join_records.specs.declared.views.Grip.{Grip}
 use Rattle.join_records.specs.declared.views.Grip.TheVariants.{Reserved, Filling, Emptying, Emptied}
-use Rattle.join_records.specs.declared.views.Stage.{Stage}
+use Rattle.join_records.specs.declared.views.CallState.{CallState}
 use Rattle.join_records.specs.Ends.{code_of}
 use Rattle.std.proofs.Common.{◌≡◌, ◌≢◌, ◌⊎◌, ℕ, zero, suc, ◌+◌, ◌<◌, ◌≤◌, eqb, List, [], ◌∷◌, ◌++◌}
 use Rattle.std.proofs.Common.{map, replicate, length, get_or, set, Bool, true, false, cond, ◌||◌}
@@ -184,10 +184,10 @@ some_is : {A : Type 0} {x y : A} → Some x ≡ Some y → x ≡ y
 some_is e = cc
 
 -- a seat that has an end is its holder
-pub held_some : {E : Type 0} (j : ℕ) (h : Holder) (x e : E) (m : Stage) → Some (e, m) ≡ held_of j h x → (h ≡ seat j m) × (x ≡ e)
+pub held_some : {E : Type 0} (j : ℕ) (h : Holder) (x e : E) (m : CallState) → Some (e, m) ≡ held_of j h x → (h ≡ seat j m) × (x ≡ e)
 held_some j nobody x e m is = absurd (none_some (sym is))
 held_some {E = E} j (seat i l) x e m is = dite (ℕ_discrete i j)
-    (λ z. let p = some_is (is ∙ ap (λ (b : Bool). cond b (Some (x, l)) None) (eq-eqb i j z)) in ((λ t. seat (z t) (sym (ap (λ (q : E × Stage). q.1) p) t)), sym (ap (λ (q : E × Stage). q.0) p)))
+    (λ z. let p = some_is (is ∙ ap (λ (b : Bool). cond b (Some (x, l)) None) (eq-eqb i j z)) in ((λ t. seat (z t) (sym (ap (λ (q : E × CallState). q.1) p) t)), sym (ap (λ (q : E × CallState). q.0) p)))
     (λ n. absurd (none_some (sym (is ∙ pick_else i j (Some (x, l)) n))))
 held_some j (kept k) x e m is = absurd (none_some (sym is))
 
@@ -273,7 +273,7 @@ head_ending e [] = e
 head_ending e (h ∷ hs) = h.ending
 
 -- one end alone has one ending
-pub one_ending : {E : Type 0} {c c' : End} {m m' : Stage} {e d : E} → holds_end c e m ≡ holds_end c' d m' → e ≡ d
+pub one_ending : {E : Type 0} {c c' : End} {m m' : CallState} {e d : E} → holds_end c e m ≡ holds_end c' d m' → e ≡ d
 unfolding head_ending
 one_ending {e = e} is = ap (head_ending e) is
 

@@ -1,6 +1,6 @@
 -- Two seats that become one keep the rule.
 use Rattle.join_records.specs.declared.views.Grip.TheVariants.{Reserved, Filling, Emptying, Emptied}
-use Rattle.join_records.specs.declared.views.Stage.{Stage}
+use Rattle.join_records.specs.declared.views.CallState.{CallState}
 use Rattle.std.proofs.Common.{◌≡◌, ◌≢◌, ℕ, ◌+◌, ◌*◌, ◌<◌, eqb, List, length, set, Bool, true, false}
 use Rattle.std.proofs.Common.{cond, refl, sym, ap, ◌∙◌, subst, ⊎_elim, arith, length-set, eq-eqb}
 use Rattle.std.proofs.Common.{ne_eqb}
@@ -183,22 +183,22 @@ module _ {R C D E : Type 0} (F : Facts R C D E) (born : C) (id other : ℕ) (apa
           nobody_kept e = cc
       hold_kept (seat j m) k e = absurd (seat_kept e)
         where
-          seat_kept : {j k : ℕ} {m : Stage} → seat j m ≡ kept k → ⊥
+          seat_kept : {j k : ℕ} {m : CallState} → seat j m ≡ kept k → ⊥
           seat_kept e = cc
       hold_kept (kept i) k e = e
 
-      hold_seat : (h : Holder) (j : ℕ) (m : Stage) (n : ℕ) → id < n → ((i : ℕ) (l : Stage) → h ≡ seat i l → i < n) → hold h ≡ seat j m → j < n
+      hold_seat : (h : Holder) (j : ℕ) (m : CallState) (n : ℕ) → id < n → ((i : ℕ) (l : CallState) → h ≡ seat i l → i < n) → hold h ≡ seat j m → j < n
       hold_seat nobody j m n near below e = absurd (nobody_seat e)
         where
-          nobody_seat : {j : ℕ} {m : Stage} → nobody ≡ seat j m → ⊥
+          nobody_seat : {j : ℕ} {m : CallState} → nobody ≡ seat j m → ⊥
           nobody_seat e = cc
       hold_seat (seat i l) j m n near below e = subst (λ (y : ℕ). y < n) (seat_is e) (name_below n i near (below i l refl))
         where
-          seat_is : {i j : ℕ} {l m : Stage} → seat i l ≡ seat j m → i ≡ j
+          seat_is : {i j : ℕ} {l m : CallState} → seat i l ≡ seat j m → i ≡ j
           seat_is e = cc
       hold_seat (kept i) j m n near below e = absurd (kept_seat e)
         where
-          kept_seat : {i j : ℕ} {m : Stage} → kept i ≡ seat j m → ⊥
+          kept_seat : {i j : ℕ} {m : CallState} → kept i ≡ seat j m → ⊥
           kept_seat e = cc
 
       era_same : (era : Era) → EraOk s.words s.views r.holder era → total (λ u. u.made) (set (set s.views id (both_of v w)) other spent) ≡ total (λ u. u.made) s.views

@@ -3,8 +3,8 @@ use Rattle.tpal_machine.specs.declared.ends.End.{End}
 use Rattle.tpal_machine.specs.declared.ends.End.TheVariants.{At}
 use Rattle.tpal_machine.specs.declared.ends.SideName.TheVariants.{Left, Right}
 use Rattle.join_records.specs.declared.views.Grip.TheVariants.{Reserved, Filling, Emptying, Emptied}
-use Rattle.join_records.specs.declared.views.Stage.{Stage}
-use Rattle.join_records.specs.declared.views.Stage.TheVariants.{Steady}
+use Rattle.join_records.specs.declared.views.CallState.{CallState}
+use Rattle.join_records.specs.declared.views.CallState.TheVariants.{Steady}
 use Rattle.join_records.specs.Ends.{code_of}
 use Rattle.std.proofs.Common.{◌≡◌, ◌≢◌, ◌⊎◌, ℕ, ◌+◌, ◌*◌, ◌<◌, eqb, List, [], ◌∷◌, length, get_or}
 use Rattle.std.proofs.Common.{set, Bool, true, false, refl, sym, ap, ◌∙◌, subst, inl, inr, arith}
@@ -48,7 +48,7 @@ module _ {R C D E : Type 0} (F : Facts R C D E) (born : C) where
   M = Me S V
 
   -- what a seat with one end knows of who has ends
-  module _ (s : St) (r : Kept F born s) (id : ℕ) (v : V) (at : get_elem? s.views id ≡ some v) (c : End) (m : Stage) (e : E) (ends : v.ends ≡ holds_end c e m) where
+  module _ (s : St) (r : Kept F born s) (id : ℕ) (v : V) (at : get_elem? s.views id ≡ some v) (c : End) (m : CallState) (e : E) (ends : v.ends ≡ holds_end c e m) where
     pub end_held : (r.holder (code_of c) ≡ seat id m) × (r.ending (code_of c) ≡ e)
     end_held = held_some id (r.holder (code_of c)) (r.ending (code_of c)) e m (sym (ap (λ (es : List (Holding E)). find es (code_of c)) ends ∙ pick_here (code_of c) (Some (e, m))) ∙ (r.each_seat id v at).ends (code_of c))
 
@@ -165,7 +165,7 @@ module _ {R C D E : Type 0} (F : Facts R C D E) (born : C) where
     owes_else : (c : ℕ) → c ≢ left_of k → c ≢ right_of k → ending' c ≡ r.ending c
     owes_else c l q = put_else (put r.ending (left_of k) a) (right_of k) b c q ∙ put_else r.ending (left_of k) a c l
 
-    loose_id : (m : Stage) → Loose F born r.cells r.count id k (seat id m)
+    loose_id : (m : CallState) → Loose F born r.cells r.count id k (seat id m)
     loose_id m = (refl, no_met s r id v at none_met)
 
     changes : (c : ℕ) → ((holder' c ≡ r.holder c) × (ending' c ≡ r.ending c)) ⊎ (Loose F born r.cells r.count id k (r.holder c) × Loose F born r.cells r.count id k (holder' c))
@@ -184,7 +184,7 @@ module _ {R C D E : Type 0} (F : Facts R C D E) (born : C) where
     keeps_only c is = dite (ℕ_discrete c (left_of k)) (λ z. absurd (seat_kept (sym holds_left ∙ (ap holder' (sym z) ∙ is))))
         (λ l. dite (ℕ_discrete c (code_of up)) (λ z. sym z) (λ u. absurd (subst (KeepsEnd c) was_out (r.keeps_end c k (sym (holds_else c l u) ∙ is)).1)))
       where
-        seat_kept : {j i : ℕ} {m : Stage} → seat j m ≡ kept i → ⊥
+        seat_kept : {j i : ℕ} {m : CallState} → seat j m ≡ kept i → ⊥
         seat_kept z = cc
 
     new_ends : (c : ℕ) → find (holds_end (At k Left) a Steady) c ≡ held_of id (holder' c) (ending' c)

@@ -3,8 +3,8 @@ use Rattle.tpal_machine.specs.declared.ends.End.{End}
 use Rattle.tpal_machine.specs.declared.ends.End.TheVariants.{Root}
 use Rattle.join_records.specs.declared.views.Grip.{Grip}
 use Rattle.join_records.specs.declared.views.Grip.TheVariants.{Reserved, Filling, Emptying, Emptied}
-use Rattle.join_records.specs.declared.views.Stage.{Stage}
-use Rattle.join_records.specs.declared.views.Stage.TheVariants.{Steady}
+use Rattle.join_records.specs.declared.views.CallState.{CallState}
+use Rattle.join_records.specs.declared.views.CallState.TheVariants.{Steady}
 use Rattle.std.proofs.Common.{◌≡◌, ◌≢◌, ◌⊎◌, ℕ, zero, suc, ◌+◌, ◌*◌, ◌<◌, ◌≤◌, eqb, List, [], ◌∷◌}
 use Rattle.std.proofs.Common.{◌++◌, map, replicate, length, get_or, set, Bool, false, cond, refl}
 use Rattle.std.proofs.Common.{sym, ap, ◌∙◌, subst, inl, inr, ⊎_elim, arith, length-set}
@@ -148,7 +148,7 @@ module _ {R C D E : Type 0} (F : Facts R C D E) (born : C) where
       nobody_kept : {k : ℕ} → nobody ≡ kept k → ⊥
       nobody_kept e' = cc
 
-      nobody_seat : {j : ℕ} {m : Stage} → nobody ≡ seat j m → ⊥
+      nobody_seat : {j : ℕ} {m : CallState} → nobody ≡ seat j m → ⊥
       nobody_seat e' = cc
 
       blank_seat : (j : ℕ) → SeatOk born (replicate (count + 1) 0) unborn e (λ _. free) (λ _. nobody) (λ _. e) j (blank born)
@@ -217,10 +217,10 @@ module _ {R C D E : Type 0} (F : Facts R C D E) (born : C) where
       within = λ c. at_put r.holder 0 (seat id Steady) (λ y a. kind a ≢ 0 → y ≤ 2 * r.count) c (λ _. omega arith) (λ _. r.within c);
     }
       where
-        seat_kept : {j k : ℕ} {m : Stage} → seat j m ≡ kept k → ⊥
+        seat_kept : {j k : ℕ} {m : CallState} → seat j m ≡ kept k → ⊥
         seat_kept e = cc
 
-        seat_is : {i j : ℕ} {m m' : Stage} → seat i m ≡ seat j m' → i ≡ j
+        seat_is : {i j : ℕ} {m m' : CallState} → seat i m ≡ seat j m' → i ≡ j
         seat_is e = cc
 
         mine : SeatOk born s.words running r.root r.cells holding r.ending id rooting
@@ -285,7 +285,7 @@ module _ {R C D E : Type 0} (F : Facts R C D E) (born : C) where
       left_seat : SeatOk born s.words r.era r.root r.cells r.holder r.ending id v → SeatOk born s.words r.era r.root r.cells r.holder r.ending id (split_left v)
       left_seat ok = record { ends = ok.ends; hand = ok.hand; told = λ saw. ok.told (saw_more v.reads 0 0 (λ _ z. omega arith) saw); rooted = λ _. ok.rooted (λ z. omega arith); idle = λ z. absurd (omega arith) }
 
-      no_holder : (h : Holder) (x : E) → ((i : ℕ) (m : Stage) → h ≡ seat i m → i < length s.views) → held_of (length s.views) h x ≡ None
+      no_holder : (h : Holder) (x : E) → ((i : ℕ) (m : CallState) → h ≡ seat i m → i < length s.views) → held_of (length s.views) h x ≡ None
       no_holder nobody x below = refl
       no_holder (seat i m) x below = pick_else i (length s.views) (Some (x, m)) (λ z. let b = below i m refl in omega arith)
       no_holder (kept k) x below = refl

@@ -3,8 +3,8 @@ use Rattle.tpal_machine.specs.declared.ends.End.{End}
 use Rattle.tpal_machine.specs.declared.ends.End.TheVariants.{At}
 use Rattle.tpal_machine.specs.declared.ends.SideName.TheVariants.{Left, Right}
 use Rattle.join_records.specs.declared.views.Grip.TheVariants.{Emptying}
-use Rattle.join_records.specs.declared.views.Stage.{Stage}
-use Rattle.join_records.specs.declared.views.Stage.TheVariants.{Steady}
+use Rattle.join_records.specs.declared.views.CallState.{CallState}
+use Rattle.join_records.specs.declared.views.CallState.TheVariants.{Steady}
 use Rattle.join_records.specs.Ends.{code_of}
 use Rattle.std.proofs.Common.{◌≡◌, ◌≢◌, ◌⊎◌, ℕ, ◌+◌, ◌*◌, ◌<◌, List, [], ◌∷◌, length, get_or, set}
 use Rattle.std.proofs.Common.{Bool, true, false, refl, sym, ap, ◌∙◌, subst, inl, inr, ⊎_elim, arith}
@@ -71,7 +71,7 @@ module _ {R C D E : Type 0} (F : Facts R C D E) (born : C) where
   right_live words homes holder ending k (met i out up) ok live = absurd (live ok.2.1)
 
   -- the end c, of record k, goes from its seat to the holder h
-  module _ (s : St) (r : Kept F born s) (id k : ℕ) (v : V) (e : E) (c : End) (m : Stage) (at : get_elem? s.views id ≡ some v) (ends : v.ends ≡ holds_end c e m) (side : (code_of c ≡ left_of k) ⊎ (code_of c ≡ right_of k))
+  module _ (s : St) (r : Kept F born s) (id k : ℕ) (v : V) (e : E) (c : End) (m : CallState) (at : get_elem? s.views id ≡ some v) (ends : v.ends ≡ holds_end c e m) (side : (code_of c ≡ left_of k) ⊎ (code_of c ≡ right_of k))
       (none_met : (i : ℕ) (out : Bool) (up : End) → i < r.count → r.cells i ≢ met id out up) (h : Holder) (loose : Loose F born r.cells r.count id k h) (unkept : (i : ℕ) → h ≢ kept i) where
     pub was : (r.holder (code_of c) ≡ seat id m) × (r.ending (code_of c) ≡ e)
     was = end_held F born s r id v at c m e ends
@@ -97,11 +97,11 @@ module _ {R C D E : Type 0} (F : Facts R C D E) (born : C) where
     pub turn_up : (up i : ℕ) → r.holder up ≡ kept i → (up ≢ code_of c) × (put r.holder (code_of c) h up ≡ kept i)
     turn_up up i z = let n = (λ (w : up ≡ code_of c). kept_seat (sym z ∙ (ap r.holder w ∙ was.0))) in (n, turn_else up n ∙ z)
       where
-        kept_seat : {i j : ℕ} {l : Stage} → kept i ≡ seat j l → ⊥
+        kept_seat : {i j : ℕ} {l : CallState} → kept i ≡ seat j l → ⊥
         kept_seat q = cc
 
     -- the seat's ends, where it keeps the end
-    pub turn_held : (l : Stage) → h ≡ seat id l → (y : ℕ) → find (holds_end c e l) y ≡ held_of id (put r.holder (code_of c) h y) (r.ending y)
+    pub turn_held : (l : CallState) → h ≡ seat id l → (y : ℕ) → find (holds_end c e l) y ≡ held_of id (put r.holder (code_of c) h y) (r.ending y)
     turn_held l is y = dite (ℕ_discrete y (code_of c))
         (λ z. subst (λ (q : ℕ). find (holds_end c e l) q ≡ held_of id (put r.holder (code_of c) h q) (r.ending q)) (sym z)
         (pick_here (code_of c) (Some (e, l)) ∙ (ap (λ (q : E). Some (q, l)) (sym was.1) ∙ (sym (pick_here id (Some (r.ending (code_of c), l))) ∙ ap (λ (q : Holder). held_of id q (r.ending (code_of c))) (sym (turn_here ∙ is))))))
@@ -114,7 +114,7 @@ module _ {R C D E : Type 0} (F : Facts R C D E) (born : C) where
         (λ n. sym (not_held F born s r id v at c m e ends y n) ∙ ap (λ (q : Holder). held_of id q (r.ending y)) (sym (turn_else y n)))
 
   -- the second side of record k arrives: the seat gives up its end, and has the one that the rest keeps
-  module _ (s : St) (r : Kept F born s) (id k : ℕ) (up : End) (l : Bool) (b : Progress) (v : V) (e : E) (c : End) (m : Stage) (new : ℕ) (homes' : Homes) (at : get_elem? s.views id ≡ some v) (alive : v.parts ≢ 0) (below : k < r.count) (ends : v.ends ≡ holds_end c e m)
+  module _ (s : St) (r : Kept F born s) (id k : ℕ) (up : End) (l : Bool) (b : Progress) (v : V) (e : E) (c : End) (m : CallState) (new : ℕ) (homes' : Homes) (at : get_elem? s.views id ≡ some v) (alive : v.parts ≢ 0) (below : k < r.count) (ends : v.ends ≡ holds_end c e m)
       (side : (code_of c ≡ left_of k) ⊎ (code_of c ≡ right_of k)) (none_met : (i : ℕ) (out : Bool) (up : End) → i < r.count → r.cells i ≢ met id out up) (is : r.cells k ≡ opened up l b) (dead : (y : ℕ) → (y ≡ left_of k) ⊎ (y ≡ right_of k) → y ≢ code_of c → kind (r.holder y) ≡ 0)
       (long : length homes' ≡ length s.homes) (away : (y : ℕ) → y ≢ 4 * k → y ≢ 4 * k + 1 → y ≢ 4 * k + 2 → y ≢ 4 * k + 3 → get_elem? homes' y ≡ get_elem? s.homes y) (bare : get_elem? homes' (4 * k + 1) ≡ some (some None)) (full : new ≡ 31 + 256 * code_of up) where
     met_cell : CellOk F s.words s.homes r.holder r.ending k (opened up l b)
@@ -129,7 +129,7 @@ module _ {R C D E : Type 0} (F : Facts R C D E) (born : C) where
     kept_not : code_of up ≢ code_of c
     kept_not w = kept_seat (sym met_cell.1 ∙ (ap r.holder w ∙ met_was.0))
       where
-        kept_seat : {i j : ℕ} {n : Stage} → kept i ≡ seat j n → ⊥
+        kept_seat : {i j : ℕ} {n : CallState} → kept i ≡ seat j n → ⊥
         kept_seat q = cc
 
     abbrev met_holder : ℕ → Holder
@@ -183,7 +183,7 @@ module _ {R C D E : Type 0} (F : Facts R C D E) (born : C) where
           idle = λ z. absurd (alive z);
         }
       where
-        seat_kept : {j i : ℕ} {n : Stage} → seat j n ≡ kept i → ⊥
+        seat_kept : {j i : ℕ} {n : CallState} → seat j n ≡ kept i → ⊥
         seat_kept z = cc
 
         nobody_kept : {i : ℕ} → nobody ≡ kept i → ⊥

@@ -8,7 +8,7 @@ use Rattle.tpal_machine.specs.declared.ends.SideName.TheVariants.{Left, Right}
 use Rattle.join_records.specs.declared.table.Arrival.{Arrival}
 use Rattle.join_records.specs.declared.table.Arrival.TheVariants.{First, Second}
 use Rattle.join_records.specs.declared.views.Grip.TheVariants.{Reserved, Filling, Emptied}
-use Rattle.join_records.specs.declared.views.Stage.TheVariants.{Steady}
+use Rattle.join_records.specs.declared.views.CallState.TheVariants.{Steady}
 use Rattle.join_records.specs.declared.views.View.{View}
 use Rattle.join_records.specs.Ends.{IsEndOf}
 use Rattle.join_records.specs.Words.{other_bit}

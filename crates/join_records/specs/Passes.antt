@@ -3,7 +3,7 @@ use Rattle.std.specs.Prelude.{◌≡◌, ◌≢◌, ℕ, zero, suc, ◌+◌, Lis
 use mathlib.Core.Option.{some}
 use lib.ListN.{get_elem?}
 use Rattle.tpal_machine.specs.declared.ends.End.TheVariants.{Root}
-use Rattle.join_records.specs.declared.views.Stage.TheVariants.{Steady}
+use Rattle.join_records.specs.declared.views.CallState.TheVariants.{Steady}
 use Rattle.join_records.specs.declared.views.View.{View}
 use Rattle.join_records.specs.declared.table.Pass.{Pass}
 use Rattle.join_records.specs.declared.table.Records.{Records}

@@ -16,8 +16,8 @@ use Rattle.join_records.specs.declared.slot.Item.{Item}
 use Rattle.join_records.specs.declared.slot.Item.TheVariants.{Rest, Child, Side}
 use Rattle.join_records.specs.declared.views.Grip.{Grip}
 use Rattle.join_records.specs.declared.views.Grip.TheVariants.{Reserved, Filling, Emptying, Emptied}
-use Rattle.join_records.specs.declared.views.Stage.{Stage}
-use Rattle.join_records.specs.declared.views.Stage.TheVariants.{Steady, Claiming, Arriving}
+use Rattle.join_records.specs.declared.views.CallState.{CallState}
+use Rattle.join_records.specs.declared.views.CallState.TheVariants.{Steady, Claiming, Arriving}
 use Rattle.join_records.specs.declared.views.View.{View}
 use Rattle.join_records.specs.Ends.{left_of, right_of, code_of}
 use Rattle.join_records.specs.Words.{bit}
@@ -35,7 +35,7 @@ pub record Facts (R C D E : Type 0) : Type 1 where
 -- record
 pub data Holder : Type 0 where
   nobody : Holder
-  seat : ℕ → Stage → Holder
+  seat : ℕ → CallState → Holder
   kept : ℕ → Holder
 
 -- whether the right side of an open record was claimed, and whether it has arrived
@@ -59,7 +59,7 @@ pub data Era : Type 0 where
   running : Era
   finished : Era
 
-abbrev pub stage_number : Stage → ℕ
+abbrev pub stage_number : CallState → ℕ
 stage_number Steady = 0
 stage_number Claiming = 1
 stage_number Arriving = 2
@@ -78,7 +78,7 @@ hand_of j (opened up l r) = None
 hand_of j (met i out up) = cond (eqb i j) (Some (cond out (Emptying up) (Emptied up))) None
 
 -- how seat j holds an end, and the ending that is owed there
-abbrev pub held_of : {E : Type 0} → ℕ → Holder → E → Option (E × Stage)
+abbrev pub held_of : {E : Type 0} → ℕ → Holder → E → Option (E × CallState)
 held_of j nobody e = None
 held_of j (seat i m) e = cond (eqb i j) (Some (e, m)) None
 held_of j (kept k) e = None
@@ -247,7 +247,7 @@ pub record Kept {R C D E : Type 0} (F : Facts R C D E) (born : C)
       → SeatOk born s.words era root cells holder ending j v
   -- only the rest of an open record keeps an end, and only that one
   pub keeps_end : (c k : ℕ) → holder c ≡ kept k → (k < count) × KeepsEnd c (cells k)
-  pub seated : (c j : ℕ) (m : Stage) → holder c ≡ seat j m → j < length s.views
+  pub seated : (c j : ℕ) (m : CallState) → holder c ≡ seat j m → j < length s.views
   pub handed : (k : ℕ) → NamesBelow (length s.views) (cells k)
   -- only Root and the ends of the table's records are held or kept
   pub within : (c : ℕ) → kind (holder c) ≢ 0 → c ≤ 2 * count

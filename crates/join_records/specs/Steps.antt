@@ -10,7 +10,7 @@ use Rattle.tpal_machine.specs.declared.ends.SideName.TheVariants.{Left, Right}
 use Rattle.join_records.specs.declared.slot.Item.{Item}
 use Rattle.join_records.specs.declared.slot.Item.TheVariants.{Rest, Child, Side}
 use Rattle.join_records.specs.declared.views.Grip.TheVariants.{Reserved, Filling, Emptying, Emptied}
-use Rattle.join_records.specs.declared.views.Stage.TheVariants.{Steady, Claiming, Arriving}
+use Rattle.join_records.specs.declared.views.CallState.TheVariants.{Steady, Claiming, Arriving}
 use Rattle.join_records.specs.declared.views.View.{View}
 use Rattle.join_records.specs.Ends.{left_of, right_of, code_of}
 use Rattle.join_records.specs.Words.{side_bit, other_bit}

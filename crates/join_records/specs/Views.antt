@@ -7,8 +7,8 @@ use Rattle.tpal_machine.specs.declared.ends.SideName.TheVariants.{Left}
 use Rattle.join_records.specs.declared.views.Grip.{Grip}
 use Rattle.join_records.specs.declared.views.Grip.TheVariants.{Emptying, Emptied}
 use Rattle.join_records.specs.declared.views.Holding.{Holding}
-use Rattle.join_records.specs.declared.views.Stage.{Stage}
-use Rattle.join_records.specs.declared.views.Stage.TheVariants.{Steady}
+use Rattle.join_records.specs.declared.views.CallState.{CallState}
+use Rattle.join_records.specs.declared.views.CallState.TheVariants.{Steady}
 use Rattle.join_records.specs.declared.views.View.{View}
 use Rattle.join_records.specs.Ends.{code_of}
 
@@ -18,7 +18,7 @@ total f [] = 0
 total f (v ∷ vs) = f v + total f vs
 
 -- what is owed at the end of this code, and the stage at which it is held, where it is held
-abbrev pub find : {E : Type 0} → List (Holding E) → ℕ → Option (E × Stage)
+abbrev pub find : {E : Type 0} → List (Holding E) → ℕ → Option (E × CallState)
 find [] c = None
 find (h ∷ hs) c = cond (eqb (code_of h.end) c) (Some (h.ending, h.stage)) (find hs c)
 
@@ -38,7 +38,7 @@ saw_finish [] = false
 saw_finish (x ∷ xs) = (eqb x.0 0 && eqb x.1 1) || saw_finish xs
 
 -- one end alone
-abbrev pub holds_end : {E : Type 0} → End → E → Stage → List (Holding E)
+abbrev pub holds_end : {E : Type 0} → End → E → CallState → List (Holding E)
 holds_end c e m = record { end = c; ending = e; stage = m } ∷ []
 
 module _ {C E : Type 0} where

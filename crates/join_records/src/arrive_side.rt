@@ -7,7 +7,7 @@ ghost use Rattle.tpal_machine.specs.declared.ends.SideName.TheVariants.{Left, Ri
 ghost use Rattle.join_records.specs.declared.slot.Item.TheVariants.{Rest, Side};
 ghost use Rattle.join_records.specs.declared.views.Grip.{Grip};
 ghost use Rattle.join_records.specs.declared.views.Grip.TheVariants.{Emptying, Emptied};
-ghost use Rattle.join_records.specs.declared.views.Stage.TheVariants.{Steady, Arriving};
+ghost use Rattle.join_records.specs.declared.views.CallState.TheVariants.{Steady, Arriving};
 ghost use Rattle.join_records.specs.Views.{drop_record, Holds, holds_end, NoneMet, read, with_ends};
 ghost use Rattle.join_records.specs.Views.{with_hand};
 ghost use Rattle.join_records.specs.Steps.{arrived_at};

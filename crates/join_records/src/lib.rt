@@ -23,7 +23,7 @@ mod word;
 pub use load::Load;
 pub use slot::Item;
 pub use table::{Arrival, Closed, Met, Pass, Records, Taken};
-pub use views::{Grip, Holding, Stage, View};
+pub use views::{CallState, Grip, Holding, View};
 
 #[cfg(test)]
 mod stress;

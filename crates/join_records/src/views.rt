@@ -4,7 +4,7 @@ use std::collections::LinkedList;
 use tpal_machine::End;
 
 /// Whether the pass that holds an end is in the middle of a call for it.
-pub enum Stage {
+pub enum CallState {
     /// Between two calls, and in the middle of no claim or arrival.
     Steady,
     /// In the middle of a claim: the child's slot is out with the pass.
@@ -30,7 +30,7 @@ pub enum Grip {
 pub struct Holding<E> {
     pub end: End,
     pub ending: E,
-    pub stage: Stage,
+    pub stage: CallState,
 }
 
 /// What a pass knows.

@@ -4,8 +4,8 @@ use Rattle.std.proofs.Common.{None, Ok, Err, refl, ap, subst, ◌∙◌, arith}
 use Rattle.loop_parse.specs.Terms.{Kind, Token}
 use Rattle.loop_syntax.specs.declared.expression.BinOp.{BinOp}
 use Rattle.loop_syntax.specs.Tree.{Tree, TBin}
-use Rattle.loop_parse.specs.declared.reader.Halt.{Halt}
-use Rattle.loop_parse.specs.declared.reader.Halt.TheVariants as halts
+use Rattle.loop_parse.specs.declared.reader.Unparsed.{Unparsed}
+use Rattle.loop_parse.specs.declared.reader.Unparsed.TheVariants as halts
 use Rattle.loop_parse.specs.Reading.{Reply, Fault, Fails, ◌>>=◌, chain, chain_rest}
 
 -- what is read from here on completes what is read
@@ -48,7 +48,7 @@ Continues-fault {read} {item} {op} {left} {rest} t ts o f c e h i =
     go zero l same = absurd (omega arith)
     go (suc m) l same = same ∙ chain_more item op m left t ts o h ∙ rw i refl
 
-pub Continues-fails : {read : Reply Tree} {item : List Token → Reply Tree} {op : Kind → Option BinOp} {left : Tree} {rest : List Token} (source : List ℕ) (h : Halt) (t : Token) (ts : List Token) (o : BinOp) →
+pub Continues-fails : {read : Reply Tree} {item : List Token → Reply Tree} {op : Kind → Option BinOp} {left : Tree} {rest : List Token} (source : List ℕ) (h : Unparsed) (t : Token) (ts : List Token) (o : BinOp) →
     Continues read item op left rest → rest ≡ t ∷ ts → op t.kind ≡ Some o → Fails source h (item ts) → Fails source h read
 Continues-fails source (halts.Form at) t ts o c e p i = Continues-fault t ts o _ c e p i
 Continues-fails source (halts.Deep at) t ts o c e p i = Continues-fault t ts o _ c e p i

@@ -3,8 +3,8 @@ use Rattle.std.proofs.Common.{◌≡◌, ℕ, zero, suc, ◌<◌, ◌≤◌, Lis
 use Rattle.std.proofs.Common.{Err, Bool, true, false, if◌then◌else◌, refl, sym, ap, ◌∙◌}
 use Rattle.std.proofs.Common.{append_assoc, arith}
 use Rattle.loop_parse.specs.Terms.{Kind, Token}
-use Rattle.loop_parse.specs.declared.reader.Halt.{Halt}
-use Rattle.loop_parse.specs.declared.reader.Halt.TheVariants as halts
+use Rattle.loop_parse.specs.declared.reader.Unparsed.{Unparsed}
+use Rattle.loop_parse.specs.declared.reader.Unparsed.TheVariants as halts
 use Rattle.loop_parse.specs.Reading.{Reply, Reader, Fault, Fails, ◌>>=◌, starts, many_of}
 use Rattle.loop_parse.specs.Reading.{with_front}
 
@@ -75,7 +75,7 @@ Many-fault {read = read} {begins = begins} {item = item} {front = front} {rest =
     let a = many_at begins item b.fuel rest h b.enough in
     b.same ∙ ap (with_front front) (a.2 ∙ ap (λ r. r >>= on_item begins item a.0) i)
 
-pub Many-fails : {A : Type 0} {read : Reply (List A)} {begins : Kind → Bool} {item : Reader A} {front : List A} {rest : List Token} (source : List ℕ) (h : Halt) →
+pub Many-fails : {A : Type 0} {read : Reply (List A)} {begins : Kind → Bool} {item : Reader A} {front : List A} {rest : List Token} (source : List ℕ) (h : Unparsed) →
     Many read begins item front rest → starts begins rest ≡ true → Fails source h (item rest) → Fails source h read
 Many-fails source (halts.Form at) b p i = Many-fault _ b p i
 Many-fails source (halts.Deep at) b p i = Many-fault _ b p i

@@ -4,7 +4,7 @@ use Rattle.std.proofs.Common.{ap, sym, ◌∙◌, arith}
 use Rattle.loop_parse.specs.declared.terminal.Fixed.TheVariants.{Minus}
 use Rattle.loop_parse.specs.Terms as kinds
 use Rattle.loop_parse.specs.Terms.{Kind, Token, Is, IsName, IsLiteral}
-use Rattle.loop_parse.specs.declared.reader.Halt.{Halt}
+use Rattle.loop_parse.specs.declared.reader.Unparsed.{Unparsed}
 use Rattle.loop_syntax.specs.Tree.{Tree, Node}
 use Rattle.loop_parse.specs.Reading.{Reply, Gives, is_fixed, primary_of, unary_of, primary, unary}
 use Rattle.loop_parse.specs.Reading.{product, sum, expr, nested, name, name_at, name_rest}
@@ -21,7 +21,7 @@ pub nested_expr : (n : ℕ) (ts : List Token) → nested (suc n) ts ≡ expr n t
 unfolding nested expr sum product unary
 nested_expr n ts = refl
 
-pub gives_nested : {X : Type 0} (source : List ℕ) (view : X → Tree × List Token) (r : Result X Halt) (ts : List Token) →
+pub gives_nested : {X : Type 0} (source : List ℕ) (view : X → Tree × List Token) (r : Result X Unparsed) (ts : List Token) →
     ((n : ℕ) → length ts ≤ n → Gives source view r (expr n ts)) → (n : ℕ) → length ts < n → Gives source view r (nested n ts)
 gives_nested source view r ts f zero h = absurd (omega arith)
 gives_nested source view r ts f (suc n) h = rw (nested_expr n ts) (f n (omega arith))
@@ -34,7 +34,7 @@ pub primary_name : (n : ℕ) (us : List Token) (t : Token) (ts : List Token) (x 
 unfolding primary
 primary_name n us t ts x e h = ap (primary_of (nested n)) e ∙ name_cell_at (nested n) t ts x h ∙ ap (name_cell (nested n)) (sym e)
 
-pub gives_inner : {X : Type 0} (source : List ℕ) (view : X → List Node × List Token) (r : Result X Halt) (level : ℕ) (ts : List Token) →
+pub gives_inner : {X : Type 0} (source : List ℕ) (view : X → List Node × List Token) (r : Result X Unparsed) (level : ℕ) (ts : List Token) →
     ((n : ℕ) → length ts ≤ n → Gives source view r (stmts within n level ts)) → (n : ℕ) → length ts < n → Gives source view r (inner_stmts within n level ts)
 unfolding inner_stmts stmts stmt
 gives_inner source view r level ts f zero h = absurd (omega arith)

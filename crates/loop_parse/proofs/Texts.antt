@@ -8,8 +8,8 @@ use Rattle.loop_lex.specs.Lexical.{AreTokensOf, IsFirstFault}
 use Rattle.loop_lex.proofs.Readings.{one_reading}
 use Rattle.loop_syntax.specs.declared.program.Program.{Program}
 use Rattle.loop_syntax.specs.Tree.{ProgramTree, program_of}
-use Rattle.loop_parse.specs.declared.reader.Halt.{Halt}
-use Rattle.loop_parse.specs.declared.reader.Halt.TheVariants as halts
+use Rattle.loop_parse.specs.declared.reader.Unparsed.{Unparsed}
+use Rattle.loop_parse.specs.declared.reader.Unparsed.TheVariants as halts
 use Rattle.loop_parse.specs.declared.parser.ParseFault.{ParseFault}
 use Rattle.loop_parse.specs.declared.parser.ParseFault.TheVariants as parsing
 use Rattle.loop_parse.specs.Terms.{Token, tokens_of, seen}
@@ -110,7 +110,7 @@ module _ (source : List ℕ) (ts : List lexed.Token) (lexed_ts : AreTokensOf sou
   finished_fault tree [] fault e f = absurd f
   finished_fault tree (t ∷ us) fault e f = subst (λ (q : ParseFault). Caused q) (sym f) (form_cause (t ∷ us) (fault_after here tree t us e) (shallow here (λ vs d. cc)))
 
-  pub halted_fault : (h : Halt) (fault : ParseFault) → Fails source h (reading.program within (length here) here) → IsPlaced source h fault → Caused fault
+  pub halted_fault : (h : Unparsed) (fault : ParseFault) → Fails source h (reading.program within (length here) here) → IsPlaced source h fault → Caused fault
   halted_fault (halts.Form rest) fault e p = subst (λ (q : ParseFault). Caused q) (sym p) (form_cause (seen source rest.now) (fault_at here (seen source rest.now) e) (shallow here (λ vs d. cc)))
   halted_fault (halts.Deep rest) fault e p = subst (λ (q : ParseFault). Caused q) (sym p) (deep_cause (seen source rest.now) (deep_at here (seen source rest.now) e))
   halted_fault halts.NoMemory fault e p = subst (λ (q : ParseFault). Caused q) (sym p) (tt, tt)

@@ -26,8 +26,8 @@ use Rattle.loop_parse.specs.declared.terminal.Fixed.TheVariants.{CloseSquare, Co
 use Rattle.loop_parse.specs.declared.terminal.Fixed.TheVariants.{Plus, Minus, Star, Slash, Percent}
 use Rattle.loop_parse.specs.declared.terminal.Fixed.TheVariants.{Same, Differs, Less, AtMost}
 use Rattle.loop_parse.specs.declared.terminal.Fixed.TheVariants.{Greater, AtLeast, DotDot}
-use Rattle.loop_parse.specs.declared.reader.Halt.{Halt}
-use Rattle.loop_parse.specs.declared.reader.Halt.TheVariants as halts
+use Rattle.loop_parse.specs.declared.reader.Unparsed.{Unparsed}
+use Rattle.loop_parse.specs.declared.reader.Unparsed.TheVariants as halts
 use Rattle.loop_parse.specs.Terms.{Kind, Literal, Name, Spelling, Token, seen}
 use Rattle.loop_parse.specs.Expressions.{compare_fixed, sum_fixed, product_fixed}
 use Rattle.loop_parse.specs.Grammar.{DeclTree, DTable, DFunc, tables_in, funcs_in}
@@ -48,12 +48,12 @@ abbrev pub ◌>>=◌ : {A B : Type 0} → Result A Fault → (A → Result B Fau
 (Err e) >>= f = Err e
 
 -- what a function returned, seen by view, is what reading gives, unless memory ran out
-abbrev pub Fails : {Y : Type 0} → List ℕ → Halt → Result Y Fault → Type 0
+abbrev pub Fails : {Y : Type 0} → List ℕ → Unparsed → Result Y Fault → Type 0
 Fails source (halts.Form rest) read = read ≡ Err (Form (seen source rest.now))
 Fails source (halts.Deep rest) read = read ≡ Err (Deep (seen source rest.now))
 Fails source halts.NoMemory read = Unit {0}
 
-abbrev pub Gives : {X Y : Type 0} → List ℕ → (X → Y) → Result X Halt → Result Y Fault → Type 0
+abbrev pub Gives : {X Y : Type 0} → List ℕ → (X → Y) → Result X Unparsed → Result Y Fault → Type 0
 Gives source view (Ok x) read = read ≡ Ok (view x)
 Gives source view (Err e) read = Fails source e read
 

@@ -12,7 +12,7 @@ ghost use Rattle.loop_parse.specs.Reading.{fn_rest, decl, decls, program, within
 
 use crate::expression::outer;
 use crate::lists::params;
-use crate::reader::{Halt, expect, name, next};
+use crate::reader::{Unparsed, expect, name, next};
 use crate::statement::{block, open_brace, statements};
 use crate::terminal::{Fixed, Lexeme, Terminal};
 use loop_syntax::{Func, Program, Stmt, TableDecl};
@@ -31,7 +31,7 @@ pub(crate) fn program<'a>(
     alloc: Global,
     source: &[u8],
     tokens: &'a [Lexeme],
-) -> Result<(Program, &'a [Lexeme]), Halt<'a>>
+) -> Result<(Program, &'a [Lexeme]), Unparsed<'a>>
     ensures reads { (n : ℕ) → length (seen source.now tokens.now) ≤ n →
         Gives source.now (λ x. (program_of x.0, seen source.now x.1.now)) result
         (program within n (seen source.now tokens.now)) }
@@ -74,7 +74,7 @@ fn decls<'a>(
     alloc: Global,
     source: &[u8],
     tokens: &'a [Lexeme],
-) -> Result<(Vec<Decl>, &'a [Lexeme]), Halt<'a>>
+) -> Result<(Vec<Decl>, &'a [Lexeme]), Unparsed<'a>>
     ensures reads { (n : ℕ) → length (seen source.now tokens.now) ≤ n →
         Gives source.now (λ x. (map decl_of x.0.items, seen source.now x.1.now)) result
         (decls within n (seen source.now tokens.now)) }
@@ -123,7 +123,7 @@ fn declaration<'a>(
     alloc: Global,
     source: &[u8],
     tokens: &'a [Lexeme],
-) -> Result<(Decl, &'a [Lexeme]), Halt<'a>>
+) -> Result<(Decl, &'a [Lexeme]), Unparsed<'a>>
     ensures reads { (n : ℕ) → length (seen source.now tokens.now) ≤ n →
         Gives source.now (λ x. (decl_of x.0, seen source.now x.1.now)) result
         (decl within n (seen source.now tokens.now)) }
@@ -131,13 +131,13 @@ fn declaration<'a>(
         length (seen source.now x.1.now) < length (seen source.now tokens.now)) }
 {
     let Some((first, after)) = next(source, tokens) else {
-        return Err(Halt::Form(tokens));
+        return Err(Unparsed::Form(tokens));
     };
     match first.terminal {
         Terminal::Fixed(Fixed::Input) => input_rest(alloc, source, after),
         Terminal::Fixed(Fixed::Table) => table_rest(alloc, source, after),
         Terminal::Fixed(Fixed::Fn) => fn_rest(alloc, source, after),
-        _ => Err(Halt::Form(tokens)),
+        _ => Err(Unparsed::Form(tokens)),
     }
 }
 
@@ -147,7 +147,7 @@ fn input_rest<'a>(
     alloc: Global,
     source: &[u8],
     tokens: &'a [Lexeme],
-) -> Result<(Decl, &'a [Lexeme]), Halt<'a>>
+) -> Result<(Decl, &'a [Lexeme]), Unparsed<'a>>
     ensures reads { Gives source.now (λ x. (decl_of x.0, seen source.now x.1.now)) result
         (input_rest (seen source.now tokens.now)) }
     ensures shorter { IfOk result (λ x.
@@ -164,7 +164,7 @@ fn table_rest<'a>(
     alloc: Global,
     source: &[u8],
     tokens: &'a [Lexeme],
-) -> Result<(Decl, &'a [Lexeme]), Halt<'a>>
+) -> Result<(Decl, &'a [Lexeme]), Unparsed<'a>>
     ensures reads { (n : ℕ) → length (seen source.now tokens.now) ≤ n →
         Gives source.now (λ x. (decl_of x.0, seen source.now x.1.now)) result
         (table_rest within n (seen source.now tokens.now)) }
@@ -188,7 +188,7 @@ fn fn_rest<'a>(
     alloc: Global,
     source: &[u8],
     tokens: &'a [Lexeme],
-) -> Result<(Decl, &'a [Lexeme]), Halt<'a>>
+) -> Result<(Decl, &'a [Lexeme]), Unparsed<'a>>
     ensures reads { (n : ℕ) → length (seen source.now tokens.now) ≤ n →
         Gives source.now (λ x. (decl_of x.0, seen source.now x.1.now)) result
         (fn_rest within n (seen source.now tokens.now)) }

@@ -9,7 +9,7 @@ ghost use Rattle.loop_parse.specs.Reading.{sum, expr, sum_op_of, product_op_of, 
 ghost use Rattle.loop_parse.specs.Reading.{nested, name_rest, name_cell, sized, outer, window};
 ghost use Rattle.loop_parse.specs.Reading.{is_empty, chain_rest, opens, opposite};
 
-use crate::reader::{Halt, expect, is, name, next};
+use crate::reader::{Unparsed, expect, is, name, next};
 use crate::terminal::{Fixed, Lexeme, Terminal};
 use loop_syntax::{BinOp, Expr, Name};
 use std::alloc::{AllocError, Global};
@@ -22,7 +22,7 @@ pub(crate) fn outer<'a>(
     alloc: Global,
     source: &[u8],
     tokens: &'a [Lexeme],
-) -> Result<(Expr, &'a [Lexeme]), Halt<'a>>
+) -> Result<(Expr, &'a [Lexeme]), Unparsed<'a>>
     ensures reads { (n : ℕ) → length (seen source.now tokens.now) ≤ n →
         Gives source.now (λ x. (tree_of x.0, seen source.now x.1.now)) result
         (outer n (seen source.now tokens.now)) }
@@ -32,18 +32,18 @@ pub(crate) fn outer<'a>(
     match expr(alloc, source, looked_at(source, tokens)) {
         Ok((found, left)) => {
             if is_beyond(source, tokens, left) {
-                return Err(Halt::Deep(last_looked_at(source, tokens)));
+                return Err(Unparsed::Deep(last_looked_at(source, tokens)));
             }
             Ok((Box::into_inner(found), widened(source, tokens, left)))
         }
-        Err(Halt::Form(left)) => {
+        Err(Unparsed::Form(left)) => {
             if is_beyond(source, tokens, left) {
-                return Err(Halt::Deep(last_looked_at(source, tokens)));
+                return Err(Unparsed::Deep(last_looked_at(source, tokens)));
             }
-            Err(Halt::Form(widened(source, tokens, left)))
+            Err(Unparsed::Form(widened(source, tokens, left)))
         }
-        Err(Halt::Deep(left)) => Err(Halt::Deep(left)),
-        Err(Halt::NoMemory) => Err(Halt::NoMemory),
+        Err(Unparsed::Deep(left)) => Err(Unparsed::Deep(left)),
+        Err(Unparsed::NoMemory) => Err(Unparsed::NoMemory),
     }
 }
 
@@ -113,7 +113,7 @@ fn expr<'a>(
     alloc: Global,
     source: &[u8],
     tokens: &'a [Lexeme],
-) -> Result<(Box<Expr>, &'a [Lexeme]), Halt<'a>>
+) -> Result<(Box<Expr>, &'a [Lexeme]), Unparsed<'a>>
     ensures reads { (n : ℕ) → length (seen source.now tokens.now) ≤ n →
         Gives source.now (λ x. (tree_of x.0.value, seen source.now x.1.now)) result
         (expr n (seen source.now tokens.now)) }
@@ -134,7 +134,7 @@ fn compared<'a>(
     source: &[u8],
     left: Box<Expr>,
     tokens: &'a [Lexeme],
-) -> Result<(Box<Expr>, &'a [Lexeme]), Halt<'a>>
+) -> Result<(Box<Expr>, &'a [Lexeme]), Unparsed<'a>>
     ensures reads { (n : ℕ) → length (seen source.now tokens.now) ≤ n →
         Gives source.now (λ x. (tree_of x.0.value, seen source.now x.1.now)) result
         (chain_rest (sum n) compare_op_of 1 (tree_of left.value) (seen source.now tokens.now)) }
@@ -158,7 +158,7 @@ fn inner<'a>(
     alloc: Global,
     source: &[u8],
     tokens: &'a [Lexeme],
-) -> Result<(Box<Expr>, &'a [Lexeme]), Halt<'a>>
+) -> Result<(Box<Expr>, &'a [Lexeme]), Unparsed<'a>>
     ensures reads { (n : ℕ) → length (seen source.now tokens.now) < n →
         Gives source.now (λ x. (tree_of x.0.value, seen source.now x.1.now)) result
         (nested n (seen source.now tokens.now)) }
@@ -175,7 +175,7 @@ fn sum<'a>(
     alloc: Global,
     source: &[u8],
     tokens: &'a [Lexeme],
-) -> Result<(Box<Expr>, &'a [Lexeme]), Halt<'a>>
+) -> Result<(Box<Expr>, &'a [Lexeme]), Unparsed<'a>>
     ensures reads { (n : ℕ) → length (seen source.now tokens.now) ≤ n →
         Gives source.now (λ x. (tree_of x.0.value, seen source.now x.1.now)) result
         (sum n (seen source.now tokens.now)) }
@@ -195,7 +195,7 @@ fn terms<'a>(
     source: &[u8],
     first: Box<Expr>,
     tokens: &'a [Lexeme],
-) -> Result<(Box<Expr>, &'a [Lexeme]), Halt<'a>>
+) -> Result<(Box<Expr>, &'a [Lexeme]), Unparsed<'a>>
     ensures reads { (n m : ℕ) → length (seen source.now tokens.now) ≤ n →
         length (seen source.now tokens.now) ≤ m →
         Gives source.now (λ x. (tree_of x.0.value, seen source.now x.1.now)) result
@@ -222,7 +222,7 @@ fn product<'a>(
     alloc: Global,
     source: &[u8],
     tokens: &'a [Lexeme],
-) -> Result<(Box<Expr>, &'a [Lexeme]), Halt<'a>>
+) -> Result<(Box<Expr>, &'a [Lexeme]), Unparsed<'a>>
     ensures reads { (n : ℕ) → length (seen source.now tokens.now) ≤ n →
         Gives source.now (λ x. (tree_of x.0.value, seen source.now x.1.now)) result
         (product n (seen source.now tokens.now)) }
@@ -242,7 +242,7 @@ fn factors<'a>(
     source: &[u8],
     first: Box<Expr>,
     tokens: &'a [Lexeme],
-) -> Result<(Box<Expr>, &'a [Lexeme]), Halt<'a>>
+) -> Result<(Box<Expr>, &'a [Lexeme]), Unparsed<'a>>
     ensures reads { (n m : ℕ) → length (seen source.now tokens.now) ≤ n →
         length (seen source.now tokens.now) ≤ m →
         Gives source.now (λ x. (tree_of x.0.value, seen source.now x.1.now)) result
@@ -269,7 +269,7 @@ fn unary<'a>(
     alloc: Global,
     source: &[u8],
     tokens: &'a [Lexeme],
-) -> Result<(Box<Expr>, &'a [Lexeme]), Halt<'a>>
+) -> Result<(Box<Expr>, &'a [Lexeme]), Unparsed<'a>>
     ensures reads { (n : ℕ) → length (seen source.now tokens.now) ≤ n →
         Gives source.now (λ x. (tree_of x.0.value, seen source.now x.1.now)) result
         (unary n (seen source.now tokens.now)) }
@@ -277,7 +277,7 @@ fn unary<'a>(
         length (seen source.now x.1.now) < length (seen source.now tokens.now)) }
 {
     let Some((first, after)) = next(source, tokens) else {
-        return Err(Halt::Form(tokens));
+        return Err(Unparsed::Form(tokens));
     };
     if is(source, first, Fixed::Minus) {
         return opposite(alloc, source, first.place, after);
@@ -293,7 +293,7 @@ fn opposite<'a>(
     source: &[u8],
     place: Place,
     tokens: &'a [Lexeme],
-) -> Result<(Box<Expr>, &'a [Lexeme]), Halt<'a>>
+) -> Result<(Box<Expr>, &'a [Lexeme]), Unparsed<'a>>
     ensures reads { (n : ℕ) → length (seen source.now tokens.now) ≤ n →
         Gives source.now (λ x. (tree_of x.0.value, seen source.now x.1.now)) result
         (opposite place (unary n (seen source.now tokens.now))) }
@@ -311,7 +311,7 @@ fn primary<'a>(
     alloc: Global,
     source: &[u8],
     tokens: &'a [Lexeme],
-) -> Result<(Box<Expr>, &'a [Lexeme]), Halt<'a>>
+) -> Result<(Box<Expr>, &'a [Lexeme]), Unparsed<'a>>
     ensures reads { (n : ℕ) → length (seen source.now tokens.now) ≤ n →
         Gives source.now (λ x. (tree_of x.0.value, seen source.now x.1.now)) result
         (primary n (seen source.now tokens.now)) }
@@ -319,7 +319,7 @@ fn primary<'a>(
         length (seen source.now x.1.now) < length (seen source.now tokens.now)) }
 {
     let Some((first, after)) = next(source, tokens) else {
-        return Err(Halt::Form(tokens));
+        return Err(Unparsed::Form(tokens));
     };
     if !is(source, first, Fixed::OpenRound) {
         return atom(alloc, source, tokens);
@@ -337,7 +337,7 @@ fn atom<'a>(
     alloc: Global,
     source: &[u8],
     tokens: &'a [Lexeme],
-) -> Result<(Box<Expr>, &'a [Lexeme]), Halt<'a>>
+) -> Result<(Box<Expr>, &'a [Lexeme]), Unparsed<'a>>
     ensures reads { (n : ℕ) → length (seen source.now tokens.now) ≤ n →
         opens (seen source.now tokens.now) ≡ false →
         Gives source.now (λ x. (tree_of x.0.value, seen source.now x.1.now)) result
@@ -346,7 +346,7 @@ fn atom<'a>(
         length (seen source.now x.1.now) < length (seen source.now tokens.now)) }
 {
     let Some((first, after)) = next(source, tokens) else {
-        return Err(Halt::Form(tokens));
+        return Err(Unparsed::Form(tokens));
     };
     match first.terminal {
         Terminal::Literal(value) => Ok((node(alloc, Expr::Int(value, first.place))?, after)),
@@ -359,7 +359,7 @@ fn atom<'a>(
             let (table, rest) = sized(alloc, source, after)?;
             Ok((node(alloc, Expr::Cols(table))?, rest))
         }
-        Terminal::Fixed(_) => Err(Halt::Form(tokens)),
+        Terminal::Fixed(_) => Err(Unparsed::Form(tokens)),
     }
 }
 
@@ -370,7 +370,7 @@ fn cell_or_variable<'a>(
     alloc: Global,
     source: &[u8],
     tokens: &'a [Lexeme],
-) -> Result<(Box<Expr>, &'a [Lexeme]), Halt<'a>>
+) -> Result<(Box<Expr>, &'a [Lexeme]), Unparsed<'a>>
     ensures reads { (n : ℕ) → length (seen source.now tokens.now) ≤ n →
         Gives source.now (λ x. (tree_of x.0.value, seen source.now x.1.now)) result
         (name_cell (nested n) (seen source.now tokens.now)) }
@@ -388,7 +388,7 @@ fn name_rest<'a>(
     source: &[u8],
     name: Name,
     tokens: &'a [Lexeme],
-) -> Result<(Box<Expr>, &'a [Lexeme]), Halt<'a>>
+) -> Result<(Box<Expr>, &'a [Lexeme]), Unparsed<'a>>
     ensures reads { (n : ℕ) → length (seen source.now tokens.now) < n →
         Gives source.now (λ x. (tree_of x.0.value, seen source.now x.1.now)) result
         (name_rest (nested n) (spelled name) (seen source.now tokens.now)) }
@@ -415,7 +415,7 @@ fn sized<'a>(
     alloc: Global,
     source: &[u8],
     tokens: &'a [Lexeme],
-) -> Result<(Name, &'a [Lexeme]), Halt<'a>>
+) -> Result<(Name, &'a [Lexeme]), Unparsed<'a>>
     ensures reads { Gives source.now (λ x. (spelled x.0, seen source.now x.1.now)) result
         (sized (seen source.now tokens.now)) }
     ensures shorter { IfOk result (λ x.

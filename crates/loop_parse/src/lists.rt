@@ -8,7 +8,7 @@ ghost use Rattle.loop_parse.specs.Reading.{Gives, after_comma, with_front, name,
 ghost use Rattle.loop_parse.specs.Reading.{params, more_args, args, app, outer, within};
 
 use crate::expression::outer;
-use crate::reader::{Halt, begins_with, expect, name};
+use crate::reader::{Unparsed, begins_with, expect, name};
 use crate::terminal::{Fixed, Lexeme};
 use loop_syntax::{App, Expr, Name};
 use std::alloc::{AllocError, Global};
@@ -19,7 +19,7 @@ pub(crate) fn params<'a>(
     alloc: Global,
     source: &[u8],
     tokens: &'a [Lexeme],
-) -> Result<(Vec<Name>, &'a [Lexeme]), Halt<'a>>
+) -> Result<(Vec<Name>, &'a [Lexeme]), Unparsed<'a>>
     ensures reads { (n : ℕ) → length (seen source.now tokens.now) ≤ n →
         Gives source.now (λ x. (map spelled x.0.items, seen source.now x.1.now)) result
         (params n (seen source.now tokens.now)) }
@@ -42,7 +42,7 @@ fn more_names<'a>(
     source: &[u8],
     given: Vec<Name>,
     tokens: &'a [Lexeme],
-) -> Result<(Vec<Name>, &'a [Lexeme]), Halt<'a>>
+) -> Result<(Vec<Name>, &'a [Lexeme]), Unparsed<'a>>
     ensures reads { (n : ℕ) → length (seen source.now tokens.now) ≤ n →
         Gives source.now (λ x. (map spelled x.0.items, seen source.now x.1.now)) result
         (with_front (map spelled given.items) (more_names n (seen source.now tokens.now))) }
@@ -64,7 +64,7 @@ fn next_name<'a>(
     alloc: Global,
     source: &[u8],
     tokens: &'a [Lexeme],
-) -> Result<(Name, &'a [Lexeme]), Halt<'a>>
+) -> Result<(Name, &'a [Lexeme]), Unparsed<'a>>
     ensures reads { Gives source.now (λ x. (spelled x.0, seen source.now x.1.now)) result
         (after_comma (name) (seen source.now tokens.now)) }
     ensures shorter { IfOk result (λ x.
@@ -87,7 +87,7 @@ pub(crate) fn app<'a>(
     alloc: Global,
     source: &[u8],
     tokens: &'a [Lexeme],
-) -> Result<(App, &'a [Lexeme]), Halt<'a>>
+) -> Result<(App, &'a [Lexeme]), Unparsed<'a>>
     ensures reads { (n : ℕ) → length (seen source.now tokens.now) ≤ n →
         Gives source.now (λ x. (app_of x.0, seen source.now x.1.now)) result
         (app within n (seen source.now tokens.now)) }
@@ -107,7 +107,7 @@ fn args<'a>(
     alloc: Global,
     source: &[u8],
     tokens: &'a [Lexeme],
-) -> Result<(Vec<Expr>, &'a [Lexeme]), Halt<'a>>
+) -> Result<(Vec<Expr>, &'a [Lexeme]), Unparsed<'a>>
     ensures reads { (n : ℕ) → length (seen source.now tokens.now) ≤ n →
         Gives source.now (λ x. (map tree_of x.0.items, seen source.now x.1.now)) result
         (args within n (seen source.now tokens.now)) }
@@ -130,7 +130,7 @@ fn more_args<'a>(
     source: &[u8],
     given: Vec<Expr>,
     tokens: &'a [Lexeme],
-) -> Result<(Vec<Expr>, &'a [Lexeme]), Halt<'a>>
+) -> Result<(Vec<Expr>, &'a [Lexeme]), Unparsed<'a>>
     ensures reads { (n : ℕ) → length (seen source.now tokens.now) ≤ n →
         Gives source.now (λ x. (map tree_of x.0.items, seen source.now x.1.now)) result
         (with_front (map tree_of given.items) (more_args within n (seen source.now tokens.now))) }
@@ -152,7 +152,7 @@ fn next_argument<'a>(
     alloc: Global,
     source: &[u8],
     tokens: &'a [Lexeme],
-) -> Result<(Expr, &'a [Lexeme]), Halt<'a>>
+) -> Result<(Expr, &'a [Lexeme]), Unparsed<'a>>
     ensures reads { (n : ℕ) → length (seen source.now tokens.now) ≤ n →
         Gives source.now (λ x. (tree_of x.0, seen source.now x.1.now)) result
         (after_comma (outer n) (seen source.now tokens.now)) }

@@ -9,7 +9,7 @@ ghost use Rattle.loop_parse.specs.Reading.{column, carry_rest_of, carry_item, re
 ghost use Rattle.loop_parse.specs.Reading.{reduce_item, more_carries, more_reduces, carry_list};
 ghost use Rattle.loop_parse.specs.Reading.{reduce_list, within};
 
-use crate::reader::{Halt, begins_with, expect, name, name_of, next};
+use crate::reader::{Unparsed, begins_with, expect, name, name_of, next};
 use crate::terminal::{Fixed, Lexeme, Terminal};
 use loop_syntax::{Carry, Name, Reduce, RowAt};
 use std::alloc::{AllocError, Global};
@@ -22,7 +22,7 @@ pub(crate) fn carry_list<'a>(
     source: &[u8],
     place: Place,
     tokens: &'a [Lexeme],
-) -> Result<((Place, Vec<Carry>), &'a [Lexeme]), Halt<'a>>
+) -> Result<((Place, Vec<Carry>), &'a [Lexeme]), Unparsed<'a>>
     ensures reads { (n : ℕ) → length (seen source.now tokens.now) ≤ n →
         Gives source.now (λ x. ((x.0.0, map carry_of x.0.1.items), seen source.now x.1.now)) result
         (carry_list n place (seen source.now tokens.now)) }
@@ -47,7 +47,7 @@ fn more_carries<'a>(
     source: &[u8],
     given: Vec<Carry>,
     tokens: &'a [Lexeme],
-) -> Result<(Vec<Carry>, &'a [Lexeme]), Halt<'a>>
+) -> Result<(Vec<Carry>, &'a [Lexeme]), Unparsed<'a>>
     ensures reads { (n : ℕ) → length (seen source.now tokens.now) ≤ n →
         Gives source.now (λ x. (map carry_of x.0.items, seen source.now x.1.now)) result
         (with_front (map carry_of given.items) (more_carries n (seen source.now tokens.now))) }
@@ -69,7 +69,7 @@ fn next_carry<'a>(
     alloc: Global,
     source: &[u8],
     tokens: &'a [Lexeme],
-) -> Result<(Carry, &'a [Lexeme]), Halt<'a>>
+) -> Result<(Carry, &'a [Lexeme]), Unparsed<'a>>
     ensures reads { Gives source.now (λ x. (carry_of x.0, seen source.now x.1.now)) result
         (after_comma (carry_item) (seen source.now tokens.now)) }
     ensures shorter { IfOk result (λ x.
@@ -92,7 +92,7 @@ fn carry_item<'a>(
     alloc: Global,
     source: &[u8],
     tokens: &'a [Lexeme],
-) -> Result<(Carry, &'a [Lexeme]), Halt<'a>>
+) -> Result<(Carry, &'a [Lexeme]), Unparsed<'a>>
     ensures reads { Gives source.now (λ x. (carry_of x.0, seen source.now x.1.now)) result
         (carry_item (seen source.now tokens.now)) }
     ensures shorter { IfOk result (λ x.
@@ -111,19 +111,19 @@ fn row<'a>(
     alloc: Global,
     source: &[u8],
     tokens: &'a [Lexeme],
-) -> Result<(RowAt, &'a [Lexeme]), Halt<'a>>
+) -> Result<(RowAt, &'a [Lexeme]), Unparsed<'a>>
     ensures reads { Gives source.now (λ x. (row_of x.0, seen source.now x.1.now)) result
         (row (seen source.now tokens.now)) }
     ensures shorter { IfOk result (λ x.
         length (seen source.now x.1.now) < length (seen source.now tokens.now)) }
 {
     let Some((first, after)) = next(source, tokens) else {
-        return Err(Halt::Form(tokens));
+        return Err(Unparsed::Form(tokens));
     };
     match first.terminal {
         Terminal::Literal(value) => Ok((RowAt::Int(value), after)),
         Terminal::Name => Ok((RowAt::Var(name_of(alloc, source, first)?), after)),
-        Terminal::Fixed(_) => Err(Halt::Form(tokens)),
+        Terminal::Fixed(_) => Err(Unparsed::Form(tokens)),
     }
 }
 
@@ -134,7 +134,7 @@ fn carry_rest<'a>(
     table: Name,
     row: RowAt,
     tokens: &'a [Lexeme],
-) -> Result<(Carry, &'a [Lexeme]), Halt<'a>>
+) -> Result<(Carry, &'a [Lexeme]), Unparsed<'a>>
     ensures reads { Gives source.now (λ x. (carry_of x.0, seen source.now x.1.now)) result
         (carry_rest_of (spelled table) (row_of row) (seen source.now tokens.now)) }
     ensures no_longer { IfOk result (λ x.
@@ -160,7 +160,7 @@ fn column<'a>(
     table: Name,
     row: RowAt,
     tokens: &'a [Lexeme],
-) -> Result<(Carry, &'a [Lexeme]), Halt<'a>>
+) -> Result<(Carry, &'a [Lexeme]), Unparsed<'a>>
     ensures reads { Gives source.now (λ x. (carry_of x.0, seen source.now x.1.now)) result
         (column (spelled table) (row_of row) (seen source.now tokens.now)) }
     ensures shorter { IfOk result (λ x.
@@ -178,7 +178,7 @@ pub(crate) fn reduce_list<'a>(
     alloc: Global,
     source: &[u8],
     tokens: &'a [Lexeme],
-) -> Result<(Vec<Reduce>, &'a [Lexeme]), Halt<'a>>
+) -> Result<(Vec<Reduce>, &'a [Lexeme]), Unparsed<'a>>
     ensures reads { (n : ℕ) → length (seen source.now tokens.now) ≤ n →
         Gives source.now (λ x. (map reduce_of x.0.items, seen source.now x.1.now)) result
         (reduce_list n (seen source.now tokens.now)) }
@@ -202,7 +202,7 @@ fn more_reduces<'a>(
     source: &[u8],
     given: Vec<Reduce>,
     tokens: &'a [Lexeme],
-) -> Result<(Vec<Reduce>, &'a [Lexeme]), Halt<'a>>
+) -> Result<(Vec<Reduce>, &'a [Lexeme]), Unparsed<'a>>
     ensures reads { (n : ℕ) → length (seen source.now tokens.now) ≤ n →
         Gives source.now (λ x. (map reduce_of x.0.items, seen source.now x.1.now)) result
         (with_front (map reduce_of given.items) (more_reduces n (seen source.now tokens.now))) }
@@ -224,7 +224,7 @@ fn next_reduce<'a>(
     alloc: Global,
     source: &[u8],
     tokens: &'a [Lexeme],
-) -> Result<(Reduce, &'a [Lexeme]), Halt<'a>>
+) -> Result<(Reduce, &'a [Lexeme]), Unparsed<'a>>
     ensures reads { Gives source.now (λ x. (reduce_of x.0, seen source.now x.1.now)) result
         (after_comma (reduce_item) (seen source.now tokens.now)) }
     ensures shorter { IfOk result (λ x.
@@ -247,7 +247,7 @@ fn reduce_item<'a>(
     alloc: Global,
     source: &[u8],
     tokens: &'a [Lexeme],
-) -> Result<(Reduce, &'a [Lexeme]), Halt<'a>>
+) -> Result<(Reduce, &'a [Lexeme]), Unparsed<'a>>
     ensures reads { Gives source.now (λ x. (reduce_of x.0, seen source.now x.1.now)) result
         (reduce_item (seen source.now tokens.now)) }
     ensures shorter { IfOk result (λ x.
@@ -261,18 +261,18 @@ fn reduce_item<'a>(
 
 /// The name of an operator.
 #[tactic(auto, unfolding(crate::specs::Reading::reducer))]
-fn reducer<'a>(source: &[u8], tokens: &'a [Lexeme]) -> Result<(Op, &'a [Lexeme]), Halt<'a>>
+fn reducer<'a>(source: &[u8], tokens: &'a [Lexeme]) -> Result<(Op, &'a [Lexeme]), Unparsed<'a>>
     ensures reads { Gives source.now (λ x. (x.0, seen source.now x.1.now)) result
         (reducer (seen source.now tokens.now)) }
     ensures shorter { IfOk result (λ x.
         length (seen source.now x.1.now) < length (seen source.now tokens.now)) }
 {
     let Some((first, after)) = next(source, tokens) else {
-        return Err(Halt::Form(tokens));
+        return Err(Unparsed::Form(tokens));
     };
     match op_named(source, first) {
         Some(op) => Ok((op, after)),
-        None => Err(Halt::Form(tokens)),
+        None => Err(Unparsed::Form(tokens)),
     }
 }
 

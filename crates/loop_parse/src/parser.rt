@@ -10,7 +10,7 @@ ghost use Rattle.loop_parse.specs.Text.{IsOnlyCause, place_at};
 ghost use Rattle.loop_parse.specs.Parsing.{Finishes, IsPlaced};
 
 use crate::declaration::program;
-use crate::reader::{Halt, next};
+use crate::reader::{Unparsed, next};
 use crate::terminal::{Lexeme, classify};
 use loop_lex::Token;
 use loop_syntax::Program;
@@ -100,14 +100,14 @@ fn finish(source: &[u8], found: Program, rest: &[Lexeme]) -> Result<Program, Par
 }
 
 /// The fault with its place.
-fn fault_at(source: &[u8], halt: Halt) -> ParseFault
+fn fault_at(source: &[u8], halt: Unparsed) -> ParseFault
     requires { length source.now ≤ MAX_SOURCE_BYTES }
     ensures { IsPlaced source.now halt.entry result }
 {
     match halt {
-        Halt::Form(rest) => ParseFault::Form(place_at(source, rest)),
-        Halt::Deep(rest) => ParseFault::Deep(place_at(source, rest)),
-        Halt::NoMemory => ParseFault::NoMemory,
+        Unparsed::Form(rest) => ParseFault::Form(place_at(source, rest)),
+        Unparsed::Deep(rest) => ParseFault::Deep(place_at(source, rest)),
+        Unparsed::NoMemory => ParseFault::NoMemory,
     }
 }
 

@@ -14,7 +14,7 @@ use tp_value::Place;
 /// Why reading stopped, with the tokens that are left: no program continues at the first of them,
 /// or it is too deep; or there was no memory.
 #[derive(Clone, Copy, Debug)]
-pub enum Halt<'a> {
+pub enum Unparsed<'a> {
     /// No program continues there.
     Form(&'a [Lexeme]),
     /// The first token that is left is too deep.
@@ -23,14 +23,14 @@ pub enum Halt<'a> {
     NoMemory,
 }
 
-impl<'a> From<AllocError> for Halt<'a> {
+impl<'a> From<AllocError> for Unparsed<'a> {
     ghost use Rattle.std.specs.Prelude.{◌≡◌};
-    ghost use Rattle.loop_parse.specs.declared.reader.Halt.TheVariants.{NoMemory};
+    ghost use Rattle.loop_parse.specs.declared.reader.Unparsed.TheVariants.{NoMemory};
 
     ghost from_gives = { λ _ h. h ≡ NoMemory };
 
     fn from(_error: AllocError) -> Self {
-        Halt::NoMemory
+        Unparsed::NoMemory
     }
 }
 
@@ -70,19 +70,19 @@ pub(crate) fn expect<'a>(
     source: &[u8],
     tokens: &'a [Lexeme],
     fixed: Fixed,
-) -> Result<(Place, &'a [Lexeme]), Halt<'a>>
+) -> Result<(Place, &'a [Lexeme]), Unparsed<'a>>
     ensures reads { Gives source.now (λ x. (x.0, seen source.now x.1.now)) result
         (expect fixed (seen source.now tokens.now)) }
     ensures shorter { IfOk result (λ x.
         length (seen source.now x.1.now) < length (seen source.now tokens.now)) }
 {
     let Some((first, rest)) = next(source, tokens) else {
-        return Err(Halt::Form(tokens));
+        return Err(Unparsed::Form(tokens));
     };
     if is(source, first, fixed) {
         Ok((first.place, rest))
     } else {
-        Err(Halt::Form(tokens))
+        Err(Unparsed::Form(tokens))
     }
 }
 
@@ -137,18 +137,18 @@ pub(crate) fn name<'a>(
     alloc: Global,
     source: &[u8],
     tokens: &'a [Lexeme],
-) -> Result<(Name, &'a [Lexeme]), Halt<'a>>
+) -> Result<(Name, &'a [Lexeme]), Unparsed<'a>>
     ensures reads { Gives source.now (λ x. (spelled x.0, seen source.now x.1.now)) result
         (name (seen source.now tokens.now)) }
     ensures shorter { IfOk result (λ x.
         length (seen source.now x.1.now) < length (seen source.now tokens.now)) }
 {
     let Some((first, rest)) = next(source, tokens) else {
-        return Err(Halt::Form(tokens));
+        return Err(Unparsed::Form(tokens));
     };
     match first.terminal {
         Terminal::Name => Ok((name_of(alloc, source, first)?, rest)),
-        Terminal::Literal(_) => Err(Halt::Form(tokens)),
-        Terminal::Fixed(_) => Err(Halt::Form(tokens)),
+        Terminal::Literal(_) => Err(Unparsed::Form(tokens)),
+        Terminal::Fixed(_) => Err(Unparsed::Form(tokens)),
     }
 }

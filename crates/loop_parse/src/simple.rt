@@ -10,7 +10,7 @@ ghost use Rattle.loop_parse.specs.Reading.{within};
 
 use crate::expression::outer;
 use crate::lists::app;
-use crate::reader::{Halt, expect, name, next};
+use crate::reader::{Unparsed, expect, name, next};
 use crate::terminal::{Fixed, Lexeme, Terminal};
 use loop_syntax::{Name, Stmt};
 use std::alloc::Global;
@@ -22,7 +22,7 @@ pub(crate) fn let_rest<'a>(
     alloc: Global,
     source: &[u8],
     tokens: &'a [Lexeme],
-) -> Result<(Stmt, &'a [Lexeme]), Halt<'a>>
+) -> Result<(Stmt, &'a [Lexeme]), Unparsed<'a>>
     ensures reads { (n : ℕ) → length (seen source.now tokens.now) ≤ n →
         Gives source.now (λ x. (node_of x.0, seen source.now x.1.now)) result
         (let_rest within n (seen source.now tokens.now)) }
@@ -43,7 +43,7 @@ pub(crate) fn assign_rest<'a>(
     source: &[u8],
     target: Name,
     tokens: &'a [Lexeme],
-) -> Result<(Stmt, &'a [Lexeme]), Halt<'a>>
+) -> Result<(Stmt, &'a [Lexeme]), Unparsed<'a>>
     ensures reads { (n : ℕ) → length (seen source.now tokens.now) ≤ n →
         Gives source.now (λ x. (node_of x.0, seen source.now x.1.now)) result
         (assign_rest within n (spelled target) (seen source.now tokens.now)) }
@@ -51,12 +51,12 @@ pub(crate) fn assign_rest<'a>(
         length (seen source.now x.1.now) < length (seen source.now tokens.now)) }
 {
     let Some((first, after)) = next(source, tokens) else {
-        return Err(Halt::Form(tokens));
+        return Err(Unparsed::Form(tokens));
     };
     match first.terminal {
         Terminal::Fixed(Fixed::Assign) => set_rest(alloc, source, target, after),
         Terminal::Fixed(Fixed::OpenSquare) => put_rest(alloc, source, target, after),
-        _ => Err(Halt::Form(tokens)),
+        _ => Err(Unparsed::Form(tokens)),
     }
 }
 
@@ -67,7 +67,7 @@ fn set_rest<'a>(
     source: &[u8],
     target: Name,
     tokens: &'a [Lexeme],
-) -> Result<(Stmt, &'a [Lexeme]), Halt<'a>>
+) -> Result<(Stmt, &'a [Lexeme]), Unparsed<'a>>
     ensures reads { (n : ℕ) → length (seen source.now tokens.now) ≤ n →
         Gives source.now (λ x. (node_of x.0, seen source.now x.1.now)) result
         (set_rest within n (spelled target) (seen source.now tokens.now)) }
@@ -86,7 +86,7 @@ fn put_rest<'a>(
     source: &[u8],
     table: Name,
     tokens: &'a [Lexeme],
-) -> Result<(Stmt, &'a [Lexeme]), Halt<'a>>
+) -> Result<(Stmt, &'a [Lexeme]), Unparsed<'a>>
     ensures reads { (n : ℕ) → length (seen source.now tokens.now) ≤ n →
         Gives source.now (λ x. (node_of x.0, seen source.now x.1.now)) result
         (put_rest within n (spelled table) (seen source.now tokens.now)) }
@@ -110,7 +110,7 @@ pub(crate) fn fold_rest<'a>(
     alloc: Global,
     source: &[u8],
     tokens: &'a [Lexeme],
-) -> Result<(Stmt, &'a [Lexeme]), Halt<'a>>
+) -> Result<(Stmt, &'a [Lexeme]), Unparsed<'a>>
     ensures reads { (n : ℕ) → length (seen source.now tokens.now) ≤ n →
         Gives source.now (λ x. (node_of x.0, seen source.now x.1.now)) result
         (fold_rest within n (seen source.now tokens.now)) }
@@ -130,7 +130,7 @@ pub(crate) fn call_rest<'a>(
     alloc: Global,
     source: &[u8],
     tokens: &'a [Lexeme],
-) -> Result<(Stmt, &'a [Lexeme]), Halt<'a>>
+) -> Result<(Stmt, &'a [Lexeme]), Unparsed<'a>>
     ensures reads { (n : ℕ) → length (seen source.now tokens.now) ≤ n →
         Gives source.now (λ x. (node_of x.0, seen source.now x.1.now)) result
         (call_rest within n (seen source.now tokens.now)) }
@@ -150,7 +150,7 @@ pub(crate) fn both_rest<'a>(
     alloc: Global,
     source: &[u8],
     tokens: &'a [Lexeme],
-) -> Result<(Stmt, &'a [Lexeme]), Halt<'a>>
+) -> Result<(Stmt, &'a [Lexeme]), Unparsed<'a>>
     ensures reads { (n : ℕ) → length (seen source.now tokens.now) ≤ n →
         Gives source.now (λ x. (node_of x.0, seen source.now x.1.now)) result
         (both_rest within n (seen source.now tokens.now)) }
@@ -175,7 +175,7 @@ pub(crate) fn print_rest<'a>(
     source: &[u8],
     place: Place,
     tokens: &'a [Lexeme],
-) -> Result<(Stmt, &'a [Lexeme]), Halt<'a>>
+) -> Result<(Stmt, &'a [Lexeme]), Unparsed<'a>>
     ensures reads { (n : ℕ) → length (seen source.now tokens.now) ≤ n →
         Gives source.now (λ x. (node_of x.0, seen source.now x.1.now)) result
         (print_rest within n place (seen source.now tokens.now)) }
@@ -194,7 +194,7 @@ pub(crate) fn emit_rest<'a>(
     source: &[u8],
     place: Place,
     tokens: &'a [Lexeme],
-) -> Result<(Stmt, &'a [Lexeme]), Halt<'a>>
+) -> Result<(Stmt, &'a [Lexeme]), Unparsed<'a>>
     ensures reads { Gives source.now (λ x. (node_of x.0, seen source.now x.1.now)) result
         (emit_rest place (seen source.now tokens.now)) }
     ensures shorter { IfOk result (λ x.

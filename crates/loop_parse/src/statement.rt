@@ -11,7 +11,7 @@ ghost use Rattle.loop_parse.specs.Reading.{else_block, inner_stmts, stmts, withi
 
 use crate::expression::outer;
 use crate::parallel::{carry_list, reduce_list};
-use crate::reader::{Halt, begins_with, expect, name, name_of, next};
+use crate::reader::{Unparsed, begins_with, expect, name, name_of, next};
 use crate::simple::{
     assign_rest, both_rest, call_rest, emit_rest, fold_rest, let_rest, print_rest,
 };
@@ -28,7 +28,7 @@ pub(crate) fn block<'a>(
     source: &[u8],
     level: u32,
     tokens: &'a [Lexeme],
-) -> Result<(Vec<Stmt>, &'a [Lexeme]), Halt<'a>>
+) -> Result<(Vec<Stmt>, &'a [Lexeme]), Unparsed<'a>>
     requires { level ≤ MAX_BLOCK_NESTING }
     ensures reads { (n : ℕ) → length (seen source.now tokens.now) ≤ n →
         Gives source.now (λ x. (nodes_of x.0.items, seen source.now x.1.now)) result
@@ -48,7 +48,7 @@ pub(crate) fn open_brace<'a>(
     source: &[u8],
     level: u32,
     tokens: &'a [Lexeme],
-) -> Result<(Place, &'a [Lexeme]), Halt<'a>>
+) -> Result<(Place, &'a [Lexeme]), Unparsed<'a>>
     ensures reads { Gives source.now (λ x. (x.0, seen source.now x.1.now)) result
         (open_brace within level (seen source.now tokens.now)) }
     ensures shorter { IfOk result (λ x.
@@ -57,7 +57,7 @@ pub(crate) fn open_brace<'a>(
 {
     let (open, rest) = expect(source, tokens, Fixed::OpenBrace)?;
     if level >= MAX_BLOCK_NESTING {
-        return Err(Halt::Deep(tokens));
+        return Err(Unparsed::Deep(tokens));
     }
     Ok((open, rest))
 }
@@ -69,7 +69,7 @@ fn inner_statements<'a>(
     source: &[u8],
     level: u32,
     tokens: &'a [Lexeme],
-) -> Result<(Vec<Stmt>, &'a [Lexeme]), Halt<'a>>
+) -> Result<(Vec<Stmt>, &'a [Lexeme]), Unparsed<'a>>
     requires { level ≤ MAX_BLOCK_NESTING }
     ensures reads { (n : ℕ) → length (seen source.now tokens.now) < n →
         Gives source.now (λ x. (map node_of x.0.items, seen source.now x.1.now)) result
@@ -88,7 +88,7 @@ pub(crate) fn statements<'a>(
     source: &[u8],
     level: u32,
     tokens: &'a [Lexeme],
-) -> Result<(Vec<Stmt>, &'a [Lexeme]), Halt<'a>>
+) -> Result<(Vec<Stmt>, &'a [Lexeme]), Unparsed<'a>>
     requires { level ≤ MAX_BLOCK_NESTING }
     ensures reads { (n : ℕ) → length (seen source.now tokens.now) ≤ n →
         Gives source.now (λ x. (map node_of x.0.items, seen source.now x.1.now)) result
@@ -152,7 +152,7 @@ fn statement<'a>(
     source: &[u8],
     level: u32,
     tokens: &'a [Lexeme],
-) -> Result<(Stmt, &'a [Lexeme]), Halt<'a>>
+) -> Result<(Stmt, &'a [Lexeme]), Unparsed<'a>>
     requires { level ≤ MAX_BLOCK_NESTING }
     ensures reads { (n : ℕ) → length (seen source.now tokens.now) ≤ n →
         Gives source.now (λ x. (node_of x.0, seen source.now x.1.now)) result
@@ -161,7 +161,7 @@ fn statement<'a>(
         length (seen source.now x.1.now) < length (seen source.now tokens.now)) }
 {
     let Some((first, after)) = next(source, tokens) else {
-        return Err(Halt::Form(tokens));
+        return Err(Unparsed::Form(tokens));
     };
     match first.terminal {
         Terminal::Name => assign_rest(alloc, source, name_of(alloc, source, first)?, after),
@@ -175,7 +175,7 @@ fn statement<'a>(
         Terminal::Fixed(Fixed::Both) => both_rest(alloc, source, after),
         Terminal::Fixed(Fixed::Print) => print_rest(alloc, source, first.place, after),
         Terminal::Fixed(Fixed::Emit) => emit_rest(alloc, source, first.place, after),
-        _ => Err(Halt::Form(tokens)),
+        _ => Err(Unparsed::Form(tokens)),
     }
 }
 
@@ -187,7 +187,7 @@ fn if_rest<'a>(
     source: &[u8],
     level: u32,
     tokens: &'a [Lexeme],
-) -> Result<(Stmt, &'a [Lexeme]), Halt<'a>>
+) -> Result<(Stmt, &'a [Lexeme]), Unparsed<'a>>
     requires { level ≤ MAX_BLOCK_NESTING }
     ensures reads { (n : ℕ) → length (seen source.now tokens.now) ≤ n →
         Gives source.now (λ x. (node_of x.0, seen source.now x.1.now)) result
@@ -209,7 +209,7 @@ fn else_block<'a>(
     source: &[u8],
     level: u32,
     tokens: &'a [Lexeme],
-) -> Result<(Vec<Stmt>, &'a [Lexeme]), Halt<'a>>
+) -> Result<(Vec<Stmt>, &'a [Lexeme]), Unparsed<'a>>
     requires { level ≤ MAX_BLOCK_NESTING }
     ensures reads { (n : ℕ) → length (seen source.now tokens.now) ≤ n →
         Gives source.now (λ x. (nodes_of x.0.items, seen source.now x.1.now)) result
@@ -232,7 +232,7 @@ fn while_rest<'a>(
     source: &[u8],
     level: u32,
     tokens: &'a [Lexeme],
-) -> Result<(Stmt, &'a [Lexeme]), Halt<'a>>
+) -> Result<(Stmt, &'a [Lexeme]), Unparsed<'a>>
     requires { level ≤ MAX_BLOCK_NESTING }
     ensures reads { (n : ℕ) → length (seen source.now tokens.now) ≤ n →
         Gives source.now (λ x. (node_of x.0, seen source.now x.1.now)) result
@@ -253,7 +253,7 @@ fn loop_rest<'a>(
     source: &[u8],
     level: u32,
     tokens: &'a [Lexeme],
-) -> Result<(Stmt, &'a [Lexeme]), Halt<'a>>
+) -> Result<(Stmt, &'a [Lexeme]), Unparsed<'a>>
     requires { level ≤ MAX_BLOCK_NESTING }
     ensures reads { (n : ℕ) → length (seen source.now tokens.now) ≤ n →
         Gives source.now (λ x. (node_of x.0, seen source.now x.1.now)) result
@@ -279,7 +279,7 @@ fn par_rest<'a>(
     level: u32,
     place: Place,
     tokens: &'a [Lexeme],
-) -> Result<(Stmt, &'a [Lexeme]), Halt<'a>>
+) -> Result<(Stmt, &'a [Lexeme]), Unparsed<'a>>
     requires { level ≤ MAX_BLOCK_NESTING }
     ensures reads { (n : ℕ) → length (seen source.now tokens.now) ≤ n →
         Gives source.now (λ x. (node_of x.0, seen source.now x.1.now)) result
@@ -307,7 +307,7 @@ fn par_tail<'a>(
     from: Expr,
     to: Expr,
     tokens: &'a [Lexeme],
-) -> Result<(Stmt, &'a [Lexeme]), Halt<'a>>
+) -> Result<(Stmt, &'a [Lexeme]), Unparsed<'a>>
     requires { level ≤ MAX_BLOCK_NESTING }
     ensures reads { (n : ℕ) → length (seen source.now tokens.now) ≤ n →
         Gives source.now (λ x. (node_of x.0, seen source.now x.1.now)) result

@@ -29,7 +29,7 @@ use Rattle.schedule_core.specs.declared.lanes.Opened.{Opened}
 use Rattle.schedule_core.specs.declared.lanes.Opened.TheVariants.{Waiting, Half}
 use Rattle.schedule_core.specs.declared.lanes.Tally.{Tally}
 use Rattle.schedule_core.specs.Lanes.{Placed, end_at}
-use Rattle.schedule_core.specs.Solo.{Lane, Stage, Runs, Comes, on, records, runs, next, after_step}
+use Rattle.schedule_core.specs.Solo.{Lane, SoloState, Runs, Comes, on, records, runs, next, after_step}
 use Rattle.schedule_core.specs.Solo.{asked, arrived, arrived_with, arrived_at, on_joined, turned}
 use Rattle.schedule_core.specs.Solo.{one_task, one_skipped}
 
@@ -100,7 +100,7 @@ steady code heartbeat true task one calm is = is
 steady code heartbeat false task one calm is = calm (subst (λ s. IsUndiverted s (step code heartbeat false task)) is (agrees code heartbeat task))
 
 module _ (code : Listing) (heartbeat forks : ℕ) (outcome : Outcome) where
-  pub record Finishes (stage : Stage) : Type 0 where
+  pub record Finishes (stage : SoloState) : Type 0 where
     pub instructions : ℕ
     pub tally : Tally
     pub comes : Comes code heartbeat forks instructions stage outcome tally

@@ -3,9 +3,9 @@ use Rattle.std.proofs.Common.{◌≡◌, ℕ, refl}
 use Rattle.tp_value.specs.declared.values.Outcome.{Outcome}
 use Rattle.tpal_syntax.specs.Listing.{Listing}
 use Rattle.schedule_core.specs.declared.lanes.Tally.{Tally}
-use Rattle.schedule_core.specs.Solo.{Stage, Comes, over, on}
+use Rattle.schedule_core.specs.Solo.{SoloState, Comes, over, on}
 
-pub one_end : (code : Listing) (heartbeat forks n m : ℕ) (stage : Stage) (outcome other : Outcome)
+pub one_end : (code : Listing) (heartbeat forks n m : ℕ) (stage : SoloState) (outcome other : Outcome)
     (tally later : Tally)
     → Comes code heartbeat forks n stage outcome tally
     → Comes code heartbeat forks m stage other later

@@ -38,12 +38,12 @@ use Rattle.schedule_core.specs.declared.lanes.Tally.{Tally}
 use Rattle.schedule_core.specs.Core as core
 use Rattle.schedule_core.specs.Core.{top, Config, Event, LeastFree, AnyFree, CoreStep, first, put}
 use Rattle.schedule_core.specs.Lanes.{Placed, end_at, RestOwed, ChildOwed, EndOwed, ArrivalOwed}
-use Rattle.schedule_core.specs.Lanes.{LaneOwed, StageOwed}
+use Rattle.schedule_core.specs.Lanes.{LaneOwed, SoloStateOwed}
 use Rattle.schedule_core.specs.Run as running
 use Rattle.schedule_core.specs.Run.{CoreRun, EachEvent}
 use Rattle.schedule_core.specs.Sharing.{cell_of, CellsAre, GivenAt, CountsAre, ClaimsLast}
 use Rattle.schedule_core.specs.Sharing.{SharedRun}
-use Rattle.schedule_core.specs.Solo.{Lane, Stage, Runs, Over, Lost, Comes, over, on, records, runs}
+use Rattle.schedule_core.specs.Solo.{Lane, SoloState, Runs, Over, Lost, Comes, over, on, records, runs}
 use Rattle.schedule_core.specs.Solo.{next, after_step, asked, forked, arrived, arrived_with}
 use Rattle.schedule_core.specs.Solo.{arrived_at, on_joined, turned, one_skipped, first_lane}
 use Rattle.schedule_core.specs.Solo.{SoloRun}
@@ -107,22 +107,22 @@ module _ (code : Listing) (heartbeat forks : ℕ) where
   Claims run = EachEvent (tasks code heartbeat) LeastFree forks records 1 ClaimsLast run
 
   -- the core comes to a stage of the solo run
-  abbrev At_stage : Stage → Config State RestState Ending → Type 0
+  abbrev At_stage : SoloState → Config State RestState Ending → Type 0
   At_stage (Runs lane) c = Stands lane c
   At_stage (Over outcome tally) c = (c.outcome ≡ Some (ending.Root outcome)) × CountsAre tally c
   At_stage Lost c = ⊥
 
-  record Reaches (c : Config State RestState Ending) (stage : Stage) : Type 0 where
+  record Reaches (c : Config State RestState Ending) (stage : SoloState) : Type 0 where
     events : List Event
     last : Config State RestState Ending
     run : Many c events last
     claims : Claims run
     at : At_stage stage last
 
-  here : (c : Config State RestState Ending) (stage : Stage) → At_stage stage c → Reaches c stage
+  here : (c : Config State RestState Ending) (stage : SoloState) → At_stage stage c → Reaches c stage
   here c stage at = record { events = []; last = c; run = running.here c; claims = tt; at = at }
 
-  first_then : (c d : Config State RestState Ending) (e : Event) (stage : Stage) → One c e d → ClaimsLast c e → Reaches d stage → Reaches c stage
+  first_then : (c d : Config State RestState Ending) (e : Event) (stage : SoloState) → One c e d → ClaimsLast c e → Reaches d stage → Reaches c stage
   first_then c d e stage one claims rest = record { events = e ∷ rest.events; last = rest.last; run = running.on c d rest.last e rest.events one rest.run; claims = (claims, rest.claims); at = rest.at }
 
   some : 0 < 1
@@ -390,9 +390,9 @@ module _ (code : Listing) (heartbeat forks : ℕ) where
 
   module _ (right : IsCode code.tables code.blocks) where
     -- what an instruction and all that it leads to give
-    record Goes_on (c : Config State RestState Ending) (out : Outcome) (stage : Stage) : Type 0 where
+    record Goes_on (c : Config State RestState Ending) (out : Outcome) (stage : SoloState) : Type 0 where
       reaches : Reaches c stage
-      owed : StageOwed code heartbeat out stage
+      owed : SoloStateOwed code heartbeat out stage
 
     goes_on : (lane : Lane) (c : Config State RestState Ending) (out : Outcome) (at : Stands lane c) (owed : LaneOwed code heartbeat lane out) (one : Step) → step code heartbeat (nat_lt lane.tally.beats forks) lane.task ≡ one → StepKeeps heartbeat lane.task one → TurnOwes code (owing code heartbeat) owed.due owed.ending (turned_once one lane.task) → (after_step code one lane.opened lane.tally ≡ Lost → ⊥) → Goes_on c out (after_step code one lane.opened lane.tally)
     goes_on lane c out at owed (Goes after) is kept owes found = record {
@@ -435,10 +435,10 @@ module _ (code : Listing) (heartbeat forks : ℕ) where
       outcome_is : last.outcome ≡ Some (ending.Root outcome)
       counts : CountsAre tally last
 
-    lost_not : (n : ℕ) (outcome : Outcome) (tally : Tally) (stage : Stage) → Comes code heartbeat forks n stage outcome tally → stage ≡ Lost → ⊥
+    lost_not : (n : ℕ) (outcome : Outcome) (tally : Tally) (stage : SoloState) → Comes code heartbeat forks n stage outcome tally → stage ≡ Lost → ⊥
     lost_not n outcome tally stage comes is = never_lost code heartbeat forks right n outcome tally (subst (λ s. Comes code heartbeat forks n s outcome tally) is comes)
 
-    to_end : (n : ℕ) (stage : Stage) (outcome out : Outcome) (tally : Tally) (c : Config State RestState Ending) → Comes code heartbeat forks n stage outcome tally → At_stage stage c → StageOwed code heartbeat out stage → To_end c outcome tally
+    to_end : (n : ℕ) (stage : SoloState) (outcome out : Outcome) (tally : Tally) (c : Config State RestState Ending) → Comes code heartbeat forks n stage outcome tally → At_stage stage c → SoloStateOwed code heartbeat out stage → To_end c outcome tally
     to_end n stage outcome out tally c (over _ _) at owed = record { events = []; last = c; run = running.here c; claims = tt; outcome_is = at.0; counts = at.1 }
     to_end n stage outcome out tally c (on k lane _ _ comes) at owed =
         let further = goes_on lane c out at owed (step code heartbeat (nat_lt lane.tally.beats forks) lane.task) refl (step_keeps heartbeat code (nat_lt lane.tally.beats forks) lane.task) (one_step code heartbeat forks right (nat_lt lane.tally.beats forks) owed.due lane.task owed.ending owed.task.owes) (lost_not k outcome tally (next code heartbeat forks lane) comes) in

@@ -14,9 +14,9 @@ use Rattle.tpal_machine.specs.RestState.{end_of}
 use Rattle.tpal_machine.specs.State.{State}
 use Rattle.tpal_machine.proofs.Owing as machine
 use Rattle.schedule_core.specs.declared.lanes.Tally.{Tally}
-use Rattle.schedule_core.specs.Lanes.{Placed, LaneOwed, StageOwed, TurnFits, IsTally, after_stopped}
+use Rattle.schedule_core.specs.Lanes.{Placed, LaneOwed, SoloStateOwed, TurnFits, IsTally, after_stopped}
 use Rattle.schedule_core.specs.Lanes.{after_turn}
-use Rattle.schedule_core.specs.Solo.{Lane, Stage, Runs, Over, Lost, Comes, over, on, next, turned}
+use Rattle.schedule_core.specs.Solo.{Lane, SoloState, Runs, Over, Lost, Comes, over, on, next, turned}
 use Rattle.schedule_core.specs.Solo.{no_tally, SoloRun, first_lane}
 use Rattle.schedule_core.specs.Steps.{is_over, runs_to, is_last, ComesToAnEnd, ComesToAnEnd-prop}
 use Rattle.schedule_core.proofs.Finishing.{Finishes, finishes}
@@ -33,7 +33,7 @@ use Rattle.tpal_machine.proofs.Keeping.{turn_keeps}
 use Rattle.tpal_machine.proofs.Owed as owed
 
 -- one instruction more, where a task runs
-abbrev more_of : (Lane → ℕ) → Stage → ℕ
+abbrev more_of : (Lane → ℕ) → SoloState → ℕ
 more_of later (Runs lane) = suc (later lane)
 more_of later (Over outcome tally) = 0
 more_of later Lost = 0
@@ -44,11 +44,11 @@ left zero code heartbeat forks lane = 0
 left (suc n) code heartbeat forks lane = more_of (left n code heartbeat forks) (next code heartbeat forks lane)
 
 module _ (code : Listing) (heartbeat forks : ℕ) where
-  stage_last : (n : ℕ) (stage : Stage) (outcome : Outcome) (tally : Tally) → Comes code heartbeat forks (suc n) stage outcome tally → runs_to (is_last n code heartbeat forks) stage ≡ true
+  stage_last : (n : ℕ) (stage : SoloState) (outcome : Outcome) (tally : Tally) → Comes code heartbeat forks (suc n) stage outcome tally → runs_to (is_last n code heartbeat forks) stage ≡ true
   unfolding is_last
   stage_last zero stage outcome tally (on _ lane _ _ comes) = now (next code heartbeat forks lane) comes
     where
-      now : (s : Stage) → Comes code heartbeat forks 0 s outcome tally → is_over s ≡ true
+      now : (s : SoloState) → Comes code heartbeat forks 0 s outcome tally → is_over s ≡ true
       now s (over _ _) = refl
   stage_last (suc n) stage outcome tally (on _ lane _ _ comes) = stage_last n (next code heartbeat forks lane) outcome tally comes
 
@@ -56,7 +56,7 @@ module _ (code : Listing) (heartbeat forks : ℕ) where
   pub lane_last : (n : ℕ) (lane : Lane) (outcome : Outcome) (tally : Tally) → Comes code heartbeat forks (suc n) (Runs lane) outcome tally → is_last n code heartbeat forks lane ≡ true
   lane_last n lane outcome tally comes = stage_last n (Runs lane) outcome tally comes
 
-  stage_left : (m n : ℕ) (stage : Stage) (outcome : Outcome) (tally : Tally) → m ≤ suc n → Comes code heartbeat forks m stage outcome tally → more_of (left n code heartbeat forks) stage ≡ m
+  stage_left : (m n : ℕ) (stage : SoloState) (outcome : Outcome) (tally : Tally) → m ≤ suc n → Comes code heartbeat forks m stage outcome tally → more_of (left n code heartbeat forks) stage ≡ m
   unfolding left
   stage_left m n stage outcome tally few (over _ _) = refl
   stage_left m zero stage outcome tally few (on k lane _ _ comes) = let none : 0 ≡ k = omega (arith, few) in ap suc none
@@ -96,7 +96,7 @@ module _ (code : Listing) (heartbeat forks : ℕ) where
   first_finishes task out none root owes =
       finishes code heartbeat forks out false 0 task (ending.Root out) owes.bound [] no_tally (first_placed task none root) (λ later. record { instructions = 0; tally = later; comes = over out later })
 
-  record Counted (stage : Stage) (out : Outcome) (tally : Tally) (instructions : ℕ) : Type 0 where
+  record Counted (stage : SoloState) (out : Outcome) (tally : Tally) (instructions : ℕ) : Type 0 where
     before : ℕ
     is : instructions ≡ suc before
     comes : Comes code heartbeat forks (suc before) stage out tally
@@ -140,7 +140,7 @@ module _ (code : Listing) (heartbeat forks : ℕ) where
     pub running_fits : (beat : ℕ) × (outcome : Outcome) × TurnFits code beat ran.turn lane.opened outcome
     running_fits = (heartbeat, run.outcome, turn_fits code heartbeat (due_after run.owed.due (turn_of budget code heartbeat (nat_lt lane.tally.beats forks) lane.task).beats) (turn_of budget code heartbeat (nat_lt lane.tally.beats forks) lane.task).steps lane.task lane.opened run.outcome run.owed.ending (turn_of budget code heartbeat (nat_lt lane.tally.beats forks) lane.task).stopped ran.turn is.turn run.owed.more keeps_turn owes_turn.stopped)
 
-    abbrev pub Reached : Stage
+    abbrev pub Reached : SoloState
     Reached = after_turn code ran.turn lane.opened (turned ran.steps ran.beats lane.tally)
 
     -- what it comes to
@@ -154,7 +154,7 @@ module _ (code : Listing) (heartbeat forks : ℕ) where
     nearer_turn : TurnNearer code heartbeat forks right run.count (after_stopped code (turn_of budget code heartbeat (nat_lt lane.tally.beats forks) lane.task).stopped lane.opened (turned (turn_of budget code heartbeat (nat_lt lane.tally.beats forks) lane.task).steps (turn_of budget code heartbeat (nat_lt lane.tally.beats forks) lane.task).beats lane.tally)) run.outcome run.last
     nearer_turn = turn_nearer code heartbeat forks right budget run.owed.due lane.task lane.opened lane.tally run.owed.ending run.count run.outcome run.last some small run.owed.task.owes run.comes
 
-    owed_turn : StageOwed code heartbeat run.outcome (after_stopped code (turn_of budget code heartbeat (nat_lt lane.tally.beats forks) lane.task).stopped lane.opened (turned (turn_of budget code heartbeat (nat_lt lane.tally.beats forks) lane.task).steps (turn_of budget code heartbeat (nat_lt lane.tally.beats forks) lane.task).beats lane.tally))
+    owed_turn : SoloStateOwed code heartbeat run.outcome (after_stopped code (turn_of budget code heartbeat (nat_lt lane.tally.beats forks) lane.task).stopped lane.opened (turned (turn_of budget code heartbeat (nat_lt lane.tally.beats forks) lane.task).steps (turn_of budget code heartbeat (nat_lt lane.tally.beats forks) lane.task).beats lane.tally))
     owed_turn = stopped_owed code heartbeat (due_after run.owed.due (turn_of budget code heartbeat (nat_lt lane.tally.beats forks) lane.task).beats) (turn_of budget code heartbeat (nat_lt lane.tally.beats forks) lane.task).steps lane.task lane.opened run.outcome (turned (turn_of budget code heartbeat (nat_lt lane.tally.beats forks) lane.task).steps (turn_of budget code heartbeat (nat_lt lane.tally.beats forks) lane.task).beats lane.tally) run.owed.ending (turn_of budget code heartbeat (nat_lt lane.tally.beats forks) lane.task).stopped run.owed.task.placed run.owed.more keeps_turn owes_turn.stopped
 
     -- it comes to another task, with fewer instructions left
@@ -169,7 +169,7 @@ module _ (code : Listing) (heartbeat forks : ℕ) where
           last = run.last;
           comes = subst (λ s. Comes code heartbeat forks nearer_turn.less s run.outcome run.last) all nearer_turn.comes;
           few = omega (arith, bound, few);
-          owed = subst (StageOwed code heartbeat run.outcome) all owed_turn;
+          owed = subst (SoloStateOwed code heartbeat run.outcome) all owed_turn;
           whole = run.whole;
           one = run.one;
         }

@@ -36,9 +36,9 @@ use Rattle.schedule_core.specs.declared.lanes.Opened.{Opened}
 use Rattle.schedule_core.specs.declared.lanes.Opened.TheVariants.{Waiting, Half}
 use Rattle.schedule_core.specs.declared.lanes.Tally.{Tally}
 use Rattle.schedule_core.specs.Lanes.{Placed, TaskOwed, JoinedOwed, RestOwed, SideOwed, EndingOwed}
-use Rattle.schedule_core.specs.Lanes.{ArrivalOwed, StageOwed, after_stopped, after_turn, TurnFits}
+use Rattle.schedule_core.specs.Lanes.{ArrivalOwed, SoloStateOwed, after_stopped, after_turn, TurnFits}
 use Rattle.schedule_core.specs.Lanes.{IsTally}
-use Rattle.schedule_core.specs.Solo.{Lane, Stage, Runs, Lost, Comes, on, more, records, runs, next}
+use Rattle.schedule_core.specs.Solo.{Lane, SoloState, Runs, Lost, Comes, on, more, records, runs, next}
 use Rattle.schedule_core.specs.Solo.{after_step, arrived_with, arrived_at, on_joined, met, turned}
 use Rattle.schedule_core.specs.Solo.{one_skipped}
 use Rattle.schedule_core.proofs.Finishing.{placed_goes, placed_none, placed_some, placed_left}
@@ -78,20 +78,20 @@ module _ (code : Listing) (heartbeat : ℕ) where
   More opened out e = EndingOwed code heartbeat e out (λ side. ArrivalOwed code heartbeat opened out side)
 
   -- what an ending comes to owes the outcome
-  ending_owed : (opened : List Opened) (out : Outcome) (tally : Tally) (e : Ending) → ((side : Side) → ArrivalOwed code heartbeat opened out side → StageOwed code heartbeat out (arrived_at opened code tally side)) → More opened out e → StageOwed code heartbeat out (arrived_with e tally (λ side. arrived_at opened code tally side))
+  ending_owed : (opened : List Opened) (out : Outcome) (tally : Tally) (e : Ending) → ((side : Side) → ArrivalOwed code heartbeat opened out side → SoloStateOwed code heartbeat out (arrived_at opened code tally side)) → More opened out e → SoloStateOwed code heartbeat out (arrived_with e tally (λ side. arrived_at opened code tally side))
   ending_owed opened out tally (ending.Root outcome) each is = is
   ending_owed opened out tally (ending.At k name side) each is = each side is
 
-  joined_owed : (both : Joined) (opened : List Opened) (out : Outcome) (tally : Tally) → ((e : Ending) → More opened out e → StageOwed code heartbeat out (arrived_with e tally (λ side. arrived_at opened code tally side))) → JoinedOwed code heartbeat both opened (More opened out) → StageOwed code heartbeat out (on_joined both opened tally (λ e. arrived_with e tally (λ side. arrived_at opened code tally side)))
+  joined_owed : (both : Joined) (opened : List Opened) (out : Outcome) (tally : Tally) → ((e : Ending) → More opened out e → SoloStateOwed code heartbeat out (arrived_with e tally (λ side. arrived_at opened code tally side))) → JoinedOwed code heartbeat both opened (More opened out) → SoloStateOwed code heartbeat out (on_joined both opened tally (λ e. arrived_with e tally (λ side. arrived_at opened code tally side)))
   joined_owed (merging.Goes task) opened out tally each is = record { due = false; ending = is.0; task = is.1; more = is.2 }
   joined_owed (merging.Ends e) opened out tally each is = each e is
 
-  met_owed : (one : Opened) (opened : List Opened) (out : Outcome) (tally : Tally) (side : Side) → ((e : Ending) → More opened out e → StageOwed code heartbeat out (arrived_with e tally (λ other. arrived_at opened code tally other))) → SideOwed code heartbeat one side opened (More opened out) → StageOwed code heartbeat out (met one code side opened tally (λ e. arrived_with e tally (λ other. arrived_at opened code tally other)))
+  met_owed : (one : Opened) (opened : List Opened) (out : Outcome) (tally : Tally) (side : Side) → ((e : Ending) → More opened out e → SoloStateOwed code heartbeat out (arrived_with e tally (λ other. arrived_at opened code tally other))) → SideOwed code heartbeat one side opened (More opened out) → SoloStateOwed code heartbeat out (met one code side opened tally (λ e. arrived_with e tally (λ other. arrived_at opened code tally other)))
   met_owed (Waiting rest child) opened out tally side each is = record { due = false; ending = ending.At is.number Right is.q; task = is.owes; more = is.merged }
   met_owed (Half rest left) opened out tally side each is =
-      subst (λ both. StageOwed code heartbeat out (on_joined both opened tally (λ e. arrived_with e tally (λ other. arrived_at opened code tally other)))) (sym is.merge.gives) (joined_owed is.both opened out tally each is.owed)
+      subst (λ both. SoloStateOwed code heartbeat out (on_joined both opened tally (λ e. arrived_with e tally (λ other. arrived_at opened code tally other)))) (sym is.merge.gives) (joined_owed is.both opened out tally each is.owed)
 
-  pub arrival_owed : (opened : List Opened) (out : Outcome) (tally : Tally) (side : Side) → ArrivalOwed code heartbeat opened out side → StageOwed code heartbeat out (arrived_at opened code tally side)
+  pub arrival_owed : (opened : List Opened) (out : Outcome) (tally : Tally) (side : Side) → ArrivalOwed code heartbeat opened out side → SoloStateOwed code heartbeat out (arrived_at opened code tally side)
   arrival_owed [] out tally side is = absurd is
   arrival_owed (one ∷ opened) out tally side is =
       met_owed one opened out tally side (λ e more. ending_owed opened out tally e (λ other arrives. arrival_owed opened out tally other arrives) more) is
@@ -101,7 +101,7 @@ module _ (code : Listing) (heartbeat : ℕ) where
   half_owed all opened rest left side out is arrives = subst (λ o. ArrivalOwed code heartbeat o out side) is arrives
 
   -- what the end of a turn comes to owes the outcome
-  room_owed : (b : Bool) (waits : State) (opened : List Opened) (out : Outcome) (tally : Tally) (e : Ending) → nat_lt (length opened) records ≡ b → (nat_lt (length opened) records ≡ true → TaskOwed code heartbeat false (answered (Some (length opened)) waits) opened e) → TaskOwed code heartbeat false (answered None waits) opened e → More opened out e → StageOwed code heartbeat out (cond b (runs (answered (Some (length opened)) waits) opened tally) (runs (answered None waits) opened (one_skipped tally)))
+  room_owed : (b : Bool) (waits : State) (opened : List Opened) (out : Outcome) (tally : Tally) (e : Ending) → nat_lt (length opened) records ≡ b → (nat_lt (length opened) records ≡ true → TaskOwed code heartbeat false (answered (Some (length opened)) waits) opened e) → TaskOwed code heartbeat false (answered None waits) opened e → More opened out e → SoloStateOwed code heartbeat out (cond b (runs (answered (Some (length opened)) waits) opened tally) (runs (answered None waits) opened (one_skipped tally)))
   room_owed true waits opened out tally e is some none rest = record { due = false; ending = e; task = some is; more = rest }
   room_owed false waits opened out tally e is some none rest = record { due = false; ending = e; task = none; more = rest }
 
@@ -109,7 +109,7 @@ module _ (code : Listing) (heartbeat : ℕ) where
   fork_joined steps task parts opened out p q e (merging.Goes after) at kept gives owes rest = (e, record { owes = owes; placed = placed_joined code heartbeat steps task parts opened p q after at kept gives }, rest)
   fork_joined steps task parts opened out p q e (merging.Ends other) at kept gives same rest = subst (More opened out) (sym same) rest
 
-  pub stopped_owed : (due : Bool) (steps : ℕ) (task : State) (opened : List Opened) (out : Outcome) (tally : Tally) (e : Ending) (stopped : Stopped) → Placed task opened → More opened out e → StoppedKeeps heartbeat steps task stopped → StoppedOwes code (owing code heartbeat) due e stopped → StageOwed code heartbeat out (after_stopped code stopped opened tally)
+  pub stopped_owed : (due : Bool) (steps : ℕ) (task : State) (opened : List Opened) (out : Outcome) (tally : Tally) (e : Ending) (stopped : Stopped) → Placed task opened → More opened out e → StoppedKeeps heartbeat steps task stopped → StoppedOwes code (owing code heartbeat) due e stopped → SoloStateOwed code heartbeat out (after_stopped code stopped opened tally)
   stopped_owed due steps task opened out tally e (Pauses after) at rest kept owes = record { due = due; ending = e; task = record { owes = owes; placed = placed_goes heartbeat steps task after opened at kept }; more = rest }
   stopped_owed due steps task opened out tally e (Waits waits) at rest kept owes =
       room_owed (nat_lt (length opened) records) waits opened out tally e refl
@@ -157,12 +157,12 @@ module _ (code : Listing) (heartbeat : ℕ) where
 
 module _ (code : Listing) (heartbeat forks : ℕ) (right : IsCode code.tables code.blocks) where
   -- how many instructions are left where there are so many before
-  record Nearer (least count : ℕ) (stage : Stage) (outcome : Outcome) (last : Tally) : Type 0 where
+  record Nearer (least count : ℕ) (stage : SoloState) (outcome : Outcome) (last : Tally) : Type 0 where
     less : ℕ
     few : less + least ≤ count
     comes : Comes code heartbeat forks less stage outcome last
 
-  record Before (count : ℕ) (stage : Stage) (outcome : Outcome) (last : Tally) : Type 0 where
+  record Before (count : ℕ) (stage : SoloState) (outcome : Outcome) (last : Tally) : Type 0 where
     less : ℕ
     is : count ≡ suc less
     comes : Comes code heartbeat forks less stage outcome last
@@ -258,7 +258,7 @@ module _ (code : Listing) (heartbeat forks : ℕ) (right : IsCode code.tables co
       (subst (λ s. Before count (after_step code s opened tally) outcome last) (same_step allowed due task tally e owes free) (before count lane outcome last comes))
 
   -- a turn of a task that owes an ending brings the run nearer to its end
-  pub record TurnNearer (count : ℕ) (stage : Stage) (outcome : Outcome) (last : Tally) : Type 0 where
+  pub record TurnNearer (count : ℕ) (stage : SoloState) (outcome : Outcome) (last : Tally) : Type 0 where
     pub less : ℕ
     pub few : less < count
     pub comes : Comes code heartbeat forks less stage outcome last

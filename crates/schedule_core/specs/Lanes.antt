@@ -22,10 +22,10 @@ use Rattle.tpal_machine.specs.Turn as turns
 use Rattle.tpal_machine.specs.Turn.{Stopped}
 use Rattle.schedule_core.specs.declared.lanes.Opened.{Opened}
 use Rattle.schedule_core.specs.declared.lanes.Opened.TheVariants.{Waiting, Half}
-use Rattle.schedule_core.specs.declared.lanes.Stage.TheVariants as stage
-use Rattle.schedule_core.specs.declared.lanes.Stage as declared
+use Rattle.schedule_core.specs.declared.lanes.SoloState.TheVariants as stage
+use Rattle.schedule_core.specs.declared.lanes.SoloState as declared
 use Rattle.schedule_core.specs.declared.lanes.Tally.{Tally}
-use Rattle.schedule_core.specs.Solo.{Lane, Stage, Runs, Over, Lost, runs, asked, forked, arrived}
+use Rattle.schedule_core.specs.Solo.{Lane, SoloState, Runs, Over, Lost, runs, asked, forked, arrived}
 use Rattle.schedule_core.specs.Solo.{arrived_at}
 
 -- ---- places
@@ -96,22 +96,22 @@ module _ (code : Listing) (heartbeat : ℕ) where
     pub task : TaskOwed due lane.task lane.opened ending
     pub more : EndOwed lane.opened out ending
 
-  abbrev pub StageOwed : Outcome → Stage → Type 0
-  StageOwed out (Runs lane) = LaneOwed lane out
-  StageOwed out (Over outcome tally) = outcome ≡ out
-  StageOwed out Lost = ⊥
+  abbrev pub SoloStateOwed : Outcome → SoloState → Type 0
+  SoloStateOwed out (Runs lane) = LaneOwed lane out
+  SoloStateOwed out (Over outcome tally) = outcome ≡ out
+  SoloStateOwed out Lost = ⊥
 
 -- ---- turns
 
 -- what the end of a turn comes to
-abbrev pub after_stopped : Listing → Stopped → List Opened → Tally → Stage
+abbrev pub after_stopped : Listing → Stopped → List Opened → Tally → SoloState
 after_stopped code (turns.Pauses task) opened tally = runs task opened tally
 after_stopped code (turns.Waits waits) opened tally = asked waits opened tally
 after_stopped code (turns.Parts parts) opened tally = forked parts opened tally
 after_stopped code (turns.Comes e) opened tally = arrived code opened tally e
 after_stopped code (turns.Sticks fault block at) opened tally = Lost
 
-abbrev pub after_turn : Listing → Turn → List Opened → Tally → Stage
+abbrev pub after_turn : Listing → Turn → List Opened → Tally → SoloState
 after_turn code (turn.Pause task) opened tally = runs task opened tally
 after_turn code (turn.NeedRecord waits) opened tally = asked waits opened tally
 after_turn code (turn.Forked left rest child rec) opened tally =
@@ -133,9 +133,9 @@ TurnFits code heartbeat (turn.Stuck fault block at) opened out = ⊥
 TurnFits code heartbeat turn.NoMemory opened out = Unit {0}
 
 -- a stage as it is kept, with the open records and the counts
-abbrev pub IsStage : Stage → declared.Stage → List Opened → Tally → Type 0
-IsStage wanted (stage.Runs task) opened tally = wanted ≡ runs task opened tally
-IsStage wanted (stage.Over outcome) opened tally = wanted ≡ Over outcome tally
+abbrev pub IsSoloState : SoloState → declared.SoloState → List Opened → Tally → Type 0
+IsSoloState wanted (stage.Runs task) opened tally = wanted ≡ runs task opened tally
+IsSoloState wanted (stage.Over outcome) opened tally = wanted ≡ Over outcome tally
 
 -- counts of their type
 pub record IsTally (tally : Tally) : Type 0 where

@@ -34,12 +34,12 @@ pub record Lane : Type 0 where
   pub tally : Tally
 
 -- what the run comes to next: a task runs, the run is over, or nothing of the kind
-pub data Stage : Type 0 where
-  Runs : Lane → Stage
-  Over : Outcome → Tally → Stage
-  Lost : Stage
+pub data SoloState : Type 0 where
+  Runs : Lane → SoloState
+  Over : Outcome → Tally → SoloState
+  Lost : SoloState
 
-abbrev pub runs : State → List Opened → Tally → Stage
+abbrev pub runs : State → List Opened → Tally → SoloState
 runs task opened tally = Runs (record { task = task; opened = opened; tally = tally })
 
 -- ---- counts
@@ -61,46 +61,46 @@ one_skipped tally = record tally { skipped = more tally.skipped 1 }
 -- ---- events
 
 -- a task that asks is given the least free record, or none
-abbrev pub asked : State → List Opened → Tally → Stage
+abbrev pub asked : State → List Opened → Tally → SoloState
 asked waits opened tally =
     if nat_lt (length opened) records then runs (answered (Some (length opened)) waits) opened tally
     else runs (answered None waits) opened (one_skipped tally)
 
 -- a task that forks opens its record, and goes on as the left side
-abbrev pub forked : Forked → List Opened → Tally → Stage
+abbrev pub forked : Forked → List Opened → Tally → SoloState
 forked parts opened tally =
     runs parts.left (Waiting parts.rest parts.child ∷ opened) (one_task tally)
 
 -- what two sides are joined to goes on, or arrives in its turn
-abbrev pub on_joined : Joined → List Opened → Tally → (Ending → Stage) → Stage
+abbrev pub on_joined : Joined → List Opened → Tally → (Ending → SoloState) → SoloState
 on_joined (merging.Goes task) opened tally arrive = runs task opened tally
 on_joined (merging.Ends e) opened tally arrive = arrive e
 
 -- a side arrives at an open record: at one whose child waits it is the left, and that child runs;
 -- else it is the right, and the two are merged
-abbrev pub met : Opened → Listing → Side → List Opened → Tally → (Ending → Stage) → Stage
+abbrev pub met : Opened → Listing → Side → List Opened → Tally → (Ending → SoloState) → SoloState
 met (Waiting rest child) code side opened tally arrive = runs child (Half rest side ∷ opened) tally
 met (Half rest left) code side opened tally arrive =
     on_joined (joined code rest left side) opened tally arrive
 
 -- a task has ended: the run is over, or the side that it is arrives
-abbrev pub arrived_with : Ending → Tally → (Side → Stage) → Stage
+abbrev pub arrived_with : Ending → Tally → (Side → SoloState) → SoloState
 arrived_with (ending.Root outcome) tally arrive = Over outcome tally
 arrived_with (ending.At k name side) tally arrive = arrive side
 
 -- what a side that arrives comes to
-abbrev pub arrived_at : List Opened → Listing → Tally → Side → Stage
+abbrev pub arrived_at : List Opened → Listing → Tally → Side → SoloState
 arrived_at [] code tally side = Lost
 arrived_at (one ∷ opened) code tally side =
     met one code side opened tally
     (λ e. arrived_with e tally (λ other. arrived_at opened code tally other))
 
 -- what an ending comes to
-abbrev pub arrived : Listing → List Opened → Tally → Ending → Stage
+abbrev pub arrived : Listing → List Opened → Tally → Ending → SoloState
 arrived code opened tally e = arrived_with e tally (λ side. arrived_at opened code tally side)
 
 -- what a step comes to
-abbrev pub after_step : Listing → Step → List Opened → Tally → Stage
+abbrev pub after_step : Listing → Step → List Opened → Tally → SoloState
 after_step code (Goes after) opened tally = runs after opened (turned 1 0 tally)
 after_step code (Beats diverted) opened tally = runs diverted opened (turned 1 1 tally)
 after_step code (Ends e) opened tally = arrived code opened (turned 1 0 tally) e
@@ -111,13 +111,13 @@ after_step code Strays opened tally = Lost
 
 -- one instruction, and all that it leads to before the next: with this heartbeat, where so many
 -- diversions are allowed
-abbrev pub next : Listing → ℕ → ℕ → Lane → Stage
+abbrev pub next : Listing → ℕ → ℕ → Lane → SoloState
 next code heartbeat forks lane =
     after_step code (step code heartbeat (nat_lt lane.tally.beats forks) lane.task) lane.opened
     lane.tally
 
 -- a solo run comes to its end by so many instructions
-pub data Comes (code : Listing) (heartbeat forks : ℕ) : ℕ → Stage → Outcome → Tally → Type 0 where
+pub data Comes (code : Listing) (heartbeat forks : ℕ) : ℕ → SoloState → Outcome → Tally → Type 0 where
   over : (outcome : Outcome) (tally : Tally)
       → Comes code heartbeat forks 0 (Over outcome tally) outcome tally
   on : (n : ℕ) (lane : Lane) (outcome : Outcome) (tally : Tally)

@@ -2,18 +2,18 @@
 use Rattle.std.specs.Prelude.{◌≡◌, ℕ, zero, suc, Bool, true, false}
 use Rattle.tpal_syntax.specs.Listing.{Listing}
 use Rattle.tpal_machine.specs.State.{State}
-use Rattle.schedule_core.specs.Solo.{Lane, Stage, Runs, Over, Lost, next, first_lane}
+use Rattle.schedule_core.specs.Solo.{Lane, SoloState, Runs, Over, Lost, next, first_lane}
 use mathlib.Core.Bool.{Bool-set, true≢false}
 use mathlib.Core.HLevel.{Σ_prop_path}
 use mathlib.Core.Path.{refl, ap, sym}
 
-abbrev pub is_over : Stage → Bool
+abbrev pub is_over : SoloState → Bool
 is_over (Runs lane) = false
 is_over (Over outcome tally) = true
 is_over Lost = false
 
 -- a stage at which a task runs that passes a test
-abbrev pub runs_to : (Lane → Bool) → Stage → Bool
+abbrev pub runs_to : (Lane → Bool) → SoloState → Bool
 runs_to test (Runs lane) = test lane
 runs_to test (Over outcome tally) = false
 runs_to test Lost = false
@@ -31,7 +31,7 @@ ComesToAnEnd code heartbeat forks task =
 
 -- ---- it does so after one number of instructions at most
 
-not_both : (stage : Stage) (test : Lane → Bool)
+not_both : (stage : SoloState) (test : Lane → Bool)
     → is_over stage ≡ true
     → runs_to test stage ≡ true
     → ⊥
@@ -39,7 +39,7 @@ not_both (Runs lane) test ends goes = true≢false (sym ends)
 not_both (Over outcome tally) test ends goes = true≢false (sym goes)
 not_both Lost test ends goes = true≢false (sym ends)
 
-goes_both : (stage : Stage) (n m : ℕ) (p q : Lane → Bool)
+goes_both : (stage : SoloState) (n m : ℕ) (p q : Lane → Bool)
     → ((lane : Lane) → p lane ≡ true → q lane ≡ true → n ≡ m)
     → runs_to p stage ≡ true
     → runs_to q stage ≡ true

@@ -12,12 +12,12 @@ ghost use Rattle.schedule_core.specs.declared.lanes.Tally.{Tally};
 ghost use Rattle.schedule_core.specs.Apply.{IsJob};
 ghost use Rattle.schedule_core.specs.Counting.{tally_of};
 ghost use Rattle.schedule_core.specs.Sharing.{SharedRun};
-ghost use Rattle.schedule_core.specs.Lanes.{ArrivalOwed, IsStage, IsTally, TurnFits, after_turn};
+ghost use Rattle.schedule_core.specs.Lanes.{ArrivalOwed, IsSoloState, IsTally, TurnFits, after_turn};
 ghost use Rattle.schedule_core.specs.Solo.{SoloRun, asked, arrived_at, runs, turned};
 ghost use Rattle.schedule_core.specs.Steps.{ComesToAnEnd, ComesToAnEnd-prop};
 
 use crate::job::{Job, Report};
-use crate::lanes::{Opened, Stage, Tally};
+use crate::lanes::{Opened, SoloState, Tally};
 use std::alloc::Global;
 use tp_value::{NoMemory, Outcome};
 use tpal_machine::{Merged, Pace, Side, Task, Turn, answer, merge, run_task};
@@ -81,13 +81,13 @@ fn give(task: Task, opened: &[Opened], tally: &mut Tally) -> Task
 
 /// A side arrives at the record that was opened last, and so does what it and its other side are
 /// merged to, until a task runs or the run is over.
-fn arrive(out: Side, code: &Code, opened: &mut Vec<Opened>) -> Result<Stage, NoMemory>
+fn arrive(out: Side, code: &Code, opened: &mut Vec<Opened>) -> Result<SoloState, NoMemory>
     requires { (heartbeat : ℕ)
         × (outcome : Outcome)
         × ArrivalOwed code.now heartbeat (reverse opened.old.items) outcome out }
     ensures { IfOk result
         (λ stage. (tally : Tally)
-        → IsStage (arrived_at (reverse opened.old.items) code.now tally out) stage
+        → IsSoloState (arrived_at (reverse opened.old.items) code.now tally out) stage
         (reverse opened.new.items) tally) }
 {
     let mut out = out;
@@ -95,11 +95,11 @@ fn arrive(out: Side, code: &Code, opened: &mut Vec<Opened>) -> Result<Stage, NoM
         match last {
             Opened::Waiting { rest, child } => {
                 opened.push(Opened::Half { rest, left: out })?;
-                return Ok(Stage::Runs(child));
+                return Ok(SoloState::Runs(child));
             }
             Opened::Half { rest, left } => match merge(rest, left, out, code)? {
-                Merged::Runs(task) => return Ok(Stage::Runs(task)),
-                Merged::Halted(outcome) => return Ok(Stage::Over(outcome)),
+                Merged::Runs(task) => return Ok(SoloState::Runs(task)),
+                Merged::Halted(outcome) => return Ok(SoloState::Over(outcome)),
                 Merged::Arrived {
                     rec: _,
                     side: _,
@@ -117,17 +117,17 @@ fn go_on(
     code: &Code,
     opened: &mut Vec<Opened>,
     tally: &mut Tally,
-) -> Result<Stage, NoMemory>
+) -> Result<SoloState, NoMemory>
     requires { (heartbeat : ℕ)
         × (outcome : Outcome)
         × TurnFits code.now heartbeat turn (reverse opened.old.items) outcome }
     ensures { IfOk result
-        (λ stage. IsStage (after_turn code.now turn (reverse opened.old.items) tally.old) stage
+        (λ stage. IsSoloState (after_turn code.now turn (reverse opened.old.items) tally.old) stage
         (reverse opened.new.items) tally.new) }
 {
     match turn {
-        Turn::Pause(task) => Ok(Stage::Runs(task)),
-        Turn::NeedRecord(task) => Ok(Stage::Runs(give(task, opened, tally))),
+        Turn::Pause(task) => Ok(SoloState::Runs(task)),
+        Turn::NeedRecord(task) => Ok(SoloState::Runs(give(task, opened, tally))),
         Turn::Forked {
             left,
             rest,
@@ -136,14 +136,14 @@ fn go_on(
         } => {
             opened.push(Opened::Waiting { rest, child })?;
             tally.tasks = tally.tasks.saturating_add(1);
-            Ok(Stage::Runs(left))
+            Ok(SoloState::Runs(left))
         }
         Turn::Arrived {
             rec: _,
             side: _,
             out,
         } => arrive(out, code, opened),
-        Turn::Halted(outcome) => Ok(Stage::Over(outcome)),
+        Turn::Halted(outcome) => Ok(SoloState::Over(outcome)),
         Turn::NoMemory => Err(NoMemory),
         Turn::Stuck { .. } => unreachable!(),
     }
@@ -186,8 +186,8 @@ fn run_turns(alloc: Global, start: Start) -> Result<(Outcome, Tally), NoMemory>
         let ran = run_task(task, code, pace, TURN_STEPS);
         tally = turned(tally, ran.steps, ran.beats);
         match go_on(ran.turn, code, &mut opened, &mut tally)? {
-            Stage::Runs(next) => task = next,
-            Stage::Over(outcome) => return Ok((outcome, tally)),
+            SoloState::Runs(next) => task = next,
+            SoloState::Over(outcome) => return Ok((outcome, tally)),
         }
     }
 }

@@ -19,7 +19,7 @@ use Rattle.tpal_machine.proofs.Keeping.{answer_keeps}
 use Rattle.join_records.specs.declared.table.Taken.{Taken}
 use Rattle.join_records.specs.declared.views.Grip.{Grip}
 use Rattle.join_records.specs.declared.views.Grip.TheVariants.{Reserved}
-use Rattle.join_records.specs.declared.views.Stage.TheVariants.{Steady}
+use Rattle.join_records.specs.declared.views.CallState.TheVariants.{Steady}
 use Rattle.join_records.specs.Answers.{FoundFree, HoldsNoSide}
 use Rattle.join_records.specs.Ends.{code_of}
 use Rattle.join_records.specs.Passes.{taken_number}

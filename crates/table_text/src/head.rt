@@ -9,7 +9,7 @@ ghost use Rattle.table_text.specs.Reading.{has_name, TakesName, TakesSize, Token
 
 use crate::fault::TableFault;
 use crate::names::add_name;
-use crate::word::{Word, is_word, next_word, run_at};
+use crate::word::{TableToken, is_word, next_word, run_at};
 use std::collections::BTreeSet;
 use tp_value::{MAX_SIDE, MAX_TABLE_CELLS};
 
@@ -27,7 +27,7 @@ fn is_table_word(bytes: &[u8]) -> bool
 }
 
 // The next token, which the text must have.
-fn wanted_word(text: &[u8], from: usize) -> Result<Word<'_>, TableFault>
+fn wanted_word(text: &[u8], from: usize) -> Result<TableToken<'_>, TableFault>
     requires { from ≤ length text.now }
     ensures word { IfOk result (λ word.
         tokens_at text.now from
@@ -48,7 +48,7 @@ fn read_name<'a>(
     text: &'a [u8],
     from: usize,
     names: &mut BTreeSet<&'a [u8]>,
-) -> Result<Word<'a>, TableFault>
+) -> Result<TableToken<'a>, TableFault>
     requires { from ≤ length text.now }
     ensures name { IfOk result (λ name.
         TakesName (has_name names.old) (tokens_at text.now from) name.bytes.now
@@ -120,7 +120,7 @@ pub struct Head<'a> {
 // and their names are `names`, which the new name joins.
 pub fn read_head<'a>(
     text: &'a [u8],
-    word: &Word<'a>,
+    word: &TableToken<'a>,
     names: &mut BTreeSet<&'a [u8]>,
     cells: u32,
 ) -> Result<Head<'a>, TableFault>

@@ -11,7 +11,7 @@ ghost use Rattle.table_text.specs.Reading.{tokens_at, read, Between, OnFault, Ho
 use crate::cells::read_cells;
 use crate::fault::TableFault;
 use crate::head::read_head;
-use crate::word::{Word, next_word};
+use crate::word::{TableToken, next_word};
 use std::alloc::Global;
 use std::collections::BTreeSet;
 use tp_value::{Items, MAX_TABLE_CELLS, MAX_TABLES_BYTES, Table};
@@ -66,7 +66,7 @@ struct NextTable {
 fn read_table<'a>(
     alloc: Global,
     text: &'a [u8],
-    word: &Word<'a>,
+    word: &TableToken<'a>,
     names: &mut BTreeSet<&'a [u8]>,
     cells: u32,
 ) -> Result<NextTable, TableFault>

@@ -10,7 +10,7 @@ ghost use Rattle.table_text.specs.Reading.{tokens_at};
 
 // A token of a text, with its first byte and the first one behind it.
 #[derive(Clone, Copy)]
-pub struct Word<'a> {
+pub struct TableToken<'a> {
     pub at: usize,
     pub bytes: &'a [u8],
     pub end: usize,
@@ -53,7 +53,7 @@ fn skip_word(text: &[u8], from: usize) -> usize
 }
 
 // The next token from there on.
-pub fn next_word(text: &[u8], from: usize) -> Option<Word<'_>>
+pub fn next_word(text: &[u8], from: usize) -> Option<TableToken<'_>>
     requires { from ≤ length text.now }
     ensures none { IfNone result (tokens_at text.now from ≡ []) }
     ensures word { IfSome result (λ word.
@@ -67,7 +67,7 @@ pub fn next_word(text: &[u8], from: usize) -> Option<Word<'_>>
     if at == end {
         return None;
     }
-    Some(Word {
+    Some(TableToken {
         at,
         bytes: &text[at..end],
         end,

@@ -10,7 +10,7 @@ use Rattle.std.proofs.lemmas.List.{map-append}
 use Rattle.tpal_syntax.specs.Parts.{is_word}
 use Rattle.indexmap.specs.IndexMap.{insert_entry}
 use Rattle.tpal_asm.specs.Labels.{Head, names_of, place_of, with_head}
-use Rattle.tpal_asm.specs.Stages.{is_among}
+use Rattle.tpal_asm.specs.Drafts.{is_among}
 use Rattle.tpal_asm.proofs.Outside.{among_place}
 
 abbrev pub view : Bor (List ℕ) × Bool → Head

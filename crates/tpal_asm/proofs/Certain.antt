@@ -1,4 +1,4 @@
--- A line says one thing behind a stage.
+-- A line says one thing behind a draft.
 use Rattle.std.proofs.Common.{◌≡◌, ℕ, ◌≤◌, true, ltb, List, [], ◌∷◌, ◌++◌, length, Option, Some}
 use Rattle.std.proofs.Common.{None, get_or, refl, sym, ap, ◌∙◌, inl, inr, arith}
 use Rattle.std.specs.Prelude.{codes}
@@ -20,7 +20,7 @@ use Rattle.tpal_print.proofs.Lines.{instr_comes, term_comes, term_is_no_instr}
 use Rattle.tpal_print.proofs.Unique.{relabel_same, relabel_term_same}
 use Rattle.tpal_asm.specs.Reading.{ended, header_rest}
 use Rattle.tpal_asm.specs.Labels.{Head, names_of, place_of}
-use Rattle.tpal_asm.specs.Stages.{IsNoteOf, Stage, Outside, Inside, Says, IsWithin}
+use Rattle.tpal_asm.specs.Drafts.{IsNoteOf, Draft, Outside, Inside, Says, IsWithin}
 use Rattle.tpal_asm.proofs.Finding.{length-names}
 use Rattle.tpal_asm.proofs.Inside.{words-all, inside_says}
 use Rattle.tpal_asm.proofs.Outside.{outside_says, note_of_form}
@@ -61,7 +61,7 @@ second_of {A} {B} a b x y e =
 behind_spaces : (a b : List ℕ) → codes "  " ++ a ≡ codes "  " ++ b → a ≡ b
 behind_spaces a b e = cc
 
--- ---- what a line says, and the next stage
+-- ---- what a line says, and the next draft
 
 -- the front of a table's line
 table_front : (n : ℕ) (table : CodeTable) → (us : List ℕ) × (table_line n table ++ (10 ∷ []) ≡ codes "table t" ++ us)
@@ -115,7 +115,7 @@ module _ (hs : List Head) (distinct : AreDistinct (names_of hs)) (words : list_a
   no_table : (n : ℕ) (t : CodeTable) (name : List ℕ) (x : Note) → is_word name ≡ true → header_text (names_of hs) name x ≡ table_line n t → ⊥
   no_table n t name x word e = let a = table_front n t in no_header (names_of hs) name a.0 x word (ap (λ (y : List ℕ). y ++ (10 ∷ [])) e ∙ a.1)
 
-  outside_once : (tables : List CodeTable) (blocks : List Block) (bytes : List ℕ) (a b : Stage) → length tables ≤ 16 → Says hs (names_of hs) (Outside tables blocks) bytes a → Says hs (names_of hs) (Outside tables blocks) bytes b → a ≡ b
+  outside_once : (tables : List CodeTable) (blocks : List Block) (bytes : List ℕ) (a b : Draft) → length tables ≤ 16 → Says hs (names_of hs) (Outside tables blocks) bytes a → Says hs (names_of hs) (Outside tables blocks) bytes b → a ≡ b
   outside_once tables blocks bytes a b few one two = elim (outside_says one) [
     | inl h ↦ elim (outside_says two) [
       | inl k ↦
@@ -131,7 +131,7 @@ module _ (hs : List Head) (distinct : AreDistinct (names_of hs)) (words : list_a
     ]
   ]
 
-  inside_once : (tables : List CodeTable) (blocks : List Block) (name : List ℕ) (x : Note) (body : List Instr) (bytes : List ℕ) (a b : Stage) → length tables ≤ 16
+  inside_once : (tables : List CodeTable) (blocks : List Block) (name : List ℕ) (x : Note) (body : List Instr) (bytes : List ℕ) (a b : Draft) → length tables ≤ 16
       → Says hs (names_of hs) (Inside tables blocks name x body) bytes a → Says hs (names_of hs) (Inside tables blocks name x body) bytes b → a ≡ b
   inside_once tables blocks name x body bytes a b few one two =
       let names = names_of hs in
@@ -150,6 +150,6 @@ module _ (hs : List Head) (distinct : AreDistinct (names_of hs)) (words : list_a
         ]
       ]
 
-  pub says-once : (stage : Stage) (bytes : List ℕ) (a b : Stage) → IsWithin stage → Says hs (names_of hs) stage bytes a → Says hs (names_of hs) stage bytes b → a ≡ b
+  pub says-once : (draft : Draft) (bytes : List ℕ) (a b : Draft) → IsWithin draft → Says hs (names_of hs) draft bytes a → Says hs (names_of hs) draft bytes b → a ≡ b
   says-once (Outside tables blocks) bytes a b within one two = outside_once tables blocks bytes a b within.0 one two
   says-once (Inside tables blocks name x body) bytes a b within one two = inside_once tables blocks name x body bytes a b within.0 one two

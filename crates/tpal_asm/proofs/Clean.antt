@@ -38,8 +38,8 @@ use Rattle.tpal_syntax.specs.Text.{note_text, header_text, table_line}
 use Rattle.tpal_print.proofs.Pieces.{and_left, and_right}
 use Rattle.tpal_print.proofs.Unique.{word_rest}
 use Rattle.tpal_asm.specs.Lines.{pieces}
-use Rattle.tpal_asm.specs.Stages.{IsNewTable, Stage, Says, a_table, a_header, an_instr, an_end}
-use Rattle.tpal_asm.specs.Stages.{Leads, stay, go_on}
+use Rattle.tpal_asm.specs.Drafts.{IsNewTable, Draft, Says, a_table, a_header, an_instr, an_end}
+use Rattle.tpal_asm.specs.Drafts.{Leads, stay, go_on}
 use Rattle.tpal_asm.specs.Labels.{Head, names_of}
 use Rattle.std.specs.Cmp.Derive.{both_true}
 
@@ -220,16 +220,16 @@ pieces_lines (x ∷ lines) all =
     ap pieces (flat_map-cons line x lines ∙ append_assoc x (10 ∷ []) (flat_map line lines))
     ∙ pieces_line x (flat_map line lines) all.0 ∙ ap (λ (ls : List (List ℕ)). x ∷ ls) (pieces_lines lines all.1)
 
-says_clean : {heads : List Head} {names : List (List ℕ)} {stage : Stage} {bytes : List ℕ} {next : Stage} → Says heads names stage bytes next → list_all is_word names ≡ true → Clean bytes
+says_clean : {heads : List Head} {names : List (List ℕ)} {draft : Draft} {bytes : List ℕ} {next : Draft} → Says heads names draft bytes next → list_all is_word names ≡ true → Clean bytes
 says_clean {heads} {names} (a_table tables table new) words = table-clean names words (length tables) tables table new
 says_clean {heads} {names} (a_header tables blocks name x word of) words = header-clean names words name x word
 says_clean {heads} {names} (an_instr tables blocks name x body i ok) words = instr-clean names words i
 says_clean {heads} {names} (an_end tables blocks name x body t ok) words = term-clean names words t
 
-leads_clean : {heads : List Head} {stage : Stage} {lines : List (List ℕ)} {last : Stage} → Leads heads stage lines last → list_all is_word (names_of heads) ≡ true → AllByRecursion Clean lines
-leads_clean (stay stage) words = tt
-leads_clean (go_on stage next last bytes lines says named within rest) words = (says_clean says words, leads_clean rest words)
+leads_clean : {heads : List Head} {draft : Draft} {lines : List (List ℕ)} {last : Draft} → Leads heads draft lines last → list_all is_word (names_of heads) ≡ true → AllByRecursion Clean lines
+leads_clean (stay draft) words = tt
+leads_clean (go_on draft next last bytes lines says named within rest) words = (says_clean says words, leads_clean rest words)
 
 -- lines that lead on are the pieces of their text
-pub leads-pieces : {heads : List Head} {stage : Stage} {lines : List (List ℕ)} {last : Stage} → Leads heads stage lines last → list_all is_word (names_of heads) ≡ true → pieces (flat_map line lines) ≡ lines ++ [] ∷ []
-leads-pieces {heads} {stage} {lines} leads words = pieces_lines lines (leads_clean leads words)
+pub leads-pieces : {heads : List Head} {draft : Draft} {lines : List (List ℕ)} {last : Draft} → Leads heads draft lines last → list_all is_word (names_of heads) ≡ true → pieces (flat_map line lines) ≡ lines ++ [] ∷ []
+leads-pieces {heads} {draft} {lines} leads words = pieces_lines lines (leads_clean leads words)

@@ -28,9 +28,9 @@ use Rattle.tpal_asm.specs.declared.fault.AsmFault.{AsmFault}
 use Rattle.tpal_asm.specs.declared.fault.AsmFault.TheVariants as faults
 use Rattle.tpal_asm.specs.Lines.{pieces}
 use Rattle.tpal_asm.specs.Labels.{Head, names_of}
-use Rattle.tpal_asm.specs.Stages.{AreHeads, is_among, IsNewTable, IsNoteOf, Stage, Outside, Inside}
-use Rattle.tpal_asm.specs.Stages.{Says, a_table, a_header, an_instr, an_end, Leads, stay, go_on}
-use Rattle.tpal_asm.specs.Stages.{IsNewName, IsWithin, IsWhole, first_stage}
+use Rattle.tpal_asm.specs.Drafts.{AreHeads, is_among, IsNewTable, IsNoteOf, Draft, Outside, Inside}
+use Rattle.tpal_asm.specs.Drafts.{Says, a_table, a_header, an_instr, an_end, Leads, stay, go_on}
+use Rattle.tpal_asm.specs.Drafts.{IsNewName, IsWithin, IsWhole, first_draft}
 use Rattle.tpal_asm.specs.Faults.{FirstFault, at_line, at_end, OnFault}
 use Rattle.tpal_asm.proofs.Finding.{length-names}
 use Rattle.tpal_asm.proofs.Outside.{length-block_names}
@@ -76,21 +76,21 @@ new_table before behind Made of = tt
 
 -- ---- lines that lead on
 
--- some lines lead from one stage to another
-abbrev Way : List Head → Stage → Stage → Type 0
+-- some lines lead from one draft to another
+abbrev Way : List Head → Draft → Draft → Type 0
 Way hs s t = (lines : List (List ℕ)) × Leads hs s lines t
 
-leads_append : {hs : List Head} {a b c : Stage} {xs ys : List (List ℕ)} → Leads hs a xs b → Leads hs b ys c → Leads hs a (xs ++ ys) c
-leads_append (stay stage) more = more
-leads_append {hs} {a} {b} {c} {xs} {ys} (go_on stage next last bytes lines says named within rest) more = go_on stage next c bytes (lines ++ ys) says named within (leads_append rest more)
+leads_append : {hs : List Head} {a b c : Draft} {xs ys : List (List ℕ)} → Leads hs a xs b → Leads hs b ys c → Leads hs a (xs ++ ys) c
+leads_append (stay draft) more = more
+leads_append {hs} {a} {b} {c} {xs} {ys} (go_on draft next last bytes lines says named within rest) more = go_on draft next c bytes (lines ++ ys) says named within (leads_append rest more)
 
-joined : (hs : List Head) (a b c : Stage) → Way hs a b → Way hs b c → Way hs a c
+joined : (hs : List Head) (a b c : Draft) → Way hs a b → Way hs b c → Way hs a c
 joined hs a b c one two = (one.0 ++ two.0, leads_append one.1 two.1)
 
-along : (hs : List Head) (a b c : Stage) → b ≡ c → Way hs a b → Way hs a c
-along hs a b c e way = let P : Stage → Type 0 = λ s. Way hs a s in subst P e way
+along : (hs : List Head) (a b c : Draft) → b ≡ c → Way hs a b → Way hs a c
+along hs a b c e way = let P : Draft → Type 0 = λ s. Way hs a s in subst P e way
 
-one_line : (hs : List Head) (a b : Stage) (bytes : List ℕ) → Says hs (names_of hs) a bytes b → IsNewName b → IsWithin b → Way hs a b
+one_line : (hs : List Head) (a b : Draft) (bytes : List ℕ) → Says hs (names_of hs) a bytes b → IsNewName b → IsWithin b → Way hs a b
 one_line hs a b bytes says named within = (bytes ∷ [], go_on a b b bytes [] says named within (stay b))
 
 tables_lead : (hs : List Head) (before behind : List CodeTable) → AreInputs (before ++ behind) → length (before ++ behind) ≤ 16 → Way hs (Outside before []) (Outside (before ++ behind) [])
@@ -182,9 +182,9 @@ module _ (tables : List CodeTable) (blocks : List Block) (code : IsCode tables b
       (block_leads before b new (omega (arith, few, length-append before (b ∷ behind))) each.0)
       (blocks_lead (before ++ b ∷ []) behind (subst Q (sym regroup) distinct) (subst P (sym regroup) few) each.1))
 
-  pub code-leads : Way hs first_stage (Outside tables blocks)
+  pub code-leads : Way hs first_draft (Outside tables blocks)
   code-leads =
-      joined hs first_stage (Outside tables []) (Outside tables blocks)
+      joined hs first_draft (Outside tables []) (Outside tables blocks)
       (tables_lead hs [] tables code.inputs code.few_tables)
       (blocks_lead [] blocks code.block_names_differ code.few_blocks code.each_block)
 
@@ -211,26 +211,26 @@ some_whole tables (b ∷ blocks) some = tt
 
 -- the text of a code has no fault
 pub code-no-fault : (text : List ℕ) (tables : List CodeTable) (blocks : List Block) → CodeText text tables blocks → (f : AsmFault) → FirstFault text f → ⊥
-code-no-fault text tables blocks is f (at_line ks before behind bytes last stage w are heads leads bad) =
+code-no-fault text tables blocks is f (at_line ks before behind bytes last draft w are heads leads bad) =
     let code = is.right in
     let way = code-leads tables blocks code in
     let front = same-front (before ++ bytes ∷ behind) way.0 last [] (sym are ∙ code-pieces tables blocks code text is.spelled) in
     let same = same_heads (map block_head blocks) ks (code-heads tables blocks code) heads (sym front) in
-    let P : List Head → Type 0 = λ xs. Leads xs first_stage way.0 (Outside tables blocks) in
-    let Q : List (List ℕ) → Type 0 = λ ls. Leads ks first_stage ls (Outside tables blocks) in
+    let P : List Head → Type 0 = λ xs. Leads xs first_draft way.0 (Outside tables blocks) in
+    let Q : List (List ℕ) → Type 0 = λ ls. Leads ks first_draft ls (Outside tables blocks) in
     let D : List Head → Type 0 = λ xs. AreDistinct (names_of xs) in
     let W : List Head → Type 0 = λ xs. list_all is_word (names_of xs) ≡ true in
-    fault_next text ks (subst D (sym same) (code-distinct tables blocks code)) (subst W (sym same) (code-words tables blocks code)) before behind bytes stage (Outside tables blocks) w leads bad (subst Q (sym front) (subst P (sym same) way.1))
-code-no-fault text tables blocks is f (at_end ks lines last stage are heads leads bad) =
+    fault_next text ks (subst D (sym same) (code-distinct tables blocks code)) (subst W (sym same) (code-words tables blocks code)) before behind bytes draft (Outside tables blocks) w leads bad (subst Q (sym front) (subst P (sym same) way.1))
+code-no-fault text tables blocks is f (at_end ks lines last draft are heads leads bad) =
     let code = is.right in
     let way = code-leads tables blocks code in
     let cut = sym are ∙ code-pieces tables blocks code text is.spelled in
     let front = same-front lines way.0 last [] cut in
     let same = same_heads (map block_head blocks) ks (code-heads tables blocks code) heads (sym front) in
-    let P : List Head → Type 0 = λ xs. Leads xs first_stage lines stage in
-    let Q : List (List ℕ) → Type 0 = λ ls. Leads (map block_head blocks) first_stage ls stage in
-    let stages = leads-once (map block_head blocks) (code-distinct tables blocks code) (code-words tables blocks code) way.0 first_stage (Outside tables blocks) stage start_within way.1 (subst Q front (subst P same leads)) in
-    bad (same_last lines way.0 last [] front cut, subst IsWhole stages (some_whole tables blocks code.some_block))
+    let P : List Head → Type 0 = λ xs. Leads xs first_draft lines draft in
+    let Q : List (List ℕ) → Type 0 = λ ls. Leads (map block_head blocks) first_draft ls draft in
+    let drafts = leads-once (map block_head blocks) (code-distinct tables blocks code) (code-words tables blocks code) way.0 first_draft (Outside tables blocks) draft start_within way.1 (subst Q front (subst P same leads)) in
+    bad (same_last lines way.0 last [] front cut, subst IsWhole drafts (some_whole tables blocks code.some_block))
 
 -- ---- what a call answers
 

@@ -10,7 +10,7 @@ use Rattle.tpal_asm.specs.declared.fault.Wrong.{Wrong}
 use Rattle.tpal_asm.specs.declared.fault.Wrong.TheVariants as wrongs
 use Rattle.tpal_asm.specs.Reading.{ended, header_rest}
 use Rattle.tpal_asm.specs.Labels.{Head, names_of, place_of}
-use Rattle.tpal_asm.specs.Stages.{Outside}
+use Rattle.tpal_asm.specs.Drafts.{Outside}
 use Rattle.tpal_asm.specs.Faults.{IsWrong, OnWrong}
 use Rattle.tpal_asm.specs.Steps.{NoteUnfit}
 use Rattle.tpal_asm.proofs.InsideFaults.{Finds}

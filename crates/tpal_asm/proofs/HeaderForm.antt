@@ -19,7 +19,7 @@ use Rattle.tpal_syntax.specs.Readers.{next_carry_at, carries_at, policy_at, kind
 use Rattle.tpal_asm.specs.Reading.{ended, cut_rest, target_rest, ready_rest, jtppt_rest, note_rest}
 use Rattle.tpal_asm.specs.Reading.{header_rest}
 use Rattle.tpal_asm.specs.Labels.{place_of}
-use Rattle.tpal_asm.specs.Stages.{IsNoteForm}
+use Rattle.tpal_asm.specs.Drafts.{IsNoteForm}
 use Rattle.tpal_asm.proofs.Sound.{bind, chosen, none_some, same, digit_case, zero_case, first_case}
 use Rattle.tpal_asm.proofs.InsideFaults.{ended_is}
 use Rattle.std.specs.Cmp.Derive.{both_true}

@@ -11,7 +11,7 @@ use Rattle.tpal_syntax.specs.Readers.{word_at}
 use Rattle.tpal_print.proofs.Reading.{relabel_note}
 use Rattle.tpal_print.proofs.Pieces.{word_comes}
 use Rattle.tpal_asm.specs.Reading.{ended, note_rest, header_rest}
-use Rattle.tpal_asm.specs.Stages.{IsNoteForm}
+use Rattle.tpal_asm.specs.Drafts.{IsNoteForm}
 use Rattle.tpal_asm.proofs.Sound.{bind, after-sound, word-sound, join3, Stands, same}
 use Rattle.tpal_asm.proofs.NoteSaid.{SaidNote, note-said, handler-said}
 use Rattle.tpal_asm.proofs.NoteComes.{note_form_comes, short_note}

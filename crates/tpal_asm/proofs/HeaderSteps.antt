@@ -1,4 +1,4 @@
--- From a stage outside of blocks to the next by the first line of a block.
+-- From a draft outside of blocks to the next by the first line of a block.
 use Rattle.std.proofs.Common.{◌≡◌, ℕ, zero, suc, ◌≤◌, ◌<◌, true, false, List, [], ◌∷◌, ◌++◌, length}
 use Rattle.std.proofs.Common.{Some, None, get_or, refl, sym, ap, subst, ◌∙◌, inl, inr, arith}
 use Rattle.std.specs.Prelude.{codes}
@@ -16,8 +16,8 @@ use Rattle.tpal_syntax.specs.Readers.{after}
 use Rattle.tpal_print.proofs.Reading.{relabel_note}
 use Rattle.tpal_asm.specs.Reading.{ended, header_rest}
 use Rattle.tpal_asm.specs.Labels.{Head, names_of, place_of, is_ready_name}
-use Rattle.tpal_asm.specs.Stages.{IsNoteOf, Stage, Outside, Inside, Says, a_header, IsNewName}
-use Rattle.tpal_asm.specs.Stages.{IsWithin, is_among}
+use Rattle.tpal_asm.specs.Drafts.{IsNoteOf, Draft, Outside, Inside, Says, a_header, IsNewName}
+use Rattle.tpal_asm.specs.Drafts.{IsWithin, is_among}
 use Rattle.tpal_asm.specs.Faults.{IsFormed, IsLabelled, IsRight}
 use Rattle.tpal_asm.specs.Steps.{NoteFits}
 use Rattle.tpal_asm.proofs.Sound.{Stands}
@@ -61,7 +61,7 @@ module _ (heads : List Head) (tables : List CodeTable) (blocks : List Block) (fe
   f = place_of heads
 
   -- a first line that stands there is read
-  reads : (names : List (List ℕ)) (next : Stage) → list_all is_word names ≡ true → Says heads names (Outside tables blocks) bytes next
+  reads : (names : List (List ℕ)) (next : Draft) → list_all is_word names ≡ true → Says heads names (Outside tables blocks) bytes next
       → (name : List ℕ) × (x : Note) × (ended (header_rest (place_of heads) line) ≡ Some (name, relabel_note (λ l. place_of heads (get_or names l [])) x)) × IsNoteOf heads names (length tables) x × (next ≡ Inside tables blocks name x [])
   reads names next words says = elim (outside_says says) [
     | inl h ↦ absurd (is_no_table line bytes (length tables) h.0 no_table line_is h.2)
@@ -87,7 +87,7 @@ module _ (heads : List Head) (tables : List CodeTable) (blocks : List Block) (fe
     said = header-said (place_of heads) bytes line name x line_is read
 
     -- whatever the line says is this name and, with the labels given anew, this note
-    only : (names : List (List ℕ)) (next : Stage) → list_all is_word names ≡ true → Says heads names (Outside tables blocks) bytes next
+    only : (names : List (List ℕ)) (next : Draft) → list_all is_word names ≡ true → Says heads names (Outside tables blocks) bytes next
         → (y : Note) × (x ≡ relabel_note (λ l. place_of heads (get_or names l [])) y) × IsNoteOf heads names (length tables) y × (next ≡ Inside tables blocks name y [])
     only names next words says =
         let r = reads names next words says in
@@ -131,8 +131,8 @@ module _ (heads : List Head) (tables : List CodeTable) (blocks : List Block) (fe
 
     -- ---- repeated names, and too many blocks
 
-    next_name : (next : Stage) → (y : Note) × (next ≡ Inside tables blocks name y []) → IsNewName next → is_among name (block_names blocks) ≡ false
-    next_name next h new = let P : Stage → Type 0 = λ s. IsNewName s in subst P h.1 new
+    next_name : (next : Draft) → (y : Note) × (next ≡ Inside tables blocks name y []) → IsNewName next → is_among name (block_names blocks) ≡ false
+    next_name next h new = let P : Draft → Type 0 = λ s. IsNewName s in subst P h.1 new
 
     pub header_repeated : is_among name (block_names blocks) ≡ true → ¬ IsLabelled heads (Outside tables blocks) bytes
     header_repeated again labelled =
@@ -142,7 +142,7 @@ module _ (heads : List Head) (tables : List CodeTable) (blocks : List Block) (fe
     pub header_many : 65536 ≤ length blocks → ¬ IsRight heads (Outside tables blocks) bytes
     header_many many right =
         let o = only (names_of heads) right.next finds.words right.says in
-        let P : Stage → Type 0 = λ s. IsWithin s in
+        let P : Draft → Type 0 = λ s. IsWithin s in
         let w : IsWithin (Inside tables blocks name o.0 []) = subst P o.3 right.within in
         omega (arith, w.1)
 

@@ -18,9 +18,9 @@ use Rattle.tpal_syntax.specs.Readers.{word_at}
 use Rattle.tpal_print.proofs.Reading.{relabel_note}
 use Rattle.tpal_asm.specs.Reading.{ended, header_rest}
 use Rattle.tpal_asm.specs.Labels.{Head, names_of, place_of, with_head}
-use Rattle.tpal_asm.specs.Stages.{IsHead, AreHeads, no_line, new_head, known_head, no_head}
-use Rattle.tpal_asm.specs.Stages.{is_among, Stage, Outside, Inside, Says, a_table, a_header}
-use Rattle.tpal_asm.specs.Stages.{an_instr, an_end, Leads, stay, go_on, IsNewName, IsWithin}
+use Rattle.tpal_asm.specs.Drafts.{IsHead, AreHeads, no_line, new_head, known_head, no_head}
+use Rattle.tpal_asm.specs.Drafts.{is_among, Draft, Outside, Inside, Says, a_table, a_header}
+use Rattle.tpal_asm.specs.Drafts.{an_instr, an_end, Leads, stay, go_on, IsNewName, IsWithin}
 use Rattle.tpal_asm.proofs.Sound.{OnName, Stands}
 use Rattle.tpal_asm.proofs.Outside.{note_of_form}
 use Rattle.tpal_asm.proofs.TableSteps.{no_header}
@@ -161,12 +161,12 @@ heads-front hs (bytes ∷ lines) =
     let rest = heads-front (with_read hs (read_head bytes)) lines in
     (one.0 ++ rest.0, rest.1 ∙ ap (λ (xs : List Head). xs ++ rest.0) one.1 ∙ append_assoc hs one.0 rest.0)
 
--- ---- the heads of stages
+-- ---- the heads of drafts
 
 abbrev pub block_head : Block → Head
 block_head b = (b.name, is_ready b.note)
 
-abbrev pub stage_heads : Stage → List Head
+abbrev pub stage_heads : Draft → List Head
 stage_heads (Outside tables blocks) = map block_head blocks
 stage_heads (Inside tables blocks name x body) = map block_head blocks ++ (name, is_ready x) ∷ []
 
@@ -185,8 +185,8 @@ unfolding header_rest word_at
 spaces_none text = refl
 
 -- what a line says is what is read of it
-pub says-heads : {hs : List Head} {names : List (List ℕ)} {stage : Stage} {bytes : List ℕ} {next : Stage} → Says hs names stage bytes next → list_all is_word names ≡ true → IsNewName next → IsWithin next
-    → with_read (stage_heads stage) (read_head bytes) ≡ stage_heads next
+pub says-heads : {hs : List Head} {names : List (List ℕ)} {draft : Draft} {bytes : List ℕ} {next : Draft} → Says hs names draft bytes next → list_all is_word names ≡ true → IsNewName next → IsWithin next
+    → with_read (stage_heads draft) (read_head bytes) ≡ stage_heads next
 says-heads {hs} {names} (a_table tables table new) words named within = ap (with_read []) (read-none (table_line (length tables) table) (no_table_head (length tables) table))
 says-heads {hs} {names} (a_header tables blocks name x word of) words named within =
     let is : IsHead (header_text names name x) (name, is_ready x) = record { names = names; note = x; words = words; word = word; form = note_of_form hs names (length tables) x within.0 of; spelled = refl; readiness = refl } in
@@ -198,31 +198,31 @@ says-heads {hs} {names} (an_end tables blocks name x body t ok) words named with
     ap (with_read (map block_head blocks ++ (name, is_ready x) ∷ [])) (spaces_none (term_text names t))
     ∙ sym (map-append block_head blocks (record { name = name; note = x; body = body; term = t } ∷ []))
 
-pub leads-heads : {hs : List Head} {stage : Stage} {lines : List (List ℕ)} {last : Stage} → Leads hs stage lines last → list_all is_word (names_of hs) ≡ true → heads_after (stage_heads stage) lines ≡ stage_heads last
-leads-heads (stay stage) words = refl
-leads-heads (go_on stage next last bytes lines says named within rest) words =
+pub leads-heads : {hs : List Head} {draft : Draft} {lines : List (List ℕ)} {last : Draft} → Leads hs draft lines last → list_all is_word (names_of hs) ≡ true → heads_after (stage_heads draft) lines ≡ stage_heads last
+leads-heads (stay draft) words = refl
+leads-heads (go_on draft next last bytes lines says named within rest) words =
     ap (λ (hs : List Head). heads_after hs lines) (says-heads says words named within) ∙ leads-heads rest words
 
 -- ---- the whole blocks are the first ones of the text
 
-abbrev pub blocks_of : Stage → List Block
+abbrev pub blocks_of : Draft → List Block
 blocks_of (Outside tables blocks) = blocks
 blocks_of (Inside tables blocks name x body) = blocks
 
 names_append : (xs ys : List Head) → names_of (xs ++ ys) ≡ names_of xs ++ names_of ys
 names_append xs ys = map-append (λ (h : Head). h.0) xs ys
 
-names_front : (stage : Stage) → (more : List (List ℕ)) × (names_of (stage_heads stage) ≡ block_names (blocks_of stage) ++ more)
+names_front : (draft : Draft) → (more : List (List ℕ)) × (names_of (stage_heads draft) ≡ block_names (blocks_of draft) ++ more)
 names_front (Outside tables blocks) = ([], names-heads blocks ∙ sym (append-nil (block_names blocks)))
 names_front (Inside tables blocks name x body) =
     (name ∷ [], names_append (map block_head blocks) ((name, is_ready x) ∷ []) ∙ ap (λ (ns : List (List ℕ)). ns ++ name ∷ []) (names-heads blocks))
 
-pub blocks-front : (hs : List Head) (stage : Stage) (before behind : List (List ℕ)) → AreHeads [] (before ++ behind) hs → Leads hs (Outside [] []) before stage → list_all is_word (names_of hs) ≡ true
-    → (more : List (List ℕ)) × (names_of hs ≡ block_names (blocks_of stage) ++ more)
-blocks-front hs stage before behind are leads words =
-    let all : hs ≡ heads_after (stage_heads stage) behind = heads-are are ∙ heads-append [] before behind ∙ ap (λ (xs : List Head). heads_after xs behind) (leads-heads leads words) in
-    let rest = heads-front (stage_heads stage) behind in
-    let front = names_front stage in (
+pub blocks-front : (hs : List Head) (draft : Draft) (before behind : List (List ℕ)) → AreHeads [] (before ++ behind) hs → Leads hs (Outside [] []) before draft → list_all is_word (names_of hs) ≡ true
+    → (more : List (List ℕ)) × (names_of hs ≡ block_names (blocks_of draft) ++ more)
+blocks-front hs draft before behind are leads words =
+    let all : hs ≡ heads_after (stage_heads draft) behind = heads-are are ∙ heads-append [] before behind ∙ ap (λ (xs : List Head). heads_after xs behind) (leads-heads leads words) in
+    let rest = heads-front (stage_heads draft) behind in
+    let front = names_front draft in (
       front.0 ++ names_of rest.0,
-      ap names_of (all ∙ rest.1) ∙ names_append (stage_heads stage) rest.0 ∙ ap (λ (ns : List (List ℕ)). ns ++ names_of rest.0) front.1 ∙ append_assoc (block_names (blocks_of stage)) front.0 (names_of rest.0),
+      ap names_of (all ∙ rest.1) ∙ names_append (stage_heads draft) rest.0 ∙ ap (λ (ns : List (List ℕ)). ns ++ names_of rest.0) front.1 ∙ append_assoc (block_names (blocks_of draft)) front.0 (names_of rest.0),
     )

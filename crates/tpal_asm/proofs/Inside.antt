@@ -30,7 +30,7 @@ use Rattle.tpal_asm.specs.Reading.{jralloc_rest, fetch_rest, rows_rest, cols_res
 use Rattle.tpal_asm.specs.Reading.{assigned_rest, changed_rest, stack_rest, table_rest, other_rest}
 use Rattle.tpal_asm.specs.Reading.{instr_rest, jump_rest, join_rest, term_rest}
 use Rattle.tpal_asm.specs.Labels.{Head}
-use Rattle.tpal_asm.specs.Stages.{Stage, Inside, Says, an_instr, an_end, Outside}
+use Rattle.tpal_asm.specs.Drafts.{Draft, Inside, Says, an_instr, an_end, Outside}
 
 -- the assembler reads as the printer's proof does
 pub instr-same : (f : List ℕ → ℕ) (ts : List ℕ) → instr_rest f ts ≡ instr_at f ts
@@ -109,9 +109,9 @@ words-all (n ∷ names) ok (suc l) lt =
     let below : l < length names = omega (arith, ltb-true (suc l) (length (n ∷ names)) lt) in
     words-all names (and_right (is_word n) (list_all is_word names) ok) l (lt-ltb l (length names) below)
 
--- ---- what a line inside a block says, and the next stage
+-- ---- what a line inside a block says, and the next draft
 
-pub inside_says : {heads : List Head} {names : List (List ℕ)} {tables : List CodeTable} {blocks : List Block} {name : List ℕ} {x : Note} {body : List Instr} {bytes : List ℕ} {next : Stage}
+pub inside_says : {heads : List Head} {names : List (List ℕ)} {tables : List CodeTable} {blocks : List Block} {name : List ℕ} {x : Note} {body : List Instr} {bytes : List ℕ} {next : Draft}
     → Says heads names (Inside tables blocks name x body) bytes next
     → ((i : Instr) × (is_instr (length tables) (length names) i ≡ true) × (bytes ≡ codes "  " ++ instr_text names i) × (next ≡ Inside tables blocks name x (body ++ i ∷ [])))
     ⊎ ((t : Term) × (is_term (length names) t ≡ true) × (bytes ≡ codes "  " ++ term_text names t) × (next ≡ Outside tables (blocks ++ record { name = name; note = x; body = body; term = t } ∷ [])))

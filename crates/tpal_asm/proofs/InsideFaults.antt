@@ -16,7 +16,7 @@ use Rattle.tpal_print.proofs.Reading.{relabel, relabel_term}
 use Rattle.tpal_print.proofs.Lines.{instr_comes, term_comes, term_is_no_instr}
 use Rattle.tpal_asm.specs.Reading.{ended, instr_rest, term_rest}
 use Rattle.tpal_asm.specs.Labels.{Head, names_of}
-use Rattle.tpal_asm.specs.Stages.{Stage, Outside, Inside, Says, an_instr, an_end}
+use Rattle.tpal_asm.specs.Drafts.{Draft, Outside, Inside, Says, an_instr, an_end}
 use Rattle.tpal_asm.specs.Faults.{IsFormed, IsLabelled}
 use Rattle.tpal_asm.proofs.Sound.{OnName, Stands}
 use Rattle.tpal_asm.proofs.Said.{SaidInstr, SaidTerm, instr-said, term-said}
@@ -193,7 +193,7 @@ module _ (heads : List Head) (tables : List CodeTable) (blocks : List Block) (na
     pub term_formed : is_term most t ≡ true → IsFormed heads (Inside tables blocks name x body) bytes
     term_formed ok =
         let u = under f (names_of heads) most term_is.name finds term_is.word in
-        let next : Stage = Outside tables (blocks ++ record { name = name; note = x; body = body; term = t } ∷ []) in
+        let next : Draft = Outside tables (blocks ++ record { name = name; note = x; body = body; term = t } ∷ []) in
         let P : List ℕ → Type 0 = λ y. Says heads u.names (Inside tables blocks name x body) y next in
         record {
           names = u.names;

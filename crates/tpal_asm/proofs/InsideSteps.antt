@@ -1,4 +1,4 @@
--- From a stage inside a block to the next.
+-- From a draft inside a block to the next.
 use Rattle.std.proofs.Common.{◌≡◌, ℕ, ◌≤◌, true, List, [], ◌∷◌, ◌++◌, length, Some, None, Result}
 use Rattle.std.proofs.Common.{Ok, Err, IfOk, IfErr, sym, subst, ◌∙◌}
 use Rattle.std.specs.Prelude.{codes}
@@ -12,10 +12,10 @@ use Rattle.tpal_syntax.specs.Text.{instr_text, term_text}
 use Rattle.tpal_syntax.specs.Readers.{after}
 use Rattle.tpal_asm.specs.declared.fault.Wrong.{Wrong}
 use Rattle.tpal_asm.specs.declared.fault.Wrong.TheVariants as wrongs
-use Rattle.tpal_asm.specs.declared.stages.Stage as code
+use Rattle.tpal_asm.specs.declared.drafts.Draft as code
 use Rattle.tpal_asm.specs.Reading.{ended, instr_rest, term_rest}
 use Rattle.tpal_asm.specs.Labels.{Head, names_of}
-use Rattle.tpal_asm.specs.Stages.{Stage, Outside, Inside, Says, an_instr, an_end}
+use Rattle.tpal_asm.specs.Drafts.{Draft, Outside, Inside, Says, an_instr, an_end}
 use Rattle.tpal_asm.specs.Faults.{IsWrong, OnWrong}
 use Rattle.tpal_asm.specs.Steps.{seen, Unfit}
 use Rattle.tpal_asm.proofs.Sound.{after-sound}
@@ -31,16 +31,16 @@ module _ (heads : List Head) (tables : List CodeTable) (blocks : List Block) (na
   pub none_fits : ended (instr_rest f us) ≡ None → ended (term_rest f us) ≡ None → (bytes : List ℕ) → line ≡ bytes ++ (10 ∷ []) → IsWrong heads (Inside tables blocks name x body) bytes wrongs.Form
   none_fits no_instr no_term bytes e = neither heads tables blocks name x body f 4294967295 finds few us bytes (line_is bytes e) no_instr no_term
 
-  pub instr_goes : (i : Instr) → ended (instr_rest f us) ≡ Some i → (r : Result code.Stage Wrong) → IfOk r (λ next. is_instr (length tables) (length (names_of heads)) i ≡ true)
+  pub instr_goes : (i : Instr) → ended (instr_rest f us) ≡ Some i → (r : Result code.Draft Wrong) → IfOk r (λ next. is_instr (length tables) (length (names_of heads)) i ≡ true)
       → IfOk r (λ next. seen next ≡ Inside tables blocks name x (body ++ i ∷ [])) → IfOk r (λ next. (bytes : List ℕ) → line ≡ bytes ++ (10 ∷ []) → Says heads (names_of heads) (Inside tables blocks name x body) bytes (seen next))
   instr_goes i read (Err w) ok is = tt
   instr_goes i read (Ok next) ok is = λ bytes e.
       let text = instr_right heads tables blocks name x body f 4294967295 finds few us bytes (line_is bytes e) i read ok in
       let P : List ℕ → Type 0 = λ y. Says heads (names_of heads) (Inside tables blocks name x body) y (seen next) in
-      let Q : Stage → Type 0 = λ s. Says heads (names_of heads) (Inside tables blocks name x body) (codes "  " ++ instr_text (names_of heads) i) s in
+      let Q : Draft → Type 0 = λ s. Says heads (names_of heads) (Inside tables blocks name x body) (codes "  " ++ instr_text (names_of heads) i) s in
       subst P (sym text) (subst Q (sym is) (an_instr tables blocks name x body i ok))
 
-  pub instr_fails : (i : Instr) → ended (instr_rest f us) ≡ Some i → (r : Result code.Stage Wrong) → IfErr r (Unfit (λ labels. is_instr (length tables) labels i) (length (names_of heads)))
+  pub instr_fails : (i : Instr) → ended (instr_rest f us) ≡ Some i → (r : Result code.Draft Wrong) → IfErr r (Unfit (λ labels. is_instr (length tables) labels i) (length (names_of heads)))
       → IfErr r (λ w. OnWrong w ((bytes : List ℕ) → line ≡ bytes ++ (10 ∷ []) → IsWrong heads (Inside tables blocks name x body) bytes w))
   instr_fails i read (Ok next) bad = tt
   instr_fails i read (Err wrongs.Form) bad = λ bytes e. instr_unformed heads tables blocks name x body f 4294967295 finds few us bytes (line_is bytes e) i read bad
@@ -49,16 +49,16 @@ module _ (heads : List Head) (tables : List CodeTable) (blocks : List Block) (na
   instr_fails i read (Err wrongs.Limit) bad = absurd bad
   instr_fails i read (Err wrongs.NoMemory) bad = tt
 
-  pub term_goes : (t : Term) → ended (instr_rest f us) ≡ None → ended (term_rest f us) ≡ Some t → (r : Result code.Stage Wrong) → IfOk r (λ next. is_term (length (names_of heads)) t ≡ true)
+  pub term_goes : (t : Term) → ended (instr_rest f us) ≡ None → ended (term_rest f us) ≡ Some t → (r : Result code.Draft Wrong) → IfOk r (λ next. is_term (length (names_of heads)) t ≡ true)
       → IfOk r (λ next. seen next ≡ Outside tables (blocks ++ record { name = name; note = x; body = body; term = t } ∷ [])) → IfOk r (λ next. (bytes : List ℕ) → line ≡ bytes ++ (10 ∷ []) → Says heads (names_of heads) (Inside tables blocks name x body) bytes (seen next))
   term_goes t none read (Err w) ok is = tt
   term_goes t none read (Ok next) ok is = λ bytes e.
       let text = term_right heads tables blocks name x body f 4294967295 finds few us bytes (line_is bytes e) t none read ok in
       let P : List ℕ → Type 0 = λ y. Says heads (names_of heads) (Inside tables blocks name x body) y (seen next) in
-      let Q : Stage → Type 0 = λ s. Says heads (names_of heads) (Inside tables blocks name x body) (codes "  " ++ term_text (names_of heads) t) s in
+      let Q : Draft → Type 0 = λ s. Says heads (names_of heads) (Inside tables blocks name x body) (codes "  " ++ term_text (names_of heads) t) s in
       subst P (sym text) (subst Q (sym is) (an_end tables blocks name x body t ok))
 
-  pub term_fails : (t : Term) → ended (instr_rest f us) ≡ None → ended (term_rest f us) ≡ Some t → (r : Result code.Stage Wrong) → IfErr r (Unfit (λ labels. is_term labels t) (length (names_of heads)))
+  pub term_fails : (t : Term) → ended (instr_rest f us) ≡ None → ended (term_rest f us) ≡ Some t → (r : Result code.Draft Wrong) → IfErr r (Unfit (λ labels. is_term labels t) (length (names_of heads)))
       → IfErr r (λ w. OnWrong w ((bytes : List ℕ) → line ≡ bytes ++ (10 ∷ []) → IsWrong heads (Inside tables blocks name x body) bytes w))
   term_fails t none read (Ok next) bad = tt
   term_fails t none read (Err wrongs.Form) bad = λ bytes e. term_unformed heads tables blocks name x body f 4294967295 finds few us bytes (line_is bytes e) t none read bad

@@ -20,7 +20,7 @@ pub mod Inside
 pub mod InsideFaults
 -- labels that are looked up
 pub mod Finding
--- from a stage inside a block to the next
+-- from a draft inside a block to the next
 pub mod InsideSteps
 -- labels find the names of blocks
 pub mod LabelsFind
@@ -30,15 +30,15 @@ pub mod NoteComes
 pub mod HeaderLine
 -- lines outside of blocks
 pub mod Outside
--- from a stage outside of blocks to the next
+-- from a draft outside of blocks to the next
 pub mod HeaderSteps
 -- what is wrong with the first line of a block
 pub mod HeaderFaults
 -- the line of a table
 pub mod TableLine
--- from a stage before all blocks to the next
+-- from a draft before all blocks to the next
 pub mod TableSteps
--- from a stage outside of blocks to the next
+-- from a draft outside of blocks to the next
 pub mod OutsideSteps
 -- the note of a first line is as the grammar has it
 pub mod HeaderForm

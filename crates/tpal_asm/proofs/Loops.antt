@@ -14,12 +14,12 @@ use Rattle.tpal_asm.specs.declared.fault.AsmFault.{AsmFault}
 use Rattle.tpal_asm.specs.declared.fault.AsmFault.TheVariants as faults
 use Rattle.tpal_asm.specs.declared.fault.Wrong.{Wrong}
 use Rattle.tpal_asm.specs.declared.fault.Wrong.TheVariants as wrongs
-use Rattle.tpal_asm.specs.declared.stages.Begun.{Begun}
+use Rattle.tpal_asm.specs.declared.drafts.Begun.{Begun}
 use Rattle.tpal_asm.specs.Reading.{ended, header_rest}
 use Rattle.tpal_asm.specs.Lines.{pieces}
 use Rattle.tpal_asm.specs.Labels.{Head, names_of, place_of}
-use Rattle.tpal_asm.specs.Stages.{AreHeads, is_among, Stage, Outside, Says, Leads, stay, go_on}
-use Rattle.tpal_asm.specs.Stages.{IsNewName, IsWithin, IsWhole, first_stage}
+use Rattle.tpal_asm.specs.Drafts.{AreHeads, is_among, Draft, Outside, Says, Leads, stay, go_on}
+use Rattle.tpal_asm.specs.Drafts.{IsNewName, IsWithin, IsWhole, first_draft}
 use Rattle.tpal_asm.specs.Faults.{FirstFault, at_line, at_end, IsWrong, OnWrong, OnFault, fault_at}
 use Rattle.tpal_asm.specs.Steps.{seen_with}
 use Rattle.tpal_asm.proofs.Heads.{read_line, read_head, with_read, heads_after, are-heads}
@@ -111,30 +111,30 @@ pub line-read : (none : List Head) (line first : List ℕ) (o : Option (List ℕ
 line-read none line first o empty is read =
     ap (λ (x : List ℕ). ended (header_rest (place_of []) x)) (sym is) ∙ ap (λ (hs : List Head). ended (header_rest (place_of hs) line)) (sym empty) ∙ read
 
--- ---- the stages
+-- ---- the drafts
 
-pub record Led (text rest : List ℕ) (hs : List Head) (stage : Stage) (line : ℕ) : Type 0 where
+pub record Led (text rest : List ℕ) (hs : List Head) (draft : Draft) (line : ℕ) : Type 0 where
   pub before : List (List ℕ)
   pub pieces_are : pieces text ≡ before ++ pieces rest
-  pub leads : Leads hs first_stage before stage
+  pub leads : Leads hs first_draft before draft
   pub number : line ≡ length before + 1
   pub room : length before + length rest ≤ length text
-  pub named : IsNewName stage
-  pub small : IsWithin stage
+  pub named : IsNewName draft
+  pub small : IsWithin draft
 
-pub led-start : (text : List ℕ) (hs : List Head) (stage : Stage) → stage ≡ first_stage → Led text text hs stage 1
-led-start text hs stage e =
-    let P : Stage → Type 0 = λ s. Led text text hs s 1 in
-    subst P (sym e) record { before = []; pieces_are = refl; leads = stay first_stage; number = refl; room = omega arith; named = tt; small = (omega arith, omega arith) }
+pub led-start : (text : List ℕ) (hs : List Head) (draft : Draft) → draft ≡ first_draft → Led text text hs draft 1
+led-start text hs draft e =
+    let P : Draft → Type 0 = λ s. Led text text hs s 1 in
+    subst P (sym e) record { before = []; pieces_are = refl; leads = stay first_draft; number = refl; room = omega arith; named = tt; small = (omega arith, omega arith) }
 
-leads-snoc : {hs : List Head} {stage : Stage} {lines : List (List ℕ)} {last : Stage} → Leads hs stage lines last → (bytes : List ℕ) (next : Stage) → Says hs (names_of hs) last bytes next → IsNewName next → IsWithin next
-    → Leads hs stage (lines ++ bytes ∷ []) next
-leads-snoc (stay stage) bytes next says named within = go_on stage next next bytes [] says named within (stay next)
-leads-snoc (go_on stage one last b lines s n w rest) bytes next says named within = go_on stage one next b (lines ++ bytes ∷ []) s n w (leads-snoc rest bytes next says named within)
+leads-snoc : {hs : List Head} {draft : Draft} {lines : List (List ℕ)} {last : Draft} → Leads hs draft lines last → (bytes : List ℕ) (next : Draft) → Says hs (names_of hs) last bytes next → IsNewName next → IsWithin next
+    → Leads hs draft (lines ++ bytes ∷ []) next
+leads-snoc (stay draft) bytes next says named within = go_on draft next next bytes [] says named within (stay next)
+leads-snoc (go_on draft one last b lines s n w rest) bytes next says named within = go_on draft one next b (lines ++ bytes ∷ []) s n w (leads-snoc rest bytes next says named within)
 
-pub led-step : (text rest first others : List ℕ) (hs : List Head) (stage next : Stage) (line number : ℕ) → Led text rest hs stage line → pieces rest ≡ first ∷ pieces others → length others + 1 ≤ length rest
-    → Says hs (names_of hs) stage first next → IsNewName next → IsWithin next → number ≡ line + 1 → Led text others hs next number
-led-step text rest first others hs stage next line number h e shorter says named within is = record {
+pub led-step : (text rest first others : List ℕ) (hs : List Head) (draft next : Draft) (line number : ℕ) → Led text rest hs draft line → pieces rest ≡ first ∷ pieces others → length others + 1 ≤ length rest
+    → Says hs (names_of hs) draft first next → IsNewName next → IsWithin next → number ≡ line + 1 → Led text others hs next number
+led-step text rest first others hs draft next line number h e shorter says named within is = record {
   before = h.before ++ first ∷ [];
   pieces_are = h.pieces_are ∙ ap (λ (ps : List (List ℕ)). h.before ++ ps) e ∙ sym (append_assoc h.before (first ∷ []) (pieces others));
   leads = leads-snoc h.leads first next says named within;
@@ -162,25 +162,25 @@ around text rest first others before is e =
       are = is ∙ ap (λ (ps : List (List ℕ)). before ++ ps) (e ∙ ap (λ (ps : List (List ℕ)). first ∷ ps) p.2) ∙ sym (append_assoc before (first ∷ p.0) (p.1 ∷ []));
     }
 
-pub led-front : (text rest first others : List ℕ) (hs : List Head) (stage : Stage) (line : ℕ) → Led text rest hs stage line → pieces rest ≡ first ∷ pieces others → Known text hs → list_all is_word (names_of hs) ≡ true
-    → (more : List (List ℕ)) × (names_of hs ≡ block_names (blocks_of stage) ++ more)
-led-front text rest first others hs stage line h e known words =
+pub led-front : (text rest first others : List ℕ) (hs : List Head) (draft : Draft) (line : ℕ) → Led text rest hs draft line → pieces rest ≡ first ∷ pieces others → Known text hs → list_all is_word (names_of hs) ≡ true
+    → (more : List (List ℕ)) × (names_of hs ≡ block_names (blocks_of draft) ++ more)
+led-front text rest first others hs draft line h e known words =
     let a = around text rest first others h.before h.pieces_are e in
-    blocks-front hs stage h.before (first ∷ a.behind) (known (h.before ++ first ∷ a.behind) a.last a.are) h.leads words
+    blocks-front hs draft h.before (first ∷ a.behind) (known (h.before ++ first ∷ a.behind) a.last a.are) h.leads words
 
 pub blocks-seen : (tables : List CodeTable) (blocks : List Block) (begun : Option Begun) → blocks_of (seen_with tables blocks begun) ≡ blocks
 blocks-seen tables blocks None = refl
 blocks-seen tables blocks (Some begun) = refl
 
-pub led-fault : (text rest first others : List ℕ) (hs : List Head) (stage : Stage) (line : ℕ) → Led text rest hs stage line → pieces rest ≡ first ∷ pieces others → Known text hs
-    → (w : Wrong) → OnWrong w (IsWrong hs stage first w) → OnFault (fault_at w line) (FirstFault text (fault_at w line))
-led-fault text rest first others hs stage line h e known w bad =
+pub led-fault : (text rest first others : List ℕ) (hs : List Head) (draft : Draft) (line : ℕ) → Led text rest hs draft line → pieces rest ≡ first ∷ pieces others → Known text hs
+    → (w : Wrong) → OnWrong w (IsWrong hs draft first w) → OnFault (fault_at w line) (FirstFault text (fault_at w line))
+led-fault text rest first others hs draft line h e known w bad =
     let a = around text rest first others h.before h.pieces_are e in
     let are = known (h.before ++ first ∷ a.behind) a.last a.are in
     let P : ℕ → Type 0 = λ n. FirstFault text (fault_at w n) in
-    each w (λ wrong. subst P (sym h.number) (at_line hs h.before a.behind first a.last stage w a.are are h.leads wrong)) bad
+    each w (λ wrong. subst P (sym h.number) (at_line hs h.before a.behind first a.last draft w a.are are h.leads wrong)) bad
   where
-    each : (w : Wrong) → (IsWrong hs stage first w → FirstFault text (fault_at w line)) → OnWrong w (IsWrong hs stage first w) → OnFault (fault_at w line) (FirstFault text (fault_at w line))
+    each : (w : Wrong) → (IsWrong hs draft first w → FirstFault text (fault_at w line)) → OnWrong w (IsWrong hs draft first w) → OnFault (fault_at w line) (FirstFault text (fault_at w line))
     each wrongs.Form make bad = make bad
     each wrongs.Label make bad = make bad
     each wrongs.Limit make bad = make bad
@@ -190,11 +190,11 @@ led-fault text rest first others hs stage line h e known w bad =
 ends : (text rest : List ℕ) (before : List (List ℕ)) → pieces text ≡ before ++ pieces rest → pieces rest ≡ rest ∷ [] → pieces text ≡ before ++ rest ∷ []
 ends text rest before is e = is ∙ ap (λ (ps : List (List ℕ)). before ++ ps) e
 
-pub led-missing : (text rest : List ℕ) (hs : List Head) (stage : Stage) (line : ℕ) → Led text rest hs stage line → pieces rest ≡ rest ∷ [] → Known text hs → (¬ ((rest ≡ []) × IsWhole stage)) → FirstFault text (faults.Form line)
-led-missing text rest hs stage line h e known bad =
+pub led-missing : (text rest : List ℕ) (hs : List Head) (draft : Draft) (line : ℕ) → Led text rest hs draft line → pieces rest ≡ rest ∷ [] → Known text hs → (¬ ((rest ≡ []) × IsWhole draft)) → FirstFault text (faults.Form line)
+led-missing text rest hs draft line h e known bad =
     let are = ends text rest h.before h.pieces_are e in
     let P : ℕ → Type 0 = λ n. FirstFault text (faults.Form n) in
-    subst P (sym h.number) (at_end hs h.before rest stage are (known h.before rest are) h.leads bad)
+    subst P (sym h.number) (at_end hs h.before rest draft are (known h.before rest are) h.leads bad)
 
 none_left : (text rest : List ℕ) (before : List (List ℕ)) → pieces text ≡ before ++ rest ∷ [] → rest ≡ [] → pieces text ≡ before ++ [] ∷ []
 none_left text rest before is e = is ∙ ap (λ (r : List ℕ). before ++ r ∷ []) e
@@ -207,11 +207,11 @@ led-right text rest hs tables (b ∷ blocks) None line h e known words whole =
     let are = ends text rest h.before h.pieces_are e in
     leads-code hs h.before tables (b ∷ blocks) (known h.before rest are) words h.leads (omega arith)
 
-pub led-code : (text rest : List ℕ) (hs : List Head) (stage : Stage) (tables : List CodeTable) (blocks : List Block) (line : ℕ) → Led text rest hs stage line → pieces rest ≡ rest ∷ [] → rest ≡ [] → Known text hs
-    → list_all is_word (names_of hs) ≡ true → stage ≡ Outside tables blocks → IsCode tables blocks → CodeText text tables blocks
-led-code text rest hs stage tables blocks line h e empty known words is right =
+pub led-code : (text rest : List ℕ) (hs : List Head) (draft : Draft) (tables : List CodeTable) (blocks : List Block) (line : ℕ) → Led text rest hs draft line → pieces rest ≡ rest ∷ [] → rest ≡ [] → Known text hs
+    → list_all is_word (names_of hs) ≡ true → draft ≡ Outside tables blocks → IsCode tables blocks → CodeText text tables blocks
+led-code text rest hs draft tables blocks line h e empty known words is right =
     let are = ends text rest h.before h.pieces_are e in
-    let P : Stage → Type 0 = λ s. Leads hs first_stage h.before s in
+    let P : Draft → Type 0 = λ s. Leads hs first_draft h.before s in
     record { right = right; spelled = leads-spelled hs h.before tables blocks (known h.before rest are) words (subst P is h.leads) text (none_left text rest h.before are empty) }
 
 -- ---- what calls answer

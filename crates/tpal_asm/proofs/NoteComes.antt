@@ -17,7 +17,7 @@ use Rattle.tpal_print.proofs.Pieces.{Words, word_comes}
 use Rattle.tpal_print.proofs.Notes.{renames_come, carries_come}
 use Rattle.tpal_print.proofs.Whole.{policy_mid, kind_mid, ShortNote}
 use Rattle.tpal_asm.specs.Reading.{cut_rest, target_rest, ready_rest, jtppt_rest, note_rest}
-use Rattle.tpal_asm.specs.Stages.{IsNoteForm}
+use Rattle.tpal_asm.specs.Drafts.{IsNoteForm}
 
 -- ---- notes
 

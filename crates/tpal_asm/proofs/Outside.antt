@@ -19,11 +19,11 @@ use Rattle.tpal_syntax.specs.Text.{table_line, header_text}
 use Rattle.tpal_syntax.specs.Readers.{after}
 use Rattle.tpal_print.proofs.Pieces.{and_left, and_right}
 use Rattle.tpal_asm.specs.Labels.{Head, names_of, place_of}
-use Rattle.tpal_asm.specs.Stages.{IsNoteForm, IsNoteOf, IsNewTable, Stage, Outside, Inside, Says}
-use Rattle.tpal_asm.specs.Stages.{a_table, a_header, is_among}
+use Rattle.tpal_asm.specs.Drafts.{IsNoteForm, IsNoteOf, IsNewTable, Draft, Outside, Inside, Says}
+use Rattle.tpal_asm.specs.Drafts.{a_table, a_header, is_among}
 
 -- what a line outside of blocks says
-pub outside_says : {heads : List Head} {names : List (List ℕ)} {tables : List CodeTable} {blocks : List Block} {bytes : List ℕ} {next : Stage}
+pub outside_says : {heads : List Head} {names : List (List ℕ)} {tables : List CodeTable} {blocks : List Block} {bytes : List ℕ} {next : Draft}
     → Says heads names (Outside tables blocks) bytes next
     → ((table : CodeTable) × IsNewTable tables table × (bytes ≡ table_line (length tables) table) × (next ≡ Outside (tables ++ table ∷ []) []) × (blocks ≡ []))
     ⊎ ((name : List ℕ) × (x : Note) × (is_word name ≡ true) × IsNoteOf heads names (length tables) x × (bytes ≡ header_text names name x) × (next ≡ Inside tables blocks name x []))

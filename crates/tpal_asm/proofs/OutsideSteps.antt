@@ -1,4 +1,4 @@
--- From a stage outside of blocks to the next by a line that begins as that of a table.
+-- From a draft outside of blocks to the next by a line that begins as that of a table.
 use Rattle.std.proofs.Common.{◌≡◌, ℕ, ◌≤◌, ◌<◌, List, [], ◌∷◌, ◌++◌, length, Some, Result, Ok, Err}
 use Rattle.std.proofs.Common.{IfOk, IfErr, sym, ap, subst, ◌∙◌, inl, inr}
 use Rattle.std.specs.Prelude.{codes}
@@ -7,10 +7,10 @@ use Rattle.tpal_syntax.specs.declared.blocks.CodeTable.{CodeTable}
 use Rattle.tpal_syntax.specs.Readers.{after}
 use Rattle.tpal_asm.specs.declared.fault.Wrong.{Wrong}
 use Rattle.tpal_asm.specs.declared.fault.Wrong.TheVariants as wrongs
-use Rattle.tpal_asm.specs.declared.stages.Stage as code
+use Rattle.tpal_asm.specs.declared.drafts.Draft as code
 use Rattle.tpal_asm.specs.Reading.{ended, table_line_rest}
 use Rattle.tpal_asm.specs.Labels.{Head, names_of}
-use Rattle.tpal_asm.specs.Stages.{Stage, Outside, Says}
+use Rattle.tpal_asm.specs.Drafts.{Draft, Outside, Says}
 use Rattle.tpal_asm.specs.Faults.{IsWrong, OnWrong, IsFormed}
 use Rattle.tpal_asm.specs.Steps.{seen, IsUnrepeated, TableUnfit}
 use Rattle.tpal_asm.proofs.Sound.{after-sound}
@@ -19,27 +19,27 @@ use Rattle.tpal_asm.proofs.TableSteps.{no_header, table_right, table_unformed, t
 use Rattle.tpal_asm.proofs.TableSteps.{table_many}
 
 -- what a line behind tables and these blocks says, where the call goes well
-abbrev pub Goes : List Head → List CodeTable → List ℕ → List Block → Result code.Stage Wrong → Type 0
+abbrev pub Goes : List Head → List CodeTable → List ℕ → List Block → Result code.Draft Wrong → Type 0
 Goes heads tables line blocks r = IfOk r (λ next. (bytes : List ℕ) → line ≡ bytes ++ (10 ∷ []) → Says heads (names_of heads) (Outside tables blocks) bytes (seen next))
 
 -- and what is wrong with it, where it doesn't
-abbrev pub Fails : List Head → List CodeTable → List ℕ → List Block → Result code.Stage Wrong → Type 0
+abbrev pub Fails : List Head → List CodeTable → List ℕ → List Block → Result code.Draft Wrong → Type 0
 Fails heads tables line blocks r = IfErr r (λ w. OnWrong w ((bytes : List ℕ) → line ≡ bytes ++ (10 ∷ []) → IsWrong heads (Outside tables blocks) bytes w))
 
 module _ (heads : List Head) (tables : List CodeTable) (few : length tables ≤ 16) (line us : List ℕ) (behind : after (codes "table t") line ≡ Some us) where
   line_is : (bytes : List ℕ) → line ≡ bytes ++ (10 ∷ []) → bytes ++ (10 ∷ []) ≡ codes "table t" ++ us
   line_is bytes e = sym e ∙ after-sound (codes "table t") line us behind
 
-  abbrev Made_next : code.Stage → Type 0
+  abbrev Made_next : code.Draft → Type 0
   Made_next next = (table : CodeTable) × (ended (table_line_rest us) ≡ Some (length tables, table)) × IsUnrepeated tables table × (length tables < 16) × (seen next ≡ Outside (tables ++ table ∷ []) [])
 
-  pub table_goes : (r : Result code.Stage Wrong) → IfOk r Made_next → IfOk r (λ next. (bytes : List ℕ) → line ≡ bytes ++ (10 ∷ []) → Says heads (names_of heads) (Outside tables []) bytes (seen next))
+  pub table_goes : (r : Result code.Draft Wrong) → IfOk r Made_next → IfOk r (λ next. (bytes : List ℕ) → line ≡ bytes ++ (10 ∷ []) → Says heads (names_of heads) (Outside tables []) bytes (seen next))
   table_goes (Err w) made = tt
   table_goes (Ok next) made = λ bytes e.
-      let P : Stage → Type 0 = λ s. Says heads (names_of heads) (Outside tables []) bytes s in
+      let P : Draft → Type 0 = λ s. Says heads (names_of heads) (Outside tables []) bytes s in
       subst P (sym made.4) (table_right heads tables few us bytes (line_is bytes e) (names_of heads) made.0 made.1 made.2)
 
-  pub table_fails : (r : Result code.Stage Wrong) → IfErr r (TableUnfit tables us) → IfErr r (λ w. OnWrong w ((bytes : List ℕ) → line ≡ bytes ++ (10 ∷ []) → IsWrong heads (Outside tables []) bytes w))
+  pub table_fails : (r : Result code.Draft Wrong) → IfErr r (TableUnfit tables us) → IfErr r (λ w. OnWrong w ((bytes : List ℕ) → line ≡ bytes ++ (10 ∷ []) → IsWrong heads (Outside tables []) bytes w))
   table_fails (Ok next) bad = tt
   table_fails (Err wrongs.Form) bad = λ bytes e. table_unformed heads tables few us bytes (line_is bytes e) bad
   table_fails (Err wrongs.Label) bad = absurd bad

@@ -25,9 +25,9 @@ use Rattle.tpal_syntax.specs.Text.{line, table_line, tables_text, header_text, b
 use Rattle.tpal_print.proofs.Whole.{instr_line, term_line}
 use Rattle.tpal_asm.specs.Lines.{pieces}
 use Rattle.tpal_asm.specs.Labels.{Head, names_of, place_of}
-use Rattle.tpal_asm.specs.Stages.{AreHeads, is_among, IsNewTable, IsNoteOf, Stage, Outside, Inside}
-use Rattle.tpal_asm.specs.Stages.{Says, a_table, a_header, an_instr, an_end, Leads, stay, go_on}
-use Rattle.tpal_asm.specs.Stages.{IsNewName, IsWithin}
+use Rattle.tpal_asm.specs.Drafts.{AreHeads, is_among, IsNewTable, IsNoteOf, Draft, Outside, Inside}
+use Rattle.tpal_asm.specs.Drafts.{Says, a_table, a_header, an_instr, an_end, Leads, stay, go_on}
+use Rattle.tpal_asm.specs.Drafts.{IsNewName, IsWithin}
 use Rattle.tpal_asm.proofs.Finding.{place-known, place-right, length-names}
 use Rattle.tpal_asm.proofs.Outside.{length-block_names}
 use Rattle.tpal_asm.proofs.Heads.{heads-are, leads-heads, block_head, names-heads}
@@ -88,7 +88,7 @@ pub record Begins (heads : List Head) (names : List (List ℕ)) (tables : List C
   pub each : list_all (is_instr (length tables) (length names)) body ≡ true
   pub new : is_among name (block_names blocks) ≡ false
 
-abbrev pub Good : List Head → List (List ℕ) → Stage → Type 0
+abbrev pub Good : List Head → List (List ℕ) → Draft → Type 0
 Good heads names (Outside tables blocks) = Sofar heads names tables blocks
 Good heads names (Inside tables blocks name x body) = Begins heads names tables blocks name x body
 
@@ -110,7 +110,7 @@ inputs-snoc tables Made of new =
     let P : List (List ℕ) → Type 0 = λ ns. list_all is_word ns ≡ true in
     record { words = subst P names of.words; names_differ = subst AreDistinct names of.names_differ }
 
-says-good : {heads : List Head} {names : List (List ℕ)} {stage : Stage} {bytes : List ℕ} {next : Stage} → Says heads names stage bytes next → Good heads names stage → IsNewName next → IsWithin next → Good heads names next
+says-good : {heads : List Head} {names : List (List ℕ)} {draft : Draft} {bytes : List ℕ} {next : Draft} → Says heads names draft bytes next → Good heads names draft → IsNewName next → IsWithin next → Good heads names next
 says-good (a_table tables table new) good named within =
     record { few_tables = within.0; few_blocks = within.1; inputs = inputs-snoc tables table good.inputs new; differ = good.differ; each = tt }
 says-good (a_header tables blocks name x word of) good named within = record { whole = good; word = word; noted = of; each = refl; new = named }
@@ -127,13 +127,13 @@ says-good {heads} {names} (an_end tables blocks name x body t ok) good named wit
       each = all-snoc (IsPart heads names (length tables)) blocks b good.whole.each record { name = good.word; note = good.noted; body = good.each; term = ok };
     }
 
-pub leads-good : {heads : List Head} {stage : Stage} {lines : List (List ℕ)} {last : Stage} → Leads heads stage lines last → Good heads (names_of heads) stage → Good heads (names_of heads) last
-leads-good (stay stage) good = good
-leads-good (go_on stage next last bytes lines says named within rest) good = leads-good rest (says-good says good named within)
+pub leads-good : {heads : List Head} {draft : Draft} {lines : List (List ℕ)} {last : Draft} → Leads heads draft lines last → Good heads (names_of heads) draft → Good heads (names_of heads) last
+leads-good (stay draft) good = good
+leads-good (go_on draft next last bytes lines says named within rest) good = leads-good rest (says-good says good named within)
 
 -- ---- the text
 
-abbrev pub stage_text : List (List ℕ) → Stage → List ℕ
+abbrev pub stage_text : List (List ℕ) → Draft → List ℕ
 stage_text names (Outside tables blocks) = tables_text 0 tables ++ flat_map (block_text names) blocks
 stage_text names (Inside tables blocks name x body) = (tables_text 0 tables ++ flat_map (block_text names) blocks) ++ (line (header_text names name x) ++ flat_map (instr_line names) body)
 
@@ -150,7 +150,7 @@ tables-snoc k (t ∷ tables) table =
 flat-snoc : {A : Type 0} (f : A → List ℕ) (xs : List A) (x : A) → flat_map f (xs ++ x ∷ []) ≡ flat_map f xs ++ f x
 flat-snoc f xs x = flat_map-append f xs (x ∷ []) ∙ ap (λ (y : List ℕ). flat_map f xs ++ y) (flat_map-cons f x [] ∙ append-nil (f x))
 
-says-text : {heads : List Head} {names : List (List ℕ)} {stage : Stage} {bytes : List ℕ} {next : Stage} → Says heads names stage bytes next → stage_text names next ≡ stage_text names stage ++ line bytes
+says-text : {heads : List Head} {names : List (List ℕ)} {draft : Draft} {bytes : List ℕ} {next : Draft} → Says heads names draft bytes next → stage_text names next ≡ stage_text names draft ++ line bytes
 says-text {heads} {names} (a_table tables table new) =
     append-nil (tables_text 0 (tables ++ table ∷ [])) ∙ tables-snoc 0 tables table ∙ ap (λ (n : ℕ). tables_text 0 tables ++ line (table_line n table)) (none_before (length tables)) ∙ ap (λ (x : List ℕ). x ++ line (table_line (length tables) table)) (sym (append-nil (tables_text 0 tables)))
   where
@@ -175,11 +175,11 @@ says-text {heads} {names} (an_end tables blocks name x body t ok) =
     ∙ sym (append_assoc ts bs (block_text names b))
     ∙ ap (λ (y : List ℕ). (ts ++ bs) ++ y) (sym (append_assoc head is end)) ∙ sym (append_assoc (ts ++ bs) (head ++ is) end)
 
-pub leads-text : {heads : List Head} {stage : Stage} {lines : List (List ℕ)} {last : Stage} → Leads heads stage lines last → stage_text (names_of heads) last ≡ stage_text (names_of heads) stage ++ flat_map line lines
-leads-text {heads} (stay stage) = sym (append-nil (stage_text (names_of heads) stage))
-leads-text {heads} (go_on stage next last bytes lines says named within rest) =
-    leads-text rest ∙ ap (λ (x : List ℕ). x ++ flat_map line lines) (says-text says) ∙ append_assoc (stage_text (names_of heads) stage) (line bytes) (flat_map line lines)
-    ∙ ap (λ (x : List ℕ). stage_text (names_of heads) stage ++ x) (sym (flat_map-cons line bytes lines))
+pub leads-text : {heads : List Head} {draft : Draft} {lines : List (List ℕ)} {last : Draft} → Leads heads draft lines last → stage_text (names_of heads) last ≡ stage_text (names_of heads) draft ++ flat_map line lines
+leads-text {heads} (stay draft) = sym (append-nil (stage_text (names_of heads) draft))
+leads-text {heads} (go_on draft next last bytes lines says named within rest) =
+    leads-text rest ∙ ap (λ (x : List ℕ). x ++ flat_map line lines) (says-text says) ∙ append_assoc (stage_text (names_of heads) draft) (line bytes) (flat_map line lines)
+    ∙ ap (λ (x : List ℕ). stage_text (names_of heads) draft ++ x) (sym (flat_map-cons line bytes lines))
 
 joined : (lines : List (List ℕ)) → join_with_byte 10 (lines ++ [] ∷ []) ≡ flat_map line lines
 joined [] = refl

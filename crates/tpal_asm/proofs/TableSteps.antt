@@ -1,4 +1,4 @@
--- From a stage before all blocks to the next by the line of a table.
+-- From a draft before all blocks to the next by the line of a table.
 use Rattle.std.proofs.Common.{◌≡◌, ℕ, ◌≤◌, true, List, [], ◌∷◌, ◌++◌, length, Some, refl, sym, ap}
 use Rattle.std.proofs.Common.{subst, ◌∙◌, inl, inr, append_assoc, length-append, arith}
 use Rattle.std.specs.Prelude.{codes}
@@ -11,7 +11,7 @@ use Rattle.tpal_syntax.specs.Readers.{word_at}
 use Rattle.tpal_print.proofs.Pieces.{word_comes}
 use Rattle.tpal_asm.specs.Reading.{ended, table_line_rest}
 use Rattle.tpal_asm.specs.Labels.{Head, names_of}
-use Rattle.tpal_asm.specs.Stages.{IsNewTable, Stage, Outside, Says, a_table, IsWithin}
+use Rattle.tpal_asm.specs.Drafts.{IsNewTable, Draft, Outside, Says, a_table, IsWithin}
 use Rattle.tpal_asm.specs.Faults.{IsFormed, IsLabelled, IsRight}
 use Rattle.tpal_asm.specs.Steps.{IsUnrepeated}
 use Rattle.tpal_asm.proofs.TableLine.{IsNamed, table-said, table_comes}
@@ -44,7 +44,7 @@ unrepeated_of tables Made new = tt
 
 module _ (heads : List Head) (tables : List CodeTable) (few : length tables ≤ 16) (us bytes : List ℕ) (line : bytes ++ (10 ∷ []) ≡ codes "table t" ++ us) where
   -- whatever the line says is a table
-  is_table : (names : List (List ℕ)) (next : Stage) → Says heads names (Outside tables []) bytes next
+  is_table : (names : List (List ℕ)) (next : Draft) → Says heads names (Outside tables []) bytes next
       → (table : CodeTable) × IsNewTable tables table × (bytes ≡ table_line (length tables) table) × (next ≡ Outside (tables ++ table ∷ []) [])
   is_table names next says = elim (outside_says says) [
     | inl h ↦ (h.0, h.1, h.2, h.3)
@@ -68,6 +68,6 @@ module _ (heads : List Head) (tables : List CodeTable) (few : length tables ≤ 
   pub table_many : 16 ≤ length tables → ¬ IsRight heads (Outside tables []) bytes
   table_many many right =
       let t = is_table (names_of heads) right.next right.says in
-      let P : Stage → Type 0 = λ s. IsWithin s in
+      let P : Draft → Type 0 = λ s. IsWithin s in
       let w : IsWithin (Outside (tables ++ t.0 ∷ []) []) = subst P t.3 right.within in
       omega (arith, w.0, length-append tables (t.0 ∷ []))

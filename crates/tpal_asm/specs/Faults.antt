@@ -6,38 +6,38 @@ use Rattle.tpal_asm.specs.declared.fault.Wrong.{Wrong}
 use Rattle.tpal_asm.specs.declared.fault.Wrong.TheVariants as wrongs
 use Rattle.tpal_asm.specs.Lines.{pieces}
 use Rattle.tpal_asm.specs.Labels.{Head, names_of}
-use Rattle.tpal_asm.specs.Stages.{AreWords, AreHeads, Stage, Says, IsNewName, IsWithin, Leads}
-use Rattle.tpal_asm.specs.Stages.{first_stage, IsWhole}
+use Rattle.tpal_asm.specs.Drafts.{AreWords, AreHeads, Draft, Says, IsNewName, IsWithin, Leads}
+use Rattle.tpal_asm.specs.Drafts.{first_draft, IsWhole}
 
 -- the line is of the grammar and breaks no condition, but perhaps those on labels and limits: under
 -- some names it says something
-pub record IsFormed (heads : List Head) (stage : Stage) (bytes : List ℕ) : Type 0 where
+pub record IsFormed (heads : List Head) (draft : Draft) (bytes : List ℕ) : Type 0 where
   pub names : List (List ℕ)
-  pub next : Stage
+  pub next : Draft
   pub words : AreWords names
-  pub says : Says heads names stage bytes next
+  pub says : Says heads names draft bytes next
 
 -- also its labels are names of blocks, and the name that it gives a block is new
-pub record IsLabelled (heads : List Head) (stage : Stage) (bytes : List ℕ) : Type 0 where
-  pub next : Stage
-  pub says : Says heads (names_of heads) stage bytes next
+pub record IsLabelled (heads : List Head) (draft : Draft) (bytes : List ℕ) : Type 0 where
+  pub next : Draft
+  pub says : Says heads (names_of heads) draft bytes next
   pub new : IsNewName next
 
 -- also it is within the limits
-pub record IsRight (heads : List Head) (stage : Stage) (bytes : List ℕ) : Type 0 where
-  pub next : Stage
-  pub says : Says heads (names_of heads) stage bytes next
+pub record IsRight (heads : List Head) (draft : Draft) (bytes : List ℕ) : Type 0 where
+  pub next : Draft
+  pub says : Says heads (names_of heads) draft bytes next
   pub new : IsNewName next
   pub within : IsWithin next
 
--- what is wrong with a line behind a stage: the first of these tests that it fails
-abbrev pub IsWrong : List Head → Stage → List ℕ → Wrong → Type 0
-IsWrong heads stage bytes wrongs.Form = ¬ IsFormed heads stage bytes
-IsWrong heads stage bytes wrongs.Label =
-    IsFormed heads stage bytes × (¬ IsLabelled heads stage bytes)
-IsWrong heads stage bytes wrongs.Limit =
-    IsLabelled heads stage bytes × (¬ IsRight heads stage bytes)
-IsWrong heads stage bytes wrongs.NoMemory = ⊥
+-- what is wrong with a line behind a draft: the first of these tests that it fails
+abbrev pub IsWrong : List Head → Draft → List ℕ → Wrong → Type 0
+IsWrong heads draft bytes wrongs.Form = ¬ IsFormed heads draft bytes
+IsWrong heads draft bytes wrongs.Label =
+    IsFormed heads draft bytes × (¬ IsLabelled heads draft bytes)
+IsWrong heads draft bytes wrongs.Limit =
+    IsLabelled heads draft bytes × (¬ IsRight heads draft bytes)
+IsWrong heads draft bytes wrongs.NoMemory = ⊥
 
 -- the fault of the line of this number with that wrong
 abbrev pub fault_at : Wrong → ℕ → AsmFault
@@ -50,14 +50,14 @@ fault_at wrongs.NoMemory line = NoMemory
 -- missing. Lines count from 1.
 pub data FirstFault (text : List ℕ) : AsmFault → Type 0 where
   at_line : (heads : List Head) (before behind : List (List ℕ)) (bytes last : List ℕ)
-      (stage : Stage) (wrong : Wrong) →
+      (draft : Draft) (wrong : Wrong) →
       pieces text ≡ (before ++ bytes ∷ behind) ++ last ∷ [] →
       AreHeads [] (before ++ bytes ∷ behind) heads →
-      Leads heads first_stage before stage → IsWrong heads stage bytes wrong →
+      Leads heads first_draft before draft → IsWrong heads draft bytes wrong →
       FirstFault text (fault_at wrong (length before + 1))
-  at_end : (heads : List Head) (lines : List (List ℕ)) (last : List ℕ) (stage : Stage) →
+  at_end : (heads : List Head) (lines : List (List ℕ)) (last : List ℕ) (draft : Draft) →
       pieces text ≡ lines ++ last ∷ [] → AreHeads [] lines heads →
-      Leads heads first_stage lines stage → (¬ ((last ≡ []) × IsWhole stage)) →
+      Leads heads first_draft lines draft → (¬ ((last ≡ []) × IsWhole draft)) →
       FirstFault text (Form (length lines + 1))
 
 -- what is said of a fault, but of want of memory

@@ -7,8 +7,8 @@ pub mod Lines
 -- reading a line from its front, as the assembler does
 pub mod Reading
 -- what lines say, one after another
-pub mod Stages
+pub mod Drafts
 -- the first fault of a text
 pub mod Faults
--- the assembler's own words for stages
+-- the assembler's own words for drafts
 pub mod Steps

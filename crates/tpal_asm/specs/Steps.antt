@@ -1,4 +1,4 @@
--- The assembler's own words for stages and what is unfit.
+-- The assembler's own words for drafts and what is unfit.
 use Rattle.std.specs.Prelude.{◌≡◌, ℕ, ◌<◌, ◌≤◌, Bool, true, false, List, [], length, slice_index_or}
 use Rattle.std.specs.Prelude.{bytes_eq, Option, Some, None}
 use Rattle.std.specs.Borrow.{Bor}
@@ -12,18 +12,18 @@ use Rattle.tpal_syntax.specs.declared.blocks.CodeTable.{CodeTable}
 use Rattle.tpal_syntax.specs.declared.blocks.CodeTable.TheVariants.{Input, Made}
 use Rattle.tpal_asm.specs.declared.fault.Wrong.{Wrong}
 use Rattle.tpal_asm.specs.declared.fault.Wrong.TheVariants as wrongs
-use Rattle.tpal_asm.specs.declared.stages.Begun.{Begun}
-use Rattle.tpal_asm.specs.declared.stages.Stage as code
+use Rattle.tpal_asm.specs.declared.drafts.Begun.{Begun}
+use Rattle.tpal_asm.specs.declared.drafts.Draft as code
 use Rattle.tpal_asm.specs.Reading.{ended, table_line_rest}
-use Rattle.tpal_asm.specs.Stages.{Stage, Outside, Inside, is_among}
+use Rattle.tpal_asm.specs.Drafts.{Draft, Outside, Inside, is_among}
 
--- a stage, seen by its lists
-abbrev pub seen_with : List CodeTable → List Block → Option Begun → Stage
+-- a draft, seen by its lists
+abbrev pub seen_with : List CodeTable → List Block → Option Begun → Draft
 seen_with tables blocks None = Outside tables blocks
 seen_with tables blocks (Some begun) = Inside tables blocks begun.name begun.note begun.body.items
 
-abbrev pub seen : code.Stage → Stage
-seen stage = seen_with stage.tables.items stage.blocks.items stage.begun
+abbrev pub seen : code.Draft → Draft
+seen draft = seen_with draft.tables.items draft.blocks.items draft.begun
 
 -- What is unfit, by a test that asks whether labels are below a number: that fails for any label,
 -- or only for the number of names.

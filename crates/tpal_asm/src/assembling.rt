@@ -10,14 +10,14 @@ ghost use Rattle.tpal_syntax.specs.declared.blocks.Block.{Block};
 ghost use Rattle.tpal_syntax.specs.declared.blocks.CodeTable.{CodeTable};
 ghost use Rattle.tpal_asm.specs.Lines.{pieces};
 ghost use Rattle.tpal_asm.specs.Labels.{heads};
-ghost use Rattle.tpal_asm.specs.Stages.{AreHeads, Outside, IsWhole};
+ghost use Rattle.tpal_asm.specs.Drafts.{AreHeads, Outside, IsWhole};
 ghost use Rattle.tpal_asm.specs.Faults.{FirstFault, OnFault};
 ghost use Rattle.tpal_asm.specs.Steps.{seen};
 
+use crate::drafts::Draft;
 use crate::fault::{AsmFault, at_line};
 use crate::labels::Labels;
 use crate::lines::next_line;
-use crate::stages::Stage;
 use crate::steps::{read_header, step};
 use std::alloc::Global;
 use tp_value::NoMemory;
@@ -80,7 +80,7 @@ fn read_code(alloc: Global, labels: &Labels, text: &[u8]) -> Result<Code, AsmFau
     ensures code { IfOk result (λ code. CodeText text.now code.tables code.blocks) }
     ensures fault { IfErr result (λ fault. OnFault fault (FirstFault text.now fault)) }
 {
-    let mut stage = Stage {
+    let mut draft = Draft {
         tables: Vec::new(alloc),
         blocks: Vec::new(alloc),
         begun: None,
@@ -88,9 +88,9 @@ fn read_code(alloc: Global, labels: &Labels, text: &[u8]) -> Result<Code, AsmFau
     let mut line = 1;
     let mut rest = text;
     while let Some((first, others)) = next_line(rest) {
-        match step(alloc, labels, stage, first) {
+        match step(alloc, labels, draft, first) {
             Err(wrong) => return Err(at_line(wrong, line)),
-            Ok(next) => stage = next,
+            Ok(next) => draft = next,
         }
         line += 1;
         rest = others;
@@ -98,22 +98,22 @@ fn read_code(alloc: Global, labels: &Labels, text: &[u8]) -> Result<Code, AsmFau
     if !rest.is_empty() {
         return Err(AsmFault::Form(line));
     }
-    end(alloc, stage, line)
+    end(alloc, draft, line)
 }
 
 // The code behind the last line, which has this number.
-fn end(alloc: Global, stage: Stage, line: u32) -> Result<Code, AsmFault>
-    requires right { IsWhole (seen stage) → IsCode stage.tables.items stage.blocks.items }
+fn end(alloc: Global, draft: Draft, line: u32) -> Result<Code, AsmFault>
+    requires right { IsWhole (seen draft) → IsCode draft.tables.items draft.blocks.items }
     ensures code { IfOk result (λ code. IsCode code.tables code.blocks) }
-    ensures last { IfOk result (λ code. seen stage ≡ Outside code.tables code.blocks) }
+    ensures last { IfOk result (λ code. seen draft ≡ Outside code.tables code.blocks) }
     ensures fault { IfErr result (λ fault.
-        OnFault fault ((fault ≡ faults.Form line) × (¬ IsWhole (seen stage)))) }
+        OnFault fault ((fault ≡ faults.Form line) × (¬ IsWhole (seen draft)))) }
 {
-    let Stage {
+    let Draft {
         tables,
         blocks,
         begun,
-    } = stage;
+    } = draft;
     if begun.is_some() {
         return Err(AsmFault::Form(line));
     }

@@ -1,11 +1,11 @@
-// From a stage to the next one by a line.
+// From a draft to the next one by a line.
 
 ghost use Rattle.std.specs.Prelude.{◌≡◌, ◌≤◌, ◌++◌, ◌∷◌, [], ℕ, List, IfOk, IfErr, true, length};
 ghost use Rattle.std.specs.Prelude.{◌==◌, codes};
 ghost use Rattle.tpal_syntax.specs.Parts.{is_instr, is_term};
 ghost use Rattle.tpal_asm.specs.Reading.{ended, instr_rest, term_rest};
 ghost use Rattle.tpal_asm.specs.Labels.{heads, names_of, place_of};
-ghost use Rattle.tpal_asm.specs.Stages.{Outside, Inside, Says, IsNewName, IsWithin, is_among};
+ghost use Rattle.tpal_asm.specs.Drafts.{Outside, Inside, Says, IsNewName, IsWithin, is_among};
 ghost use Rattle.tpal_asm.specs.Faults.{IsWrong, OnWrong};
 ghost use Rattle.std.specs.Prelude.{◌<◌, OnOk, Some, None, false, slice_index_or};
 ghost use Rattle.tpal_syntax.specs.Conditions.{block_names, input_names};
@@ -16,12 +16,12 @@ ghost use Rattle.tpal_asm.specs.Reading.{Reads, header_rest, table_line_rest};
 ghost use Rattle.tpal_asm.specs.Steps.{seen, Unfit, HandlerUnfit, NoteFits, NoteUnfit, header_of};
 ghost use Rattle.tpal_asm.specs.Steps.{table_of, is_input_of, IsUnrepeated, TableUnfit};
 
+use crate::drafts::{Begun, Draft};
 use crate::fault::Wrong;
 use crate::instructions::{instr, term};
 use crate::labels::Labels;
 use crate::notes::note;
 use crate::parts::{behind, number, word};
-use crate::stages::{Begun, Stage};
 use std::alloc::Global;
 use tp_value::{Items, MAX_BLOCKS, MAX_TABLES, NoMemory};
 use tpal_syntax::{Block, CodeTable, Instr, Note, Term, is_instr, is_target, is_term};
@@ -29,25 +29,25 @@ use tpal_syntax::{Block, CodeTable, Instr, Note, Term, is_instr, is_target, is_t
 /// Greater than every label.
 const ANY_LABEL: u32 = 4_294_967_295;
 
-/// The stage behind a line, which ends with its LF.
-pub fn step(alloc: Global, labels: &Labels, stage: Stage, line: &[u8]) -> Result<Stage, Wrong>
-    requires named { IsNewName (seen stage) }
-    requires small { IsWithin (seen stage) }
+/// The draft behind a line, which ends with its LF.
+pub fn step(alloc: Global, labels: &Labels, draft: Draft, line: &[u8]) -> Result<Draft, Wrong>
+    requires named { IsNewName (seen draft) }
+    requires small { IsWithin (seen draft) }
     requires front { (more : List (List ℕ))
-        × (names_of (heads labels.now.places) ≡ block_names stage.blocks.items ++ more) }
+        × (names_of (heads labels.now.places) ≡ block_names draft.blocks.items ++ more) }
     ensures right { IfOk result (λ next. (bytes : List ℕ) → line.now ≡ bytes ++ 10 ∷ [] →
-        Says (heads labels.now.places) (names_of (heads labels.now.places)) (seen stage) bytes
+        Says (heads labels.now.places) (names_of (heads labels.now.places)) (seen draft) bytes
         (seen next)) }
     ensures new { IfOk result (λ next. IsNewName (seen next)) }
     ensures within { IfOk result (λ next. IsWithin (seen next)) }
     ensures wrong { IfErr result (λ w. OnWrong w ((bytes : List ℕ) → line.now ≡ bytes ++ 10 ∷ [] →
-        IsWrong (heads labels.now.places) (seen stage) bytes w)) }
+        IsWrong (heads labels.now.places) (seen draft) bytes w)) }
 {
-    let Stage {
+    let Draft {
         tables,
         blocks,
         begun,
-    } = stage;
+    } = draft;
     match begun {
         Some(begun) => inside(labels, tables, blocks, begun, line),
         None => outside(alloc, labels, tables, blocks, line),
@@ -61,7 +61,7 @@ fn inside(
     blocks: Vec<Block>,
     begun: Begun,
     line: &[u8],
-) -> Result<Stage, Wrong>
+) -> Result<Draft, Wrong>
     requires few { length tables.items ≤ 16 }
     requires room { length blocks.items < 65536 }
     requires named { is_among begun.name (block_names blocks.items) ≡ false }
@@ -114,7 +114,7 @@ fn with_instr(
     blocks: Vec<Block>,
     begun: Begun,
     instr: Instr,
-) -> Result<Stage, Wrong>
+) -> Result<Draft, Wrong>
     requires few { length tables.items ≤ 16 }
     ensures fits { IfOk result (λ next.
         is_instr (length tables.items) (length (names_of (heads labels.now.places))) instr ≡ true) }
@@ -136,7 +136,7 @@ fn with_instr(
         mut body,
     } = begun;
     body.push(instr)?;
-    Ok(Stage {
+    Ok(Draft {
         tables,
         blocks,
         begun: Some(Begun { name, note, body }),
@@ -149,7 +149,7 @@ fn with_end(
     mut blocks: Vec<Block>,
     begun: Begun,
     term: Term,
-) -> Result<Stage, Wrong>
+) -> Result<Draft, Wrong>
     ensures fits { IfOk result (λ next.
         is_term (length (names_of (heads labels.now.places))) term ≡ true) }
     ensures next { IfOk result (λ next. seen next ≡ Outside tables.items (blocks.items
@@ -172,7 +172,7 @@ fn with_end(
         body: Items::new(body),
         term,
     })?;
-    Ok(Stage {
+    Ok(Draft {
         tables,
         blocks,
         begun: None,
@@ -186,7 +186,7 @@ fn outside(
     tables: Vec<CodeTable>,
     blocks: Vec<Block>,
     line: &[u8],
-) -> Result<Stage, Wrong>
+) -> Result<Draft, Wrong>
     requires few { length tables.items ≤ 16 }
     requires front { (more : List (List ℕ))
         × (names_of (heads labels.now.places) ≡ block_names blocks.items ++ more) }
@@ -211,7 +211,7 @@ fn outside(
 }
 
 // The line of a table, behind its first word.
-fn table(alloc: Global, mut tables: Vec<CodeTable>, text: &[u8]) -> Result<Stage, Wrong>
+fn table(alloc: Global, mut tables: Vec<CodeTable>, text: &[u8]) -> Result<Draft, Wrong>
     ensures read { IfOk result (λ next.
         (table : CodeTable)
         × (ended (table_line_rest text.now) ≡ Some (length tables.items, table))
@@ -224,7 +224,7 @@ fn table(alloc: Global, mut tables: Vec<CodeTable>, text: &[u8]) -> Result<Stage
         return Err(Wrong::Limit);
     }
     tables.push(table)?;
-    Ok(Stage {
+    Ok(Draft {
         tables,
         blocks: Vec::new(alloc),
         begun: None,
@@ -302,7 +302,7 @@ fn header(
     tables: Vec<CodeTable>,
     blocks: Vec<Block>,
     line: &[u8],
-) -> Result<Stage, Wrong>
+) -> Result<Draft, Wrong>
     requires few { length tables.items ≤ 16 }
     requires front { (more : List (List ℕ))
         × (names_of (heads labels.now.places) ≡ block_names blocks.items ++ more) }
@@ -328,7 +328,7 @@ fn header(
     if blocks.len() >= MAX_BLOCKS as usize {
         return Err(Wrong::Limit);
     }
-    Ok(Stage {
+    Ok(Draft {
         tables,
         blocks,
         begun: Some(Begun {

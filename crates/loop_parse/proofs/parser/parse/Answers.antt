@@ -5,7 +5,7 @@ use Rattle.loop_lex.specs.Lexical.{AreTokensOf}
 use Rattle.loop_lex.proofs.Spans.{tokens_tell}
 use Rattle.loop_syntax.specs.declared.program.Program.{Program}
 use Rattle.loop_syntax.specs.Tree.{ProgramTree, program_of}
-use Rattle.loop_parse.specs.declared.reader.Halt.{Halt}
+use Rattle.loop_parse.specs.declared.reader.Unparsed.{Unparsed}
 use Rattle.loop_parse.specs.declared.parser.ParseFault.{ParseFault}
 use Rattle.loop_parse.specs.Terms.{Token, seen, tokens_of}
 use Rattle.loop_parse.specs.Text.{Reads, TextFault, FirstTextFault, IsOnlyTree, IsCause}
@@ -73,7 +73,7 @@ returns-in-Ok-clause-no_other_cause c =
     only_cause c.args.source.now c.args.tokens.now c.requires.lexed _ _ (read_of c.args.source.now _ _ _ _ same c.in-Ok.ensures.reads) c.finish.result c.finish.ensures
 
 -- the same of a reading that stopped
-stopped_of : (source : List ℕ) (here there : List Token) (h : Halt) → there ≡ here → ((n : ℕ) → length there ≤ n → Fails source h (reading.program within n there)) → Fails source h (reading.program within (length here) here)
+stopped_of : (source : List ℕ) (here there : List Token) (h : Unparsed) → there ≡ here → ((n : ℕ) → length there ≤ n → Fails source h (reading.program within n there)) → Fails source h (reading.program within (length here) here)
 stopped_of source here there h same read =
     subst (λ (us : List Token). Fails source h (reading.program within (length here) us)) same (read (length here) (omega (arith, ap length same)))
 

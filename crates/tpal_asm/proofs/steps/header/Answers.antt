@@ -6,7 +6,7 @@ use Rattle.tpal_asm.specs.Faults.{IsWrong}
 use Rattle.tpal_syntax.specs.declared.instructions.Instr.{Instr}
 use Rattle.tpal_syntax.specs.Conditions.{block_names}
 use Rattle.tpal_asm.specs.Labels.{heads, names_of, place_of}
-use Rattle.tpal_asm.specs.Stages.{Outside, Inside, Says, is_among}
+use Rattle.tpal_asm.specs.Drafts.{Outside, Inside, Says, is_among}
 use Rattle.tpal_asm.proofs.HeaderSteps.{header_unread, header_right, header_formed, header_repeated}
 use Rattle.tpal_asm.proofs.HeaderSteps.{header_many, header_labelled}
 use Rattle.tpal_asm.proofs.HeaderFaults.{note_wrong, each_line}

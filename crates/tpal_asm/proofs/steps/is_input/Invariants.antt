@@ -1,6 +1,6 @@
 use Rattle.std.proofs.Common.{◌≡◌, length}
 use Rattle.tpal_syntax.specs.Conditions.{input_names}
-use Rattle.tpal_asm.specs.Stages.{is_among}
+use Rattle.tpal_asm.specs.Drafts.{is_among}
 use Rattle.tpal_asm.proofs.steps.is_input.Given as goal
 
 -- what is left decides

@@ -2,7 +2,7 @@ use Rattle.std.proofs.Common.{Some, ◌∙◌, ℕ, ◌+◌, ◌*◌, ◌/◌, �
 use Rattle.tpal_machine.specs.declared.ends.End.TheVariants.{At}
 use Rattle.tpal_machine.specs.declared.ends.SideName.TheVariants.{Left, Right}
 use Rattle.join_records.specs.declared.slot.Item.TheVariants.{Rest, Side}
-use Rattle.join_records.specs.declared.views.Stage.TheVariants.{Arriving}
+use Rattle.join_records.specs.declared.views.CallState.TheVariants.{Arriving}
 use Rattle.join_records.specs.Views.{NoneMet, holds_end}
 use Rattle.join_records.proofs.Calls.{end_within, met_after, not_zero, slots_are}
 use Rattle.join_records.proofs.table.Records.arrive_left.Goals as goal

@@ -4,7 +4,7 @@ use mathlib.Core.Logic.{∥∥₁_elim}
 use Rattle.join_records.specs.declared.views.Grip.TheVariants.{Filling}
 use Rattle.tpal_machine.specs.declared.ends.End.TheVariants.{At}
 use Rattle.tpal_machine.specs.declared.ends.SideName.TheVariants.{Left}
-use Rattle.join_records.specs.declared.views.Stage.TheVariants.{Steady}
+use Rattle.join_records.specs.declared.views.CallState.TheVariants.{Steady}
 use Rattle.join_records.specs.Views.{in_hand, NoneMet, opened_view, one_opened, with_ends}
 use Rattle.join_records.specs.Views.{with_hand, read, holds_end}
 use Rattle.join_records.proofs.Functions.{dropped_twice}

@@ -5,7 +5,7 @@ use Rattle.join_records.specs.Views.{with_ends, read, holds_end}
 use Rattle.join_records.specs.Answers.{claimed_view}
 use Rattle.tpal_machine.specs.declared.ends.End.TheVariants.{At}
 use Rattle.tpal_machine.specs.declared.ends.SideName.TheVariants.{Right}
-use Rattle.join_records.specs.declared.views.Stage.TheVariants.{Steady}
+use Rattle.join_records.specs.declared.views.CallState.TheVariants.{Steady}
 use Rattle.join_records.proofs.Calls.{front, front_is, child_is}
 use Rattle.join_records.proofs.Claiming.{claims, gives_child}
 use Rattle.join_records.proofs.table.Records.try_claim.Goals as goal

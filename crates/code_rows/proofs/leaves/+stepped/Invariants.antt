@@ -1,4 +1,0 @@
-use Rattle.code_rows.proofs.leaves.+stepped.Given as goal
-
-abbrev pub decreases-stepped : goal.decreases-stepped
-decreases-stepped l = l.steps

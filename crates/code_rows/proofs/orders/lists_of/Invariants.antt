@@ -1,6 +1,0 @@
-use Rattle.std.proofs.Common.{◌≡◌, length}
-use Rattle.code_rows.proofs.orders.lists_of.Given as goal
-
--- a list for each worker so far
-abbrev pub invariant-loop-worker : goal.invariant-loop-worker
-invariant-loop-worker l = length l.lists.items ≡ l.worker

@@ -1,5 +1,0 @@
-use Rattle.core_rows.proofs.events.+stepped.Given as goal
-
--- the instructions left
-abbrev pub decreases-stepped : goal.decreases-stepped
-decreases-stepped l = l.times

@@ -1,4 +1,0 @@
-use Rattle.machine_rows.proofs.codes.+fault_from.Given as goal
-
-abbrev pub decreases-fault_from : goal.decreases-fault_from
-decreases-fault_from l = l.turns

@@ -1,4 +1,0 @@
-use Rattle.machine_rows.proofs.ops.+ending_of.Given as goal
-
-abbrev pub decreases-ending_of : goal.decreases-ending_of
-decreases-ending_of l = l.turns

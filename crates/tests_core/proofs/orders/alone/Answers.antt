@@ -1,0 +1,12 @@
+use Rattle.std.proofs.Common.{[], ◌∷◌, ◌++◌}
+use Rattle.std.specs.Fmt.{signed_decimal}
+use Rattle.std.specs.Prelude.{pos}
+use Rattle.tp_value.specs.declared.values.Stop.TheVariants.{Done}
+use Rattle.sum_code.specs.Sum.{sum_of}
+use Rattle.tests_core.proofs.orders.alone.Goals as goal
+
+pub solo_run-requires-clause-owes : goal.solo_run-requires-clause-owes
+solo_run-requires-clause-owes c = (
+  record { stop = Done; output = signed_decimal (pos (sum_of 100 0)) ++ 10 ∷ []; ticks = 0 },
+  rw c.job_of.ensures (c.sum_is_owed.ensures c.args.plan.heartbeat 1000),
+)
