@@ -4,8 +4,8 @@
 set -eu
 cd "$(dirname "$0")/.."
 blocks=${BLOCKS:-60000}
-(cd crates/benches && rt run -- assemble 3 1 >/dev/null)
-python3 - crates/benches/out/benches "$blocks" <<'PY'
+(cd crates/bench_compiler && rt run -- assemble 3 1 >/dev/null)
+python3 - crates/bench_compiler/out/bench_compiler "$blocks" <<'PY'
 import os, subprocess, sys, tempfile
 program, blocks = sys.argv[1:]
 text = tempfile.NamedTemporaryFile()

@@ -1,11 +1,11 @@
 #!/usr/bin/env bash
 # MB/s of the printer, beside `wc -l` on the same text in the same run. Build first: `rt run -- print 2 1`
-# in crates/benches. The text has BLOCKS blocks; building it costs one printing's time at most.
+# in crates/bench_compiler. The text has BLOCKS blocks; building it costs one printing's time at most.
 set -eu
 cd "$(dirname "$0")/.."
 blocks=${BLOCKS:-60000}
 times=${TIMES:-40}
-program=crates/benches/out/benches
+program=crates/bench_compiler/out/bench_compiler
 text=$(mktemp)
 trap 'rm -f "$text"' EXIT
 "$program" print "$blocks" 1 > "$text"

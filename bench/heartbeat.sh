@@ -1,5 +1,5 @@
 #!/usr/bin/env bash
-# What heartbeats cost compiled programs that one worker runs: those that `lower` of crates/benches
+# What heartbeats cost compiled programs that one worker runs: those that `lower` of crates/bench_compiler
 # counts, and larger ones, at heartbeats from 1 to 10^9. Prints for each, against the run at 10^9: the
 # processor time, the least of RUNS with all in turn, the x86 instructions that callgrind counts (not
 # for the larger ones, nor for a program that it can't run), the machine's instructions, and the tasks
@@ -16,7 +16,7 @@ python3 - "$program" "$runs" "$@" <<'PY'
 import os, re, subprocess, sys, tempfile
 program, runs, chosen = sys.argv[1], int(sys.argv[2]), sys.argv[3:]
 beats = [10 ** 9, 10_000, 1_000, 100, 10, 1]
-listed = open("crates/benches/src/lowering.rt").read()
+listed = open("crates/bench_compiler/src/lowering.rt").read()
 small = dict(re.findall(r'\(\s*"([^"]+)",\s*"([^"]+)",?\s*\)', listed))
 large = {
     "large par with fold": """main {

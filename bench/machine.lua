@@ -1,4 +1,4 @@
--- The two codes of crates/machine_bench as plain Lua, so many times: the sum of the squares of a table of
+-- The two codes of crates/bench_machine as plain Lua, so many times: the sum of the squares of a table of
 -- 1000 by 1000 sevens, which is made once, and fib of 24. Prints the last result.
 local name, times = arg[1], tonumber(arg[2])
 

@@ -8,10 +8,10 @@ cd "$(dirname "$0")/.."
 work=$(mktemp -d)
 trap 'rm -rf "$work"' EXIT
 rustc --edition 2021 -O -o "$work/twin" bench/machine.rs
-(cd crates/machine_bench && rt run -- fib 1 >/dev/null)
-python3 - crates/machine_bench/out/machine_bench "$work/twin" <<'PY'
+(cd crates/bench_machine && rt run -- codes fib 1 >/dev/null)
+python3 - crates/bench_machine/out/bench_machine "$work/twin" <<'PY'
 import os, re, shutil, subprocess, sys
-programs = [[program] for program in sys.argv[1:]]
+programs = [[sys.argv[1], "codes"], [sys.argv[2]]]
 lua = shutil.which("lua5.4")
 timed = programs + ([[lua, "bench/machine.lua"]] if lua else [])
 def spent(program, name, times):

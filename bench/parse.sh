@@ -4,8 +4,8 @@
 set -eu
 cd "$(dirname "$0")/.."
 lines=${LINES_OF_SOURCE:-16500}
-(cd crates/benches && rt run -- parse 4 1 >/dev/null)
-python3 - crates/benches/out/benches "$lines" <<'PY'
+(cd crates/bench_compiler && rt run -- parse 4 1 >/dev/null)
+python3 - crates/bench_compiler/out/bench_compiler "$lines" <<'PY'
 import os, subprocess, sys, tempfile
 program, lines = sys.argv[1:]
 source = tempfile.NamedTemporaryFile()

@@ -1,4 +1,4 @@
-// The plain Rust twin of `benches tables`: the same text, the same reading, the same sum.
+// The plain Rust twin of `bench_compiler tables`: the same text, the same reading, the same sum.
 
 use std::collections::BTreeSet;
 use std::io::Write;

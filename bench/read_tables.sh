@@ -7,8 +7,8 @@ cd "$(dirname "$0")/.."
 work=$(mktemp -d)
 trap 'rm -rf "$work"' EXIT
 rustc --edition 2021 -O -C target-cpu=x86-64-v2 -o "$work/twin" bench/read_tables.rs
-(cd crates/benches && rt run -- tables 3 2 >/dev/null)
-python3 - crates/benches/out/benches "$work/twin" <<'PY'
+(cd crates/bench_compiler && rt run -- tables 3 2 >/dev/null)
+python3 - crates/bench_compiler/out/bench_compiler "$work/twin" <<'PY'
 import os, subprocess, sys
 ours, twin = [sys.argv[1], "tables"], [sys.argv[2]]
 for side in ("3", "100"):

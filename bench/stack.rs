@@ -1,4 +1,4 @@
-// The same loads as `stack_bench`, on cells in a vector with the marks in a queue beside them: a
+// The same loads as `bench_machine marks`, on cells in a vector with the marks in a queue beside them: a
 // mark is sought from the newest on, and a cut looks at each mark.
 use std::collections::VecDeque;
 

@@ -1,4 +1,4 @@
-// The same reads and writes as `slices_bench`, on plain vectors with bounds checks. The walks
+// The same reads and writes as `bench_machine tables`, on plain vectors with bounds checks. The walks
 // `access`, `rows` and `columns` go over a table that learns its sizes when it runs, as `Held` does,
 // and owes the tests of a checked table: of the row, of the column and of the vector's index.
 // `fixed_access`, `fixed_rows` and `fixed_columns` go over one whose sizes stand in the code: there

@@ -5,16 +5,17 @@
 # and copies) in one run. `plain` is a vector in a table that learns its sizes when it runs, as ours
 # does, and tests the row, the column and the index at each cell. `fixed` is one whose sizes stand in
 # the code: there rustc takes every test out, and makes the walk along rows a vector loop.
-# Build first: `rt run -- cuts 1` in crates/slices_bench. Each load runs twice, so that starting up
-# falls out, and three times over, of which the least counts. With the path of another build's
-# program as argument its walks are compared too.
+# Build first: `rt run -- tables cuts 1` in crates/bench_machine. Each load runs twice, so that starting up
+# falls out, and three times over, of which the least counts. With another build's program as
+# argument, its path and the word `tables` as one, its walks are compared too.
 set -eu
 cd "$(dirname "$0")/.."
-program=crates/slices_bench/out/slices_bench
+program="crates/bench_machine/out/bench_machine tables"
 twin=$(mktemp -d)
 trap 'rm -rf "$twin"' EXIT
 rustc -O -o "$twin/tables" bench/tables.rs
-spent() { { TIMEFORMAT='%U %S'; time "$@" > /dev/null; } 2>&1 | awk '{ print $1 + $2 }'; }
+# spent PROGRAM WORDS: a program may be followed by a word of its own
+spent() { { TIMEFORMAT='%U %S'; time $1 "${@:2}" > /dev/null; } 2>&1 | awk '{ print $1 + $2 }'; }
 least() { for _ in 1 2 3; do spent "$@"; done | sort -g | head -1; }
 # load PROGRAM NAME TIMES: the seconds of so many rounds
 load() { awk -v a="$(least "$1" "$2" 1)" -v b="$(least "$1" "$2" $(($3 + 1)))" -v n="$3" 'BEGIN { print (b - a) / n }'; }

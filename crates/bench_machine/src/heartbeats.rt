@@ -1,8 +1,5 @@
-//! Adds the numbers below a count by a loop that may be cut, and writes what the run printed and
-//! its counts: the load of `bench/core.sh`. `core_bench plain COUNT` runs one task with no
-//! diversion, `core_bench HEARTBEAT COUNT` makes a solo run. It stands on `schedule_core`. Other
-//! words, and numbers out of range, give status 2.
-#![tactic(auto)]
+// Adds the numbers below a count by a loop that may be cut: the loads of `bench/core.sh`. `plain`
+// runs one task with no diversion, and a heartbeat makes a solo run.
 
 ghost use Rattle.std.specs.Prelude.{◌≡◌, ◌≤◌, ◌^◌, []};
 ghost use Rattle.sum_code.specs.Sum as sum;
@@ -10,9 +7,9 @@ ghost use Rattle.tp_value.specs.declared.limits.TheConstants.{MAX_BEAT};
 
 use schedule_core::{Job, Report, solo_run};
 use std::alloc::Global;
+use std::io;
 use std::io::Write;
 use std::process::ExitCode;
-use std::{env, io};
 use sum_code::laws::sum_is_owed;
 use sum_code::sum_below;
 use tp_value::{Items, MAX_BEAT, MAX_FORKS, NoMemory};
@@ -68,7 +65,11 @@ fn solo(alloc: Global, code: &Code, count: u32, heartbeat: u64) -> Result<Report
 }
 
 /// What a run came to: with no diversion, or by a heartbeat. None where a number is out of range.
-fn run(alloc: Global, heartbeat: Option<u64>, count: u32) -> Result<Option<Report>, NoMemory> {
+fn report_of(
+    alloc: Global,
+    heartbeat: Option<u64>,
+    count: u32,
+) -> Result<Option<Report>, NoMemory> {
     if count == 0 || count > MAX_COUNT {
         return Ok(None);
     }
@@ -103,19 +104,14 @@ fn write_report(rt: &HostRuntime, report: &Report) -> io::Result<()> {
     )
 }
 
-fn main(rt: HostRuntime) -> io::Result<ExitCode> {
-    let mut words = env::args(&rt)?;
-    let _program = words.next();
-    let (Some(kind), Some(count)) = (words.next(), words.next()) else {
+/// Writes what the run printed and its counts. Other kinds, and numbers out of range, give status 2.
+pub fn run(rt: &HostRuntime, kind: &str, count: u32) -> io::Result<ExitCode> {
+    let Some(heartbeat) = heartbeat_of(kind) else {
         return Ok(ExitCode::from(2));
     };
-    let (Some(heartbeat), Ok(count)) = (heartbeat_of(kind.as_str()), count.as_str().parse::<u32>())
-    else {
-        return Ok(ExitCode::from(2));
-    };
-    match run(rt.alloc(), heartbeat, count) {
+    match report_of(rt.alloc(), heartbeat, count) {
         Ok(Some(report)) => {
-            write_report(&rt, &report)?;
+            write_report(rt, &report)?;
             Ok(ExitCode::SUCCESS)
         }
         Ok(None) => Ok(ExitCode::from(2)),

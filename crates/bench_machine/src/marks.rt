@@ -1,13 +1,10 @@
-//! Marks a thousand cells of a stack and takes the marks away, the oldest first, or cuts a stack of
-//! 100,000 cells with 1,000 marks at its lowest activation, so many times: the load of
-//! `bench/stack.sh`. It stands on `stack_marks`. Without a name and a number as arguments it writes
-//! nothing.
-#![tactic(auto)]
+// Marks a thousand cells of a stack and takes the marks away, the oldest first, or cuts a stack of
+// 100,000 cells with 1,000 marks at its lowest activation: the loads of `bench/stack.sh`.
 
 use stack_marks::{Mark, Stack, StackFault};
 use std::alloc::Global;
+use std::io;
 use std::process::ExitCode;
-use std::{env, io};
 use tpal_syntax::{CutKind, Word};
 
 const CELLS: u32 = 100_000;
@@ -82,20 +79,13 @@ fn load(alloc: Global, name: &str, times: u32) -> Result<i64, StackFault> {
     marks(stack, times)
 }
 
-fn main(rt: HostRuntime) -> io::Result<ExitCode> {
-    let mut words = env::args(&rt)?;
-    let _program = words.next();
-    let (Some(name), Some(times)) = (words.next(), words.next()) else {
-        return Ok(ExitCode::from(2));
-    };
-    match times.as_str().parse::<u32>() {
-        Ok(times) => match load(rt.alloc(), name.as_str(), times) {
-            Ok(sum) => {
-                println!(rt; "{sum}")?;
-                Ok(ExitCode::SUCCESS)
-            }
-            Err(_) => Ok(ExitCode::FAILURE),
-        },
-        Err(_) => Ok(ExitCode::from(2)),
+/// Writes what so many rounds of the load come to.
+pub fn run(rt: &HostRuntime, name: &str, times: u32) -> io::Result<ExitCode> {
+    match load(rt.alloc(), name, times) {
+        Ok(sum) => {
+            println!(rt; "{sum}")?;
+            Ok(ExitCode::SUCCESS)
+        }
+        Err(_) => Ok(ExitCode::FAILURE),
     }
 }

@@ -1,5 +1,5 @@
 use Rattle.std.proofs.Common.{◌≡◌, length}
-use Rattle.benches.proofs.lowering.held.Given as goal
+use Rattle.bench_compiler.proofs.lowering.held.Given as goal
 
 abbrev pub invariant-loop : goal.invariant-loop
 invariant-loop l = length l.all.items ≡ l.index

@@ -1,13 +1,11 @@
-//! Reads and writes cells of a table along rows, along columns and at random, cuts and appends it,
-//! or copies its cells, so many times: the loads of `bench/tables.sh`. It stands on `slices`.
-//! Without a name and a number as arguments it writes nothing. A name that begins with `cut_` reads
-//! and writes a table that was cut and put together again.
-#![tactic(auto)]
+// Reads and writes cells of a table along rows, along columns and at random, cuts and appends it,
+// or copies its cells: the loads of `bench/tables.sh`. A name that begins with `cut_` reads and
+// writes a table that was cut and put together again.
 
 use slices::Held;
 use std::alloc::Global;
+use std::io;
 use std::process::ExitCode;
-use std::{env, io};
 use tp_value::NoMemory;
 
 const SIDE: u32 = 2000;
@@ -194,20 +192,13 @@ fn load(alloc: Global, name: &str, times: u32) -> Result<i64, NoMemory> {
     walks(&mut held, name, times)
 }
 
-fn main(rt: HostRuntime) -> io::Result<ExitCode> {
-    let mut words = env::args(&rt)?;
-    let _program = words.next();
-    let (Some(name), Some(times)) = (words.next(), words.next()) else {
-        return Ok(ExitCode::from(2));
-    };
-    match times.as_str().parse::<u32>() {
-        Ok(times) => match load(rt.alloc(), name.as_str(), times) {
-            Ok(sum) => {
-                println!(rt; "{sum}")?;
-                Ok(ExitCode::SUCCESS)
-            }
-            Err(NoMemory) => Ok(ExitCode::FAILURE),
-        },
-        Err(_) => Ok(ExitCode::from(2)),
+/// Writes what so many rounds of the load come to.
+pub fn run(rt: &HostRuntime, name: &str, times: u32) -> io::Result<ExitCode> {
+    match load(rt.alloc(), name, times) {
+        Ok(sum) => {
+            println!(rt; "{sum}")?;
+            Ok(ExitCode::SUCCESS)
+        }
+        Err(NoMemory) => Ok(ExitCode::FAILURE),
     }
 }

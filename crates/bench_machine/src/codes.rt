@@ -1,17 +1,14 @@
-//! Runs a code written by hand, so many times, and writes what it printed and the steps of all
-//! runs: the load of `bench/machine.sh`. `sum` adds the squares of a table of 1000 by 1000 cells,
-//! `fib` calls itself on its stack. It stands on `tpal_machine`. Without a name and a number as
-//! arguments it writes nothing.
-#![tactic(auto)]
+// Runs a code written by hand: the loads of `bench/machine.sh`. `sum` adds the squares of a table of
+// 1000 by 1000 cells, `fib` calls itself on its stack.
 
 ghost use Rattle.std.specs.Prelude.{◌≡◌, length, IfOk, IfSome};
 ghost use Rattle.tpal_machine.specs.Belonging.{RunsOn};
 
 use slices::Held;
 use std::alloc::Global;
+use std::io;
 use std::io::Write;
 use std::process::ExitCode;
-use std::{env, io};
 use tp_value::{Items, NoMemory, Outcome};
 use tpal_machine::{Pace, Task, Turn, run_task};
 use tpal_syntax::{Alu, Block, Code, CodeTable, Instr, Note, Term, Value};
@@ -224,7 +221,7 @@ fn fib(alloc: Global) -> Result<Option<(u64, Outcome)>, NoMemory> {
     }
 }
 
-fn run(alloc: Global, name: &str) -> Result<Option<(u64, Outcome)>, NoMemory> {
+fn run_once(alloc: Global, name: &str) -> Result<Option<(u64, Outcome)>, NoMemory> {
     if name == "fib" {
         fib(alloc)
     } else {
@@ -237,7 +234,7 @@ fn runs(alloc: Global, name: &str, times: u32) -> Result<(u64, Vec<u8>), NoMemor
     let mut steps: u64 = 0;
     let mut output = Vec::new(alloc);
     for _ in 0..times {
-        if let Some((more, outcome)) = run(alloc, name)? {
+        if let Some((more, outcome)) = run_once(alloc, name)? {
             steps = steps.wrapping_add(more);
             output = outcome.output.into_vec();
         }
@@ -245,21 +242,14 @@ fn runs(alloc: Global, name: &str, times: u32) -> Result<(u64, Vec<u8>), NoMemor
     Ok((steps, output))
 }
 
-fn main(rt: HostRuntime) -> io::Result<ExitCode> {
-    let mut words = env::args(&rt)?;
-    let _program = words.next();
-    let (Some(name), Some(times)) = (words.next(), words.next()) else {
-        return Ok(ExitCode::from(2));
-    };
-    match times.as_str().parse::<u32>() {
-        Ok(times) => match runs(rt.alloc(), name.as_str(), times) {
-            Ok((steps, output)) => {
-                io::writer(&rt).write_all(&output)?;
-                println!(rt; "{steps}")?;
-                Ok(ExitCode::SUCCESS)
-            }
-            Err(NoMemory) => Ok(ExitCode::FAILURE),
-        },
-        Err(_) => Ok(ExitCode::from(2)),
+/// Writes what the last of so many runs printed, and the steps of all of them.
+pub fn run(rt: &HostRuntime, name: &str, times: u32) -> io::Result<ExitCode> {
+    match runs(rt.alloc(), name, times) {
+        Ok((steps, output)) => {
+            io::writer(rt).write_all(&output)?;
+            println!(rt; "{steps}")?;
+            Ok(ExitCode::SUCCESS)
+        }
+        Err(NoMemory) => Ok(ExitCode::FAILURE),
     }
 }

@@ -3,7 +3,7 @@ use Rattle.std.specs.Fmt.{signed_decimal}
 use Rattle.std.specs.Prelude.{pos}
 use Rattle.tp_value.specs.declared.values.Stop.TheVariants.{Done}
 use Rattle.sum_code.specs.Sum.{sum_of}
-use Rattle.core_bench.proofs.solo.Goals as goal
+use Rattle.bench_machine.proofs.heartbeats.solo.Goals as goal
 
 pub solo_run-requires-clause-owes : goal.solo_run-requires-clause-owes
 solo_run-requires-clause-owes c = (
