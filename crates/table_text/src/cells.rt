@@ -8,14 +8,16 @@ use crate::fault::TableFault;
 use crate::number::read_number;
 use std::alloc::Global;
 
-// The numbers of a table's cells, and the first byte behind them.
+/// The numbers of a table's cells.
 #[derive(Drop)]
 pub struct Cells {
+    /// The numbers, row by row.
     pub values: Vec<i64>,
+    /// The first byte behind the last.
     pub end: usize,
 }
 
-// So many numbers from there on.
+/// So many numbers from a byte on, or `Form` with the byte of the first token that is none.
 pub fn read_cells(
     alloc: Global,
     text: &[u8],

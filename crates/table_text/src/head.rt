@@ -13,10 +13,12 @@ use crate::word::{TableToken, is_word, next_word, run_at};
 use std::collections::BTreeSet;
 use tp_value::{MAX_SIDE, MAX_TABLE_CELLS};
 
-// A number of rows or columns, and the first byte behind it.
+/// A number of rows or columns.
 #[derive(Clone, Copy)]
 pub struct Size {
+    /// The number, at most `MAX_SIDE`.
     pub value: u32,
+    /// The first byte behind it.
     pub end: usize,
 }
 
@@ -26,7 +28,7 @@ fn is_table_word(bytes: &[u8]) -> bool
     bytes == b"table".as_slice()
 }
 
-// The next token, which the text must have.
+/// The next token, which the text must have.
 fn wanted_word(text: &[u8], from: usize) -> Result<TableToken<'_>, TableFault>
     requires { from ≤ length text.now }
     ensures word { IfOk result (λ word.
@@ -43,7 +45,7 @@ fn wanted_word(text: &[u8], from: usize) -> Result<TableToken<'_>, TableFault>
     }
 }
 
-// The next token as a name that isn't among the names, which it joins.
+/// The next token as a name that isn't among the names, which it joins.
 fn read_name<'a>(
     text: &'a [u8],
     from: usize,
@@ -74,7 +76,7 @@ fn read_name<'a>(
     Ok(word)
 }
 
-// The next token as a number of rows or columns of `each` cells, where `cells` are there already.
+/// The next token as a number of rows or columns of `each` cells, where `cells` are there already.
 fn read_size(text: &[u8], from: usize, cells: u32, each: u32) -> Result<Size, TableFault>
     requires from { from ≤ length text.now }
     requires cells { cells ≤ MAX_TABLE_CELLS }
@@ -107,17 +109,22 @@ fn read_size(text: &[u8], from: usize, cells: u32, each: u32) -> Result<Size, Ta
     })
 }
 
-// The first tokens of a table, and the first byte behind them.
+/// What the first tokens of a table say.
 #[derive(Clone, Copy)]
 pub struct Head<'a> {
+    /// The name.
     pub name: &'a [u8],
+    /// The number of rows, at most `MAX_SIDE`.
     pub rows: u32,
+    /// The number of columns, at most `MAX_SIDE`.
     pub cols: u32,
+    /// The first byte behind these tokens.
     pub end: usize,
 }
 
-// A table's first tokens, of which the first one is `word`; all tables so far have `cells` cells,
-// and their names are `names`, which the new name joins.
+/// A table's first tokens, of which the first one is `word`; all tables so far have `cells` cells,
+/// and their names are `names`, which the new name joins. It is refused at the first token that
+/// doesn't fit, a size that is too great, or a name that is there already.
 pub fn read_head<'a>(
     text: &'a [u8],
     word: &TableToken<'a>,

@@ -7,6 +7,7 @@
 mod cells;
 mod fault;
 mod head;
+/// Laws of tables texts.
 pub mod laws;
 mod names;
 mod number;

@@ -6,7 +6,7 @@ ghost use Rattle.table_text.specs.Reading.{has_name};
 use std::alloc::AllocError;
 use std::collections::BTreeSet;
 
-// Adds a name: answers whether it is new. A tree, so that no choice of names makes it slow.
+/// Adds a name, and answers whether it is new. A tree, so that no choice of names makes it slow.
 pub fn add_name<'a>(names: &mut BTreeSet<&'a [u8]>, name: &'a [u8]) -> Result<bool, AllocError>
     ensures is_new { IfOk result (λ is_new. is_new ≡ not (has_name names.old name.now)) }
     ensures names { OnOk result ((other : List ℕ) →

@@ -10,21 +10,23 @@ ghost use Rattle.table_text.specs.declared.fault.TableFault.TheVariants.{Form};
 use crate::fault::TableFault;
 use crate::word::{is_blank, run_at, skip_blanks};
 
-// A number, and the first byte behind it.
+/// The number of a cell.
 #[derive(Clone, Copy)]
 pub struct Number {
+    /// The number.
     pub value: i64,
+    /// The first byte behind it.
     pub end: usize,
 }
 
-// Whether a token goes on at that byte.
+/// Whether a token goes on at that byte.
 fn goes_on(text: &[u8], at: usize) -> bool
     ensures { result ≡ (nat_lt at (length text.now) && not (is_blank (slice_index text.now at))) }
 {
     at < text.len() && !is_blank(text[at])
 }
 
-// The number, or its negation, where it has 64 bits.
+/// The number, or its negation, where it has 64 bits.
 fn signed(is_negative: bool, value: u64) -> Option<i64>
     ensures some { is_some result ≡ is_64_bits (signed_value is_negative value) }
     ensures value { IfSome result (λ number. number ≡ signed_value is_negative value) }
@@ -41,7 +43,7 @@ fn signed(is_negative: bool, value: u64) -> Option<i64>
     }
 }
 
-// The number of the token that begins at that byte.
+/// The number of the token that begins at that byte.
 fn number_at(text: &[u8], start: usize) -> Option<Number>
     requires inside { start < length text.now }
     requires begins { is_blank (slice_index text.now start) ≡ false }
@@ -68,7 +70,8 @@ fn number_at(text: &[u8], start: usize) -> Option<Number>
     }
 }
 
-// The next token's number. It takes no memory.
+/// The next token's number, or `Form` with its byte where it is none of 64 bits, or the text ends. It
+/// takes no memory.
 pub fn read_number(text: &[u8], from: usize) -> Result<Number, TableFault>
     requires { from ≤ length text.now }
     ensures number { IfOk result (λ number.

@@ -33,7 +33,7 @@ pub fn read_tables(alloc: Global, text: &[u8]) -> Result<Vec<Table>, TableFault>
     read_text(alloc, text)
 }
 
-// The same in the reader's words.
+/// The same in the reader's words.
 fn read_text(alloc: Global, text: &[u8]) -> Result<Vec<Table>, TableFault>
     ensures tables { IfOk result (λ tables.
         read (length text.now) (tokens_at text.now 0) (Between []) ≡ Ok tables.items) }
@@ -54,15 +54,15 @@ fn read_text(alloc: Global, text: &[u8]) -> Result<Vec<Table>, TableFault>
     Ok(tables)
 }
 
-// A table, and the first byte behind it.
+/// A table, and the first byte behind it.
 #[derive(Drop)]
 struct NextTable {
     table: Table,
     end: usize,
 }
 
-// The table whose first token is `word`; all tables so far have `cells` cells, and their names are
-// `names`, which the new name joins.
+/// The table whose first token is `word`; all tables so far have `cells` cells, and their names are
+/// `names`, which the new name joins.
 fn read_table<'a>(
     alloc: Global,
     text: &'a [u8],

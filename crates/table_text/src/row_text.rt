@@ -21,7 +21,7 @@ pub fn push_row_text(out: &mut Vec<u8>, row: &[i64]) -> Result<(), NoMemory>
     pushed
 }
 
-// Appends the line, or where memory is wanting a part of it.
+/// Appends the line, or where memory is wanting a part of it.
 fn push_line(out: &mut Vec<u8>, row: &[i64]) -> Result<(), NoMemory>
     ensures line { OnOk result (out.new.items ≡ out.old.items ++ row_text row.now) }
     ensures kept { take (length out.old.items) out.new.items ≡ out.old.items }
@@ -33,7 +33,7 @@ fn push_line(out: &mut Vec<u8>, row: &[i64]) -> Result<(), NoMemory>
     Ok(())
 }
 
-// Appends a number, behind a space where it isn't the first.
+/// Appends a number, behind a space where it isn't the first.
 fn push_number(out: &mut Vec<u8>, is_first: bool, number: i64) -> Result<(), NoMemory>
     ensures number { OnOk result
         (out.new.items

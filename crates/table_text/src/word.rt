@@ -8,21 +8,25 @@ ghost use Rattle.table_text.specs.Token.{is_blank, is_token_byte, is_word_start,
 ghost use Rattle.table_text.specs.Token.{is_word, run_value};
 ghost use Rattle.table_text.specs.Reading.{tokens_at};
 
-// A token of a text, with its first byte and the first one behind it.
+/// A token of a text.
 #[derive(Clone, Copy)]
 pub struct TableToken<'a> {
+    /// Its first byte, by position in the text.
     pub at: usize,
+    /// Its bytes, at least one.
     pub bytes: &'a [u8],
+    /// The first byte behind it.
     pub end: usize,
 }
 
+/// Whether a byte is a space, a tab, a carriage return or a line end.
 pub fn is_blank(byte: u8) -> bool
     ensures { result ≡ is_blank byte }
 {
     byte == b' ' || byte == b'\t' || byte == b'\r' || byte == b'\n'
 }
 
-// The first byte from there on that is no blank, or the text's length.
+/// The first byte from another on that is no blank, or the text's length.
 pub fn skip_blanks(text: &[u8], from: usize) -> usize
     requires { from ≤ length text.now }
     ensures behind { from ≤ result }
@@ -37,7 +41,7 @@ pub fn skip_blanks(text: &[u8], from: usize) -> usize
     at
 }
 
-// The first blank from there on, or the text's length.
+/// The first blank from there on, or the text's length.
 fn skip_word(text: &[u8], from: usize) -> usize
     requires { from ≤ length text.now }
     ensures behind { from ≤ result }
@@ -52,7 +56,7 @@ fn skip_word(text: &[u8], from: usize) -> usize
     at
 }
 
-// The next token from there on.
+/// The next token from a byte on; none where only blanks are left.
 pub fn next_word(text: &[u8], from: usize) -> Option<TableToken<'_>>
     requires { from ≤ length text.now }
     ensures none { IfNone result (tokens_at text.now from ≡ []) }
@@ -74,17 +78,19 @@ pub fn next_word(text: &[u8], from: usize) -> Option<TableToken<'_>>
     })
 }
 
-// A run of digits: its value, or `TOO_GREAT` where it isn't below that, and the first byte behind.
+/// A run of digits, which may be empty.
 #[derive(Clone, Copy)]
 pub struct Run {
+    /// Its value, or `TOO_GREAT` where it isn't below that; 0 where there is no digit.
     pub value: u64,
+    /// The first byte behind it.
     pub end: usize,
 }
 
 /// Greater than every number of 64 bits, with a sign or without its minus.
 pub const TOO_GREAT: u64 = 9_223_372_036_854_775_809;
 
-// The greatest value to which a digit may be added below `TOO_GREAT`.
+/// The greatest value to which a digit may be added below `TOO_GREAT`.
 const LAST_BEFORE: u64 = 922_337_203_685_477_580;
 
 fn with_digit(value: u64, digit: u8) -> u64
@@ -99,7 +105,7 @@ fn with_digit(value: u64, digit: u8) -> u64
     }
 }
 
-// The digits from there on.
+/// The run of digits from a byte on.
 pub fn run_at(text: &[u8], from: usize) -> Run
     requires { from ≤ length text.now }
     ensures behind { from ≤ result.end }
@@ -131,7 +137,7 @@ fn is_word_byte(byte: u8) -> bool
     byte.is_ascii_alphanumeric() || byte == b'_'
 }
 
-// Whether the bytes have the form of a name.
+/// Whether the bytes have the form of a name.
 pub fn is_word(bytes: &[u8]) -> bool
     ensures { result ≡ is_word bytes.now }
 {

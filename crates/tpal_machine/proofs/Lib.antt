@@ -42,23 +42,11 @@ pub mod Undiverted
 pub mod Kit
 -- a code written by hand, and what it owes
 pub mod Sample
--- steps that go on, counted afterwards
-pub mod Further
--- a register that was set, by a calculation or with a word
-pub mod Registers
--- what the parts of an op came to, with others behind them
-pub mod Coming
--- a tick that goes on, and the parts behind it
-pub mod Ticks
--- ops that go on and ops that jump, as steps of a turn
-pub mod OpSteps
--- the test of a place that passes, and reads and writes of cells behind it
-pub mod Places
--- a run over the ops of a code
-pub mod Running
 -- what takes memory
 pub mod Memory
 -- what a step, a turn, an answer and a merge keep
 pub mod Keeping
 -- what a task owes after a step and after a turn
 pub mod Owed
+-- ops, and runs over those of a code
+pub mod OpLaws

@@ -28,12 +28,6 @@ pub mod Seen
 pub mod Fit
 -- what the code answers for an effect, a step and a turn
 pub mod Answer
--- instructions that go on to the next one of their block
-pub mod Passing
--- what an op does where nothing can divert the task
-pub mod Acting
--- a run over the ops of a code
-pub mod Running
 -- what a step, a turn and a merge give belongs to the code
 pub mod Belonging
 -- what a task will end with, whatever is promoted
@@ -50,3 +44,5 @@ pub mod Keeping
 pub mod Owed
 -- what takes memory
 pub mod Memory
+-- the fast road: what ops do, and runs over those of a code
+pub mod Ops

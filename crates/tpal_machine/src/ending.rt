@@ -13,7 +13,7 @@ ghost use Rattle.tpal_syntax.specs.Parts.{table_of};
 use crate::blocks::{carries_of, renames_of};
 use crate::ends::{Ending, Goal, Side};
 use crate::records::register;
-use crate::task::Frame;
+use crate::task::Machine;
 use slices::Held;
 use std::alloc::Global;
 use std::mem::replace;
@@ -94,15 +94,15 @@ fn slices_of(
 
 /// A side that stopped.
 #[tactic(auto, using(crate::proofs::Memory::done_is))]
-fn side_of(frame: Box<Frame>, code: &Code, target: u32, stop: Stop) -> Result<Side, NoMemory>
+fn side_of(machine: Box<Machine>, code: &Code, target: u32, stop: Stop) -> Result<Side, NoMemory>
     ensures side { IfOk result (λ side.
-        side ≡ side_of (the_target code.now target) stop (state_of frame.value)) }
+        side ≡ side_of (the_target code.now target) stop (state_of machine.value)) }
     ensures memory { OnErr result (stop ≡ stops.Done) }
 {
-    let mut frame = frame;
-    let alloc = *frame.output.allocator();
-    let ticks = frame.fuel.spent();
-    let output = replace(&mut frame.output, Vec::new(alloc));
+    let mut machine = machine;
+    let alloc = *machine.output.allocator();
+    let ticks = machine.fuel.spent();
+    let output = replace(&mut machine.output, Vec::new(alloc));
     if !is_done(stop) {
         return Ok(Side {
             stop,
@@ -112,8 +112,8 @@ fn side_of(frame: Box<Frame>, code: &Code, target: u32, stop: Stop) -> Result<Si
             slices: Items::new(Vec::new(alloc)),
         });
     }
-    let words = words_of(alloc, &frame.registers, renames_of(code, target))?;
-    let tables = replace(&mut frame.tables, Vec::new(alloc));
+    let words = words_of(alloc, &machine.registers, renames_of(code, target))?;
+    let tables = replace(&mut machine.tables, Vec::new(alloc));
     let slices = slices_of(alloc, tables, carries_of(code, target))?;
     Ok(Side {
         stop,
@@ -125,23 +125,23 @@ fn side_of(frame: Box<Frame>, code: &Code, target: u32, stop: Stop) -> Result<Si
 }
 
 /// What a task ends with, by a stop.
-pub(crate) fn ended(frame: Box<Frame>, code: &Code, stop: Stop) -> Result<Ending, NoMemory>
-    ensures ended { IfOk result (λ ending. ending ≡ ended code.now stop (state_of frame.value)) }
-    ensures memory { OnErr result (Collects (Ends (ended code.now stop (state_of frame.value)))) }
+pub(crate) fn ended(machine: Box<Machine>, code: &Code, stop: Stop) -> Result<Ending, NoMemory>
+    ensures ended { IfOk result (λ ending. ending ≡ ended code.now stop (state_of machine.value)) }
+    ensures memory { OnErr result (Collects (Ends (ended code.now stop (state_of machine.value)))) }
 {
-    match frame.goal {
+    match machine.goal {
         Goal::Root => {
-            let mut frame = frame;
-            let alloc = *frame.output.allocator();
-            let output = replace(&mut frame.output, Vec::new(alloc));
+            let mut machine = machine;
+            let alloc = *machine.output.allocator();
+            let output = replace(&mut machine.output, Vec::new(alloc));
             Ok(Ending::Root(Outcome {
                 stop,
-                ticks: frame.fuel.spent(),
+                ticks: machine.fuel.spent(),
                 output: Items::new(output),
             }))
         }
         Goal::At { rec, side, target } => {
-            let out = side_of(frame, code, target, stop)?;
+            let out = side_of(machine, code, target, stop)?;
             Ok(Ending::At { rec, side, out })
         }
     }

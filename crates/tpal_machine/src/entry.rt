@@ -8,7 +8,7 @@ ghost use Rattle.tpal_machine.specs.Seen.{state_of, Keeps};
 ghost use Rattle.tpal_machine.specs.Step.{enters, entered_ready, at_block};
 
 use crate::flow::Flow;
-use crate::task::Frame;
+use crate::task::Machine;
 use tpal_syntax::{Code, Note, Word};
 
 /// How often a task may be diverted.
@@ -20,52 +20,52 @@ pub struct Pace {
     pub allowed: bool,
 }
 
-fn go_to(frame: &mut Frame, label: u32)
-    ensures effect { state_of frame.new ≡ at_block label (state_of frame.old) }
-    ensures kept { Keeps frame.old frame.new }
+fn go_to(machine: &mut Machine, label: u32)
+    ensures effect { state_of machine.new ≡ at_block label (state_of machine.old) }
+    ensures kept { Keeps machine.old machine.new }
 {
-    frame.block = label;
-    frame.at = 0;
+    machine.block = label;
+    machine.at = 0;
 }
 
 /// Control enters a promotion-ready block.
-fn enter_ready(frame: &mut Frame, code: &Code, pace: Pace, label: u32, handler: u32) -> Flow
+fn enter_ready(machine: &mut Machine, code: &Code, pace: Pace, label: u32, handler: u32) -> Flow
     ensures flow { IsFlow code.now
-        (entered_ready pace.heartbeat pace.allowed label handler (state_of frame.old)) result
-        (state_of frame.new) }
+        (entered_ready pace.heartbeat pace.allowed label handler (state_of machine.old)) result
+        (state_of machine.new) }
     ensures room { FlowTakes result ⊥ }
-    ensures kept { Keeps frame.old frame.new }
+    ensures kept { Keeps machine.old machine.new }
 {
-    let marked = frame.stack.oldest().is_some();
-    if frame.beat.enter(pace.heartbeat, marked, pace.allowed) {
-        frame.registers[30] = Word::Label(label);
-        go_to(frame, handler);
+    let marked = machine.stack.oldest().is_some();
+    if machine.beat.enter(pace.heartbeat, marked, pace.allowed) {
+        machine.registers[30] = Word::Label(label);
+        go_to(machine, handler);
         Flow::Beats
     } else {
-        go_to(frame, label);
+        go_to(machine, label);
         Flow::Goes
     }
 }
 
 /// Control enters a block.
-pub(crate) fn enter(frame: &mut Frame, code: &Code, pace: Pace, label: u32) -> Flow
+pub(crate) fn enter(machine: &mut Machine, code: &Code, pace: Pace, label: u32) -> Flow
     ensures flow { IsFlow code.now (enters code.now pace.heartbeat pace.allowed label
-        (state_of frame.old))
-        result (state_of frame.new) }
+        (state_of machine.old))
+        result (state_of machine.new) }
     ensures room { FlowTakes result ⊥ }
-    ensures kept { Keeps frame.old frame.new }
+    ensures kept { Keeps machine.old machine.new }
 {
     match code.blocks().get(label as usize) {
         None => {
-            go_to(frame, label);
+            go_to(machine, label);
             Flow::Goes
         }
         Some(block) => match &block.note {
             Note::Plain | Note::Target(_) => {
-                go_to(frame, label);
+                go_to(machine, label);
                 Flow::Goes
             }
-            Note::Ready(handler) => enter_ready(frame, code, pace, label, *handler),
+            Note::Ready(handler) => enter_ready(machine, code, pace, label, *handler),
         },
     }
 }

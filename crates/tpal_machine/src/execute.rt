@@ -2,7 +2,7 @@
 
 ghost use Rattle.std.specs.Prelude.{◌≡◌, ◌<◌, ◌^◌, ℕ, IfSome, MatchOption, None, Some, Err, length};
 ghost use Rattle.std.specs.Prelude.{slice_get};
-ghost use Rattle.tpal_machine.specs.Answer.{Gives, GivesOr, GivesHalt, IsFlow};
+ghost use Rattle.tpal_machine.specs.Answer.{Gives, GivesOr, GivesProgress, IsFlow};
 ghost use Rattle.tpal_machine.specs.Effect as effects;
 ghost use Rattle.tpal_machine.specs.Effect.{Effect, Halting};
 ghost use Rattle.tpal_syntax.specs.Conditions.{IsCode};
@@ -13,7 +13,7 @@ ghost use Rattle.tpal_machine.specs.Seen.{state_of, Keeps, AreLow};
 ghost use Rattle.tpal_machine.specs.State.{State};
 ghost use Rattle.tpal_machine.specs.Step.{executed, finished, if_jump, jump, halt, is_end, join};
 ghost use Rattle.tpal_machine.specs.Step.{join_end, join_met, step, stepped, asked, halting};
-ghost use Rattle.tpal_machine.specs.declared.flow.Halt.TheVariants as halts;
+ghost use Rattle.tpal_machine.specs.declared.flow.Progress.TheVariants as ways;
 ghost use Rattle.tpal_machine.specs.declared.flow.Trouble.TheVariants as troubles;
 ghost use Rattle.slices.specs.Holding.{Holding};
 ghost use Rattle.std.specs.Prelude.{List};
@@ -23,15 +23,15 @@ ghost use Rattle.tpal_syntax.specs.Listing.{Listing};
 use crate::ends::{Goal, Tie};
 use crate::entry::{Pace, enter};
 use crate::faults::Fault;
-use crate::flow::{Flow, Halt, Trouble};
+use crate::flow::{Flow, Progress, Trouble};
 use crate::making::make;
-use crate::moves::{calc, move_value};
 use crate::output::{emit, print};
 use crate::records::jralloc;
+use crate::registers::{calc, move_value};
 use crate::stack::{load, prmdrop, prmempty, prmpop, prmpush, prmsplit, salloc, sfree, store};
 use crate::stops::{stops, tick, trap};
 use crate::tables::{cols, fetch, put, rows};
-use crate::task::Frame;
+use crate::task::Machine;
 use crate::words::value_of;
 use tp_value::Stop;
 use tpal_syntax::{Block, Code, Instr, Term, Word};
@@ -75,34 +75,34 @@ fn asking(done: Result<(), Fault>) -> Flow
     }
 }
 
-fn stopping(halt: Halt) -> Flow
+fn stopping(came: Progress) -> Flow
     ensures flow { (code : Listing) (wanted : Halting) (after : State)
-        → GivesHalt wanted halt after
+        → GivesProgress wanted came after
         → IsFlow code (halting code wanted) result after }
-    ensures room { (halt ≡ halts.NoMemory → ⊥) → FlowTakes result ⊥ }
+    ensures room { (came ≡ ways.NoMemory → ⊥) → FlowTakes result ⊥ }
 {
-    match halt {
-        Halt::Goes => Flow::Goes,
-        Halt::Stops(stop) => Flow::Stops(stop),
-        Halt::Fails(fault) => Flow::Stuck(fault),
-        Halt::NoMemory => Flow::NoMemory,
+    match came {
+        Progress::Goes => Flow::Goes,
+        Progress::Stops(stop) => Flow::Stops(stop),
+        Progress::Fails(fault) => Flow::Stuck(fault),
+        Progress::NoMemory => Flow::NoMemory,
     }
 }
 
 /// `if-jump rA, @l`.
-fn jump_if(frame: &mut Frame, code: &Code, pace: Pace, test: Word, label: u32) -> Flow
+fn jump_if(machine: &mut Machine, code: &Code, pace: Pace, test: Word, label: u32) -> Flow
     ensures flow { IsFlow code.now
-        (if_jump code.now pace.heartbeat pace.allowed test label (state_of frame.old)) result
-        (state_of frame.new) }
+        (if_jump code.now pace.heartbeat pace.allowed test label (state_of machine.old)) result
+        (state_of machine.new) }
     ensures room { FlowTakes result ⊥ }
-    ensures kept { Keeps frame.old frame.new }
+    ensures kept { Keeps machine.old machine.new }
 {
     match test {
         Word::Int(number) => {
             if number == 0 {
                 Flow::Goes
             } else {
-                enter(frame, code, pace, label)
+                enter(machine, code, pace, label)
             }
         }
         Word::Label(_) | Word::Rec(_) | Word::Nil => Flow::Stuck(Fault::NotInt),
@@ -111,18 +111,18 @@ fn jump_if(frame: &mut Frame, code: &Code, pace: Pace, test: Word, label: u32) -
 
 /// One instruction, of a task that has counted it and stands behind it.
 #[tactic(auto, using(crate::proofs::Memory::takes_any))]
-pub(crate) fn execute(frame: &mut Frame, code: &Code, pace: Pace, instr: &Instr) -> Flow
-    requires fits { IsInstr (length frame.old.tables.items) instr.now }
-    requires low { AreLow frame.old }
+pub(crate) fn execute(machine: &mut Machine, code: &Code, pace: Pace, instr: &Instr) -> Flow
+    requires fits { IsInstr (length machine.old.tables.items) instr.now }
+    requires low { AreLow machine.old }
     ensures flow { IsFlow code.now
-        (executed code.now pace.heartbeat pace.allowed instr.now (state_of frame.old)) result
-        (state_of frame.new) }
-    ensures memory { FlowTakes result (InstrTakes instr.now frame.old.tables.items) }
-    ensures kept { Keeps frame.old frame.new }
+        (executed code.now pace.heartbeat pace.allowed instr.now (state_of machine.old)) result
+        (state_of machine.new) }
+    ensures memory { FlowTakes result (InstrTakes instr.now machine.old.tables.items) }
+    ensures kept { Keeps machine.old machine.new }
 {
     match *instr {
         Instr::Move { to, value } => {
-            move_value(frame, to, value);
+            move_value(machine, to, value);
             Flow::Goes
         }
         Instr::Calc {
@@ -130,48 +130,48 @@ pub(crate) fn execute(frame: &mut Frame, code: &Code, pace: Pace, instr: &Instr)
             left,
             alu,
             right,
-        } => flow_of(calc(frame, to, left, alu, right)),
+        } => flow_of(calc(machine, to, left, alu, right)),
         Instr::IfJump { test, label } => {
-            let word = frame.registers[test as usize];
-            jump_if(frame, code, pace, word, label)
+            let word = machine.registers[test as usize];
+            jump_if(machine, code, pace, word, label)
         }
-        Instr::Load { to, base, off } => flow_of(load(frame, to, base, off)),
-        Instr::Store { base, off, value } => flow_of(store(frame, base, off, value)),
-        Instr::Salloc(cells) => flow_or(salloc(frame, cells)),
-        Instr::Sfree(cells) => flow_of(sfree(frame, cells)),
+        Instr::Load { to, base, off } => flow_of(load(machine, to, base, off)),
+        Instr::Store { base, off, value } => flow_of(store(machine, base, off, value)),
+        Instr::Salloc(cells) => flow_or(salloc(machine, cells)),
+        Instr::Sfree(cells) => flow_of(sfree(machine, cells)),
         Instr::PrmPush {
             base,
             off,
             cells,
             split,
-        } => flow_of(prmpush(frame, base, off, cells, split)),
-        Instr::PrmPop { base, off } => flow_of(prmpop(frame, base, off)),
-        Instr::PrmDrop => flow_of(prmdrop(frame)),
+        } => flow_of(prmpush(machine, base, off, cells, split)),
+        Instr::PrmPop { base, off } => flow_of(prmpop(machine, base, off)),
+        Instr::PrmDrop => flow_of(prmdrop(machine)),
         Instr::PrmEmpty(r) => {
-            prmempty(frame, r);
+            prmempty(machine, r);
             Flow::Goes
         }
-        Instr::PrmSplit { base, split } => flow_of(prmsplit(frame, base, split)),
-        Instr::JrAlloc { to, target } => asking(jralloc(frame, code, to, target)),
+        Instr::PrmSplit { base, split } => flow_of(prmsplit(machine, base, split)),
+        Instr::JrAlloc { to, target } => asking(jralloc(machine, code, to, target)),
         Instr::Fork { rec, child } => Flow::Forks { rec, child },
         Instr::Fetch {
             to,
             table,
             row,
             col,
-        } => flow_of(fetch(frame, to, table, row, col)),
+        } => flow_of(fetch(machine, to, table, row, col)),
         Instr::Put {
             table,
             row,
             col,
             value,
-        } => flow_or(put(frame, table, row, col, value)),
+        } => flow_or(put(machine, table, row, col, value)),
         Instr::Rows { to, table } => {
-            rows(frame, to, table);
+            rows(machine, to, table);
             Flow::Goes
         }
         Instr::Cols { to, table } => {
-            cols(frame, to, table);
+            cols(machine, to, table);
             Flow::Goes
         }
         Instr::Make {
@@ -179,35 +179,35 @@ pub(crate) fn execute(frame: &mut Frame, code: &Code, pace: Pace, instr: &Instr)
             rows,
             cols,
             place,
-        } => stopping(make(frame, code, table, rows, cols, place)),
-        Instr::Tick => stopping(tick(frame)),
-        Instr::Trap { kind, place } => stopping(trap(frame, kind, place)),
-        Instr::Print(r) => flow_or(print(frame, r)),
-        Instr::Emit(table) => flow_or(emit(frame, table)),
+        } => stopping(make(machine, code, table, rows, cols, place)),
+        Instr::Tick => stopping(tick(machine)),
+        Instr::Trap { kind, place } => stopping(trap(machine, kind, place)),
+        Instr::Print(r) => flow_or(print(machine, r)),
+        Instr::Emit(table) => flow_or(emit(machine, table)),
     }
 }
 
 /// The end of a side, or of the whole run.
-fn done(frame: &mut Frame) -> Flow
+fn done(machine: &mut Machine) -> Flow
     ensures flow { (code : Listing)
         → IsFlow code
-        (halting code (effects.stops frame.old.pending Stop.Done (state_of frame.old))) result
-        (state_of frame.new) }
+        (halting code (effects.stops machine.old.pending Stop.Done (state_of machine.old))) result
+        (state_of machine.new) }
     ensures room { FlowTakes result ⊥ }
-    ensures kept { Keeps frame.old frame.new }
+    ensures kept { Keeps machine.old machine.new }
 {
-    stopping(stops(frame, Stop::Done))
+    stopping(stops(machine, Stop::Done))
 }
 
 /// `halt`.
-fn halt_task(frame: &mut Frame, code: &Code) -> Flow
-    ensures flow { IsFlow code.now (halt frame.old.goal code.now (state_of frame.old)) result
-        (state_of frame.new) }
+fn halt_task(machine: &mut Machine, code: &Code) -> Flow
+    ensures flow { IsFlow code.now (halt machine.old.goal code.now (state_of machine.old)) result
+        (state_of machine.new) }
     ensures room { FlowTakes result ⊥ }
-    ensures kept { Keeps frame.old frame.new }
+    ensures kept { Keeps machine.old machine.new }
 {
-    match frame.goal {
-        Goal::Root => done(frame),
+    match machine.goal {
+        Goal::Root => done(machine),
         Goal::At {
             rec: _,
             side: _,
@@ -231,51 +231,51 @@ fn is_end(goal: Goal, number: u32) -> bool
 }
 
 /// A join under a record that isn't met: the end of a side, where it is the side's.
-fn join_end(frame: &mut Frame, code: &Code, number: u32) -> Flow
-    ensures flow { IsFlow code.now (join_end code.now number (state_of frame.old)) result
-        (state_of frame.new) }
+fn join_end(machine: &mut Machine, code: &Code, number: u32) -> Flow
+    ensures flow { IsFlow code.now (join_end code.now number (state_of machine.old)) result
+        (state_of machine.new) }
     ensures room { FlowTakes result ⊥ }
-    ensures kept { Keeps frame.old frame.new }
+    ensures kept { Keeps machine.old machine.new }
 {
-    if is_end(frame.goal, number) {
-        done(frame)
+    if is_end(machine.goal, number) {
+        done(machine)
     } else {
         Flow::Stuck(Fault::WrongRecord)
     }
 }
 
 /// A join under a record that both sides have met.
-fn join_met(frame: &mut Frame, code: &Code, pace: Pace, tie: Tie) -> Flow
+fn join_met(machine: &mut Machine, code: &Code, pace: Pace, tie: Tie) -> Flow
     ensures flow { IsFlow code.now (join_met code.now pace.heartbeat pace.allowed tie
-        (state_of frame.old))
-        result (state_of frame.new) }
+        (state_of machine.old))
+        result (state_of machine.new) }
     ensures room { FlowTakes result ⊥ }
-    ensures kept { Keeps frame.old frame.new }
+    ensures kept { Keeps machine.old machine.new }
 {
-    if frame.pending.is_some() {
+    if machine.pending.is_some() {
         return Flow::Stuck(Fault::Pending);
     }
-    frame.met = None;
-    enter(frame, code, pace, tie.target)
+    machine.met = None;
+    enter(machine, code, pace, tie.target)
 }
 
 /// `join rA`.
-fn join_under(frame: &mut Frame, code: &Code, pace: Pace, word: Word) -> Flow
+fn join_under(machine: &mut Machine, code: &Code, pace: Pace, word: Word) -> Flow
     ensures flow { IsFlow code.now (join code.now pace.heartbeat pace.allowed word
-        (state_of frame.old))
-        result (state_of frame.new) }
+        (state_of machine.old))
+        result (state_of machine.new) }
     ensures room { FlowTakes result ⊥ }
-    ensures kept { Keeps frame.old frame.new }
+    ensures kept { Keeps machine.old machine.new }
 {
     match word {
         Word::Int(_) | Word::Label(_) | Word::Nil => Flow::Stuck(Fault::NotRec),
-        Word::Rec(number) => match frame.met {
-            None => join_end(frame, code, number),
+        Word::Rec(number) => match machine.met {
+            None => join_end(machine, code, number),
             Some(tie) => {
                 if tie.rec == number {
-                    join_met(frame, code, pace, tie)
+                    join_met(machine, code, pace, tie)
                 } else {
-                    join_end(frame, code, number)
+                    join_end(machine, code, number)
                 }
             }
         },
@@ -283,38 +283,38 @@ fn join_under(frame: &mut Frame, code: &Code, pace: Pace, word: Word) -> Flow
 }
 
 /// `jump v`.
-fn jump_to(frame: &mut Frame, code: &Code, pace: Pace, word: Word) -> Flow
+fn jump_to(machine: &mut Machine, code: &Code, pace: Pace, word: Word) -> Flow
     ensures flow { IsFlow code.now (jump code.now pace.heartbeat pace.allowed word
-        (state_of frame.old))
-        result (state_of frame.new) }
+        (state_of machine.old))
+        result (state_of machine.new) }
     ensures room { FlowTakes result ⊥ }
-    ensures kept { Keeps frame.old frame.new }
+    ensures kept { Keeps machine.old machine.new }
 {
     match word {
-        Word::Label(label) => enter(frame, code, pace, label),
+        Word::Label(label) => enter(machine, code, pace, label),
         Word::Int(_) | Word::Rec(_) | Word::Nil => Flow::Stuck(Fault::NotLabel),
     }
 }
 
 /// The end of a block, of a task that has counted it. It doesn't matter where in the block the task
 /// stands.
-pub(crate) fn finish(frame: &mut Frame, code: &Code, pace: Pace, term: Term) -> Flow
+pub(crate) fn finish(machine: &mut Machine, code: &Code, pace: Pace, term: Term) -> Flow
     requires fits { IsTerm term }
     ensures flow { IsFlow code.now (finished code.now pace.heartbeat pace.allowed term
-        (state_of frame.old))
-        result (state_of frame.new) }
+        (state_of machine.old))
+        result (state_of machine.new) }
     ensures room { FlowTakes result ⊥ }
-    ensures kept { Keeps frame.old frame.new }
+    ensures kept { Keeps machine.old machine.new }
 {
     match term {
         Term::Jump(value) => {
-            let word = value_of(&frame.registers, value);
-            jump_to(frame, code, pace, word)
+            let word = value_of(&machine.registers, value);
+            jump_to(machine, code, pace, word)
         }
-        Term::Halt => halt_task(frame, code),
+        Term::Halt => halt_task(machine, code),
         Term::Join(r) => {
-            let word = frame.registers[r as usize];
-            join_under(frame, code, pace, word)
+            let word = machine.registers[r as usize];
+            join_under(machine, code, pace, word)
         }
     }
 }
@@ -329,23 +329,24 @@ pub(crate) fn instr_at(block: &Block, at: usize) -> Option<&Instr>
 }
 
 /// One step of a task that stands in this block.
-pub(crate) fn step(frame: &mut Frame, code: &Code, pace: Pace, block: &Block) -> Flow
-    requires block { block_at code.now frame.old.block ≡ Some block.now }
+pub(crate) fn step(machine: &mut Machine, code: &Code, pace: Pace, block: &Block) -> Flow
+    requires block { block_at code.now machine.old.block ≡ Some block.now }
     requires right { IsCode code.now.tables code.now.blocks }
-    requires tables { length frame.old.tables.items ≡ length code.now.tables }
-    requires low { AreLow frame.old }
-    ensures flow { IsFlow code.now (step code.now pace.heartbeat pace.allowed (state_of frame.old))
+    requires tables { length machine.old.tables.items ≡ length code.now.tables }
+    requires low { AreLow machine.old }
+    ensures flow { IsFlow code.now
+        (step code.now pace.heartbeat pace.allowed (state_of machine.old))
         result
-        (state_of frame.new) }
-    ensures memory { FlowTakes result (NextTakes code.now (state_of frame.old)) }
-    ensures kept { Keeps frame.old frame.new }
+        (state_of machine.new) }
+    ensures memory { FlowTakes result (NextTakes code.now (state_of machine.old)) }
+    ensures kept { Keeps machine.old machine.new }
 {
-    frame.beat.count_one();
-    match instr_at(block, frame.at) {
+    machine.beat.count_one();
+    match instr_at(block, machine.at) {
         Some(instr) => {
-            frame.at += 1;
-            execute(frame, code, pace, instr)
+            machine.at += 1;
+            execute(machine, code, pace, instr)
         }
-        None => finish(frame, code, pace, block.term),
+        None => finish(machine, code, pace, block.term),
     }
 }

@@ -59,7 +59,7 @@ impl From<Fault> for Trouble {
 
 /// What an instruction that may stop the task came to.
 #[derive(Clone, Copy, PartialEq, Eq, Debug)]
-pub enum Halt {
+pub enum Progress {
     /// The task goes on.
     Goes,
     /// The task ends by this stop.

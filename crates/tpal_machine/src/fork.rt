@@ -17,7 +17,7 @@ use crate::flow::Trouble;
 use crate::parts::ForkParts;
 use crate::records::register;
 use crate::rest::Kept;
-use crate::task::Frame;
+use crate::task::Machine;
 use beat_count::{Beat, Fuel};
 use stack_marks::{Cut, Mark, Stack, StackFault};
 use std::alloc::{AllocError, Global};
@@ -41,42 +41,42 @@ pub(crate) fn position(at: u64) -> Word
 /// The rest and the child of a task by the parts of its stack and the cuts of its tables. The task
 /// goes on as the left, where it stands.
 fn come_apart(
-    frame: &mut Frame,
+    machine: &mut Machine,
     stacks: Cut,
     cuts: &[(u8, TableCut)],
     tie: Tie,
     base: u64,
     child: u32,
-) -> Result<(Kept, Box<Frame>), Trouble>
+) -> Result<(Kept, Box<Machine>), Trouble>
     requires left { All (λ m. m.base ≤ 2 ^ 62) stacks.left.marks }
     requires rest { stacks.rest.marks ≡ [] }
     requires child { stacks.child.marks ≡ [] }
     requires base { base ≤ 2 ^ 62 }
     ensures parts { IfOk result
         (λ made. cutting.parted stacks.left stacks.rest stacks.child child tie base cuts.now
-        (state_of frame.old)
+        (state_of machine.old)
         ≡ record {
           rec = made.0.rec;
-          left = state_of frame.new;
+          left = state_of machine.new;
           rest = rest_state made.0;
           child = state_of made.1.value;
         }) }
-    ensures left { IfOk result (λ made. AreLow frame.new) }
+    ensures left { IfOk result (λ made. AreLow machine.new) }
     ensures rest { IfOk result (λ made. IsRestSound made.0) }
     ensures child { IfOk result (λ made. AreLow made.1.value) }
     ensures err { IfErr result (λ trouble. trouble ≡ Trouble.NoMemory) }
 {
-    let alloc = *frame.output.allocator();
-    let held = replace(&mut frame.tables, Vec::new(alloc));
+    let alloc = *machine.output.allocator();
+    let held = replace(&mut machine.tables, Vec::new(alloc));
     let tables = cut_tables(alloc, held, cuts)?;
-    let rest_made = copy_of(alloc, &frame.made)?;
-    let child_made = copy_of(alloc, &frame.made)?;
-    let mut registers = frame.registers;
+    let rest_made = copy_of(alloc, &machine.made)?;
+    let child_made = copy_of(alloc, &machine.made)?;
+    let mut registers = machine.registers;
     registers[31] = position(base);
-    let limit = frame.fuel.limit();
+    let limit = machine.fuel.limit();
     let right = Box::new(
         alloc,
-        Frame {
+        Machine {
             registers,
             stack: stacks.child,
             tables: tables.child,
@@ -99,31 +99,31 @@ fn come_apart(
     let rest = Kept {
         stack: stacks.rest,
         tables: tables.rest,
-        output: replace(&mut frame.output, Vec::new(alloc)),
-        goal: frame.goal,
+        output: replace(&mut machine.output, Vec::new(alloc)),
+        goal: machine.goal,
         base,
         rec: tie.rec,
         target: tie.target,
         limit,
         made: rest_made,
     };
-    frame.stack = stacks.left;
-    frame.tables = tables.left;
-    frame.beat.take();
-    frame.goal = Goal::At {
+    machine.stack = stacks.left;
+    machine.tables = tables.left;
+    machine.beat.take();
+    machine.goal = Goal::At {
         rec: tie.rec,
         side: SideName::Left,
         target: tie.target,
     };
-    frame.pending = None;
-    frame.met = None;
+    machine.pending = None;
+    machine.met = None;
     Ok((rest, right))
 }
 
 /// The parts of a task by the parts of its stack and the cuts of its tables. The left keeps the
 /// task's own box.
 fn parted(
-    frame: Box<Frame>,
+    machine: Box<Machine>,
     stacks: Cut,
     cuts: &[(u8, TableCut)],
     tie: Tie,
@@ -137,14 +137,14 @@ fn parted(
     ensures parts { IfOk result
         (λ parts. forked_state parts
         ≡ cutting.parted stacks.left stacks.rest stacks.child child tie base cuts.now
-        (state_of frame.value)) }
+        (state_of machine.value)) }
     ensures sound { IfOk result ArePartsSound }
     ensures err { IfErr result (λ trouble. trouble ≡ Trouble.NoMemory) }
 {
-    let mut frame = frame;
-    let (rest, right) = come_apart(&mut frame, stacks, cuts, tie, base, child)?;
+    let mut machine = machine;
+    let (rest, right) = come_apart(&mut machine, stacks, cuts, tie, base, child)?;
     Ok(ForkParts {
-        left: frame,
+        left: machine,
         rest,
         child: right,
     })
@@ -170,79 +170,84 @@ fn cut_trouble(fault: StackFault) -> Trouble
 /// The fork of a task by a mark, under a record that is its own.
 #[tactic(auto, using(crate::proofs::Refusals::work_goes, crate::proofs::Stacks::low_above))]
 fn fork_at(
-    frame: Box<Frame>,
+    machine: Box<Machine>,
     code: &Code,
     tie: Tie,
     mark: Mark,
     child: u32,
 ) -> Result<ForkParts, Trouble>
-    requires low { AreLow frame.value }
+    requires low { AreLow machine.value }
     requires base { mark.base ≤ 2 ^ 62 }
     ensures ok { IfOk result
-        (λ parts. cutting.forked_at code.now child tie mark (state_of frame.value)
+        (λ parts. cutting.forked_at code.now child tie mark (state_of machine.value)
         ≡ Ok (forked_state parts)) }
     ensures sound { IfOk result ArePartsSound }
     ensures err { IfErr result
         (λ trouble.
-        FailsAs (cutting.forked_at code.now child tie mark (state_of frame.value))
+        FailsAs (cutting.forked_at code.now child tie mark (state_of machine.value))
         trouble) }
 {
-    let alloc = *frame.output.allocator();
-    let cuts = carried(alloc, &frame.registers, carries_of(code, tie.target));
-    let mut frame = frame;
-    let stack = replace(&mut frame.stack, Stack::new(alloc, 0));
+    let alloc = *machine.output.allocator();
+    let cuts = carried(alloc, &machine.registers, carries_of(code, tie.target));
+    let mut machine = machine;
+    let stack = replace(&mut machine.stack, Stack::new(alloc, 0));
     match stack.cut(mark.base, mark.cells, kind_of(code, tie.target)) {
         Err((_, fault)) => Err(cut_trouble(fault)),
         Ok(stacks) => {
             let cuts = cuts?;
-            parted(frame, stacks, &cuts, tie, mark.base, child)
+            parted(machine, stacks, &cuts, tie, mark.base, child)
         }
     }
 }
 
 /// The fork of a task under a record that is its own.
-fn fork_under(frame: Box<Frame>, code: &Code, tie: Tie, child: u32) -> Result<ForkParts, Trouble>
-    requires low { AreLow frame.value }
+fn fork_under(
+    machine: Box<Machine>,
+    code: &Code,
+    tie: Tie,
+    child: u32,
+) -> Result<ForkParts, Trouble>
+    requires low { AreLow machine.value }
     ensures ok { IfOk result
-        (λ parts. cutting.fork_under code.now child tie (state_of frame.value)
+        (λ parts. cutting.fork_under code.now child tie (state_of machine.value)
         ≡ Ok (forked_state parts)) }
     ensures sound { IfOk result ArePartsSound }
     ensures err { IfErr result
         (λ trouble.
-        FailsAs (cutting.fork_under code.now child tie (state_of frame.value)) trouble) }
+        FailsAs (cutting.fork_under code.now child tie (state_of machine.value)) trouble) }
 {
-    let mut beat = frame.beat;
+    let mut beat = machine.beat;
     if !beat.take() {
         return Err(Trouble::Stuck(Fault::NoBeat));
     }
-    match frame.stack.oldest() {
+    match machine.stack.oldest() {
         None => Err(Trouble::Stuck(Fault::NoMark)),
-        Some(mark) => fork_at(frame, code, tie, mark, child),
+        Some(mark) => fork_at(machine, code, tie, mark, child),
     }
 }
 
 /// `fork rA, @l`, by value: the task comes apart.
 pub(crate) fn fork(
-    frame: Box<Frame>,
+    machine: Box<Machine>,
     code: &Code,
     rec: u8,
     child: u32,
 ) -> Result<ForkParts, Trouble>
-    requires low { AreLow frame.value }
+    requires low { AreLow machine.value }
     ensures ok { IfOk result
         (λ parts.
-        cutting.fork code.now rec child (state_of frame.value) ≡ Ok (forked_state parts)) }
+        cutting.fork code.now rec child (state_of machine.value) ≡ Ok (forked_state parts)) }
     ensures sound { IfOk result ArePartsSound }
     ensures err { IfErr result
-        (λ trouble. FailsAs (cutting.fork code.now rec child (state_of frame.value)) trouble) }
+        (λ trouble. FailsAs (cutting.fork code.now rec child (state_of machine.value)) trouble) }
 {
-    match register(&frame.registers, rec) {
+    match register(&machine.registers, rec) {
         Word::Int(_) | Word::Label(_) | Word::Nil => Err(Trouble::Stuck(Fault::NotRec)),
-        Word::Rec(number) => match frame.pending {
+        Word::Rec(number) => match machine.pending {
             None => Err(Trouble::Stuck(Fault::WrongRecord)),
             Some(tie) => {
                 if tie.rec == number {
-                    fork_under(frame, code, tie, child)
+                    fork_under(machine, code, tie, child)
                 } else {
                     Err(Trouble::Stuck(Fault::WrongRecord))
                 }

@@ -18,7 +18,7 @@ use crate::ends::{Goal, Side, SideName, Tie};
 use crate::fork::position;
 use crate::records::set_register;
 use crate::rest::{Kept, Rest};
-use crate::task::{Frame, Task};
+use crate::task::{Machine, Task};
 use beat_count::{Beat, Fuel, join_stops};
 use slices::Held;
 use std::alloc::Global;
@@ -148,9 +148,9 @@ fn merged_task(
     let mut tables = kept.tables;
     append_parts(&mut tables, left.slices.into_vec())?;
     append_parts(&mut tables, right.slices.into_vec())?;
-    let frame = Box::new(
+    let machine = Box::new(
         alloc,
-        Frame {
+        Machine {
             registers,
             stack: kept.stack,
             tables,
@@ -169,7 +169,7 @@ fn merged_task(
             waiting: None,
         },
     )?;
-    Ok(Task { frame })
+    Ok(Task { machine })
 }
 
 /// Both ended by a stop.

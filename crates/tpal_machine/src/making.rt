@@ -3,16 +3,16 @@
 ghost use Rattle.std.specs.Prelude.{◌≡◌, ◌≤◌, ◌<◌, ◌-◌, ◌^◌, ◌==◌, ◌+◌, ◌*◌, nat_le, pos, min};
 ghost use Rattle.std.specs.Prelude.{true, false, length, slice_get, IfOk, MatchOption, Ok};
 ghost use Rattle.std.specs.List.{list_any};
-ghost use Rattle.tpal_machine.specs.Answer.{GivesHalt};
+ghost use Rattle.tpal_machine.specs.Answer.{GivesProgress};
 ghost use Rattle.tpal_machine.specs.Effect as effect;
 ghost use Rattle.tpal_machine.specs.Reading.{cell_count, zeros};
 ghost use Rattle.tpal_machine.specs.Seen.{state_of, Keeps};
 
 use crate::ends::Goal;
 use crate::faults::Fault;
-use crate::flow::Halt;
+use crate::flow::Progress;
 use crate::stops::stops;
-use crate::task::Frame;
+use crate::task::Machine;
 use crate::words::number_of;
 use slices::Held;
 use std::alloc::Global;
@@ -64,10 +64,10 @@ fn is_root(goal: Goal) -> bool
     }
 }
 
-fn is_makeable(frame: &Frame, code: &Code, table: u8) -> bool
-    ensures { result ≡ effect.is_makeable code.now table (state_of frame.now) }
+fn is_makeable(machine: &Machine, code: &Code, table: u8) -> bool
+    ensures { result ≡ effect.is_makeable code.now table (state_of machine.now) }
 {
-    !is_input(code, table) && !was_made(&frame.made, table) && is_root(frame.goal)
+    !is_input(code, table) && !was_made(&machine.made, table) && is_root(machine.goal)
 }
 
 /// The cells of all tables together, or the greatest number that is counted.
@@ -101,56 +101,56 @@ fn zeros(alloc: Global, rows: u32, cols: u32) -> Result<Held, NoMemory>
 }
 
 /// Makes a table of this size, which fits beside the others.
-fn make_zeros(frame: &mut Frame, table: u8, rows: u32, cols: u32) -> Halt
-    requires { table < length frame.old.tables.items }
-    ensures effect { GivesHalt (Ok (effect.Goes (effect.with_made (state_of frame.old) table rows
-        cols)))
-        result (state_of frame.new) }
-    ensures kept { Keeps frame.old frame.new }
+fn make_zeros(machine: &mut Machine, table: u8, rows: u32, cols: u32) -> Progress
+    requires { table < length machine.old.tables.items }
+    ensures effect { GivesProgress
+        (Ok (effect.Goes (effect.with_made (state_of machine.old) table rows cols)))
+        result (state_of machine.new) }
+    ensures kept { Keeps machine.old machine.new }
 {
-    match zeros(*frame.output.allocator(), rows, cols) {
-        Err(_) => Halt::NoMemory,
+    match zeros(*machine.output.allocator(), rows, cols) {
+        Err(_) => Progress::NoMemory,
         Ok(held) => {
-            if frame.made.push(table).is_err() {
-                return Halt::NoMemory;
+            if machine.made.push(table).is_err() {
+                return Progress::NoMemory;
             }
-            frame.tables[table as usize] = held;
-            Halt::Goes
+            machine.tables[table as usize] = held;
+            Progress::Goes
         }
     }
 }
 
 /// Makes a table of a size in its range, or stops.
 #[tactic(auto, using(crate::proofs::Sizes::made_zeros, crate::proofs::Sizes::made_beyond))]
-fn make_within(frame: &mut Frame, table: u8, rows: u32, cols: u32, place: Place) -> Halt
-    requires table { table < length frame.old.tables.items }
+fn make_within(machine: &mut Machine, table: u8, rows: u32, cols: u32, place: Place) -> Progress
+    requires table { table < length machine.old.tables.items }
     requires rows { rows ≤ MAX_SIDE }
     requires cols { cols ≤ MAX_SIDE }
-    ensures effect { GivesHalt (effect.made table (pos rows) (pos cols) place (state_of frame.old))
-        result
-        (state_of frame.new) }
-    ensures kept { Keeps frame.old frame.new }
+    ensures effect { GivesProgress
+        (effect.made table (pos rows) (pos cols) place (state_of machine.old))
+        result (state_of machine.new) }
+    ensures kept { Keeps machine.old machine.new }
 {
-    if fits_beside(&frame.tables, rows, cols) {
-        make_zeros(frame, table, rows, cols)
+    if fits_beside(&machine.tables, rows, cols) {
+        make_zeros(machine, table, rows, cols)
     } else {
-        stops(frame, Stop::Trap(TrapKind::Size, place))
+        stops(machine, Stop::Trap(TrapKind::Size, place))
     }
 }
 
 /// Makes a table, or stops where its size is out of range or it doesn't fit beside the others.
 #[tactic(auto, using(crate::proofs::Sizes::made_no_rows, crate::proofs::Sizes::made_no_cols))]
-fn make_sized(frame: &mut Frame, table: u8, rows: i64, cols: i64, place: Place) -> Halt
-    requires { table < length frame.old.tables.items }
-    ensures effect { GivesHalt (effect.made table rows cols place (state_of frame.old)) result
-        (state_of frame.new) }
-    ensures kept { Keeps frame.old frame.new }
+fn make_sized(machine: &mut Machine, table: u8, rows: i64, cols: i64, place: Place) -> Progress
+    requires { table < length machine.old.tables.items }
+    ensures effect { GivesProgress (effect.made table rows cols place (state_of machine.old)) result
+        (state_of machine.new) }
+    ensures kept { Keeps machine.old machine.new }
 {
     match side_of(rows) {
-        None => stops(frame, Stop::Trap(TrapKind::Size, place)),
+        None => stops(machine, Stop::Trap(TrapKind::Size, place)),
         Some(rows) => match side_of(cols) {
-            None => stops(frame, Stop::Trap(TrapKind::Size, place)),
-            Some(cols) => make_within(frame, table, rows, cols, place),
+            None => stops(machine, Stop::Trap(TrapKind::Size, place)),
+            Some(cols) => make_within(machine, table, rows, cols, place),
         },
     }
 }
@@ -158,30 +158,30 @@ fn make_sized(frame: &mut Frame, table: u8, rows: i64, cols: i64, place: Place) 
 /// `make tK, rA, rB, line, col`.
 #[tactic(auto, using(crate::proofs::NoNumbers::on_number_none))]
 pub(crate) fn make(
-    frame: &mut Frame,
+    machine: &mut Machine,
     code: &Code,
     table: u8,
     rows: u8,
     cols: u8,
     place: Place,
-) -> Halt
-    requires table { table < length frame.old.tables.items }
+) -> Progress
+    requires table { table < length machine.old.tables.items }
     requires rows { rows < 32 }
     requires cols { cols < 32 }
-    ensures effect { GivesHalt (effect.make code.now table rows cols place (state_of frame.old))
-        result
-        (state_of frame.new) }
-    ensures kept { Keeps frame.old frame.new }
+    ensures effect { GivesProgress
+        (effect.make code.now table rows cols place (state_of machine.old))
+        result (state_of machine.new) }
+    ensures kept { Keeps machine.old machine.new }
 {
-    match number_of(frame.registers[rows as usize]) {
-        Err(fault) => Halt::Fails(fault),
-        Ok(rows) => match number_of(frame.registers[cols as usize]) {
-            Err(fault) => Halt::Fails(fault),
+    match number_of(machine.registers[rows as usize]) {
+        Err(fault) => Progress::Fails(fault),
+        Ok(rows) => match number_of(machine.registers[cols as usize]) {
+            Err(fault) => Progress::Fails(fault),
             Ok(cols) => {
-                if is_makeable(frame, code, table) {
-                    make_sized(frame, table, rows, cols, place)
+                if is_makeable(machine, code, table) {
+                    make_sized(machine, table, rows, cols, place)
                 } else {
-                    Halt::Fails(Fault::Made)
+                    Progress::Fails(Fault::Made)
                 }
             }
         },

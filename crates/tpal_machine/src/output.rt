@@ -7,7 +7,7 @@ ghost use Rattle.tpal_machine.specs.Seen.{state_of, Keeps};
 
 use crate::faults::Fault;
 use crate::flow::Trouble;
-use crate::task::Frame;
+use crate::task::Machine;
 use crate::words::number_of;
 use slices::Held;
 use table_text::push_row_text;
@@ -15,13 +15,13 @@ use tp_value::NoMemory;
 
 /// `print rA`.
 #[tactic(auto, using(crate::proofs::NoNumbers::on_number_none))]
-pub(crate) fn print(frame: &mut Frame, r: u8) -> Result<(), Trouble>
+pub(crate) fn print(machine: &mut Machine, r: u8) -> Result<(), Trouble>
     requires { r < 32 }
-    ensures effect { GivesOr (effect.print r (state_of frame.old)) result (state_of frame.new) }
-    ensures kept { Keeps frame.old frame.new }
+    ensures effect { GivesOr (effect.print r (state_of machine.old)) result (state_of machine.new) }
+    ensures kept { Keeps machine.old machine.new }
 {
-    let number = number_of(frame.registers[r as usize])?;
-    push_row_text(&mut frame.output, &[number])?;
+    let number = number_of(machine.registers[r as usize])?;
+    push_row_text(&mut machine.output, &[number])?;
     Ok(())
 }
 
@@ -75,12 +75,13 @@ fn push_lines(output: &mut Vec<u8>, held: &Held) -> Result<bool, NoMemory>
 
 /// `emit tK`.
 #[tactic(auto, using(crate::proofs::Lines::printed, crate::proofs::Lines::not_printed))]
-pub(crate) fn emit(frame: &mut Frame, table: u8) -> Result<(), Trouble>
-    requires { table < length frame.old.tables.items }
-    ensures effect { GivesOr (effect.emit table (state_of frame.old)) result (state_of frame.new) }
-    ensures kept { Keeps frame.old frame.new }
+pub(crate) fn emit(machine: &mut Machine, table: u8) -> Result<(), Trouble>
+    requires { table < length machine.old.tables.items }
+    ensures effect { GivesOr (effect.emit table (state_of machine.old)) result
+        (state_of machine.new) }
+    ensures kept { Keeps machine.old machine.new }
 {
-    if push_lines(&mut frame.output, &frame.tables[table as usize])? {
+    if push_lines(&mut machine.output, &machine.tables[table as usize])? {
         Ok(())
     } else {
         Err(Trouble::Stuck(Fault::NotHeld))

@@ -12,23 +12,23 @@ ghost use Rattle.tpal_machine.specs.Seen.{state_of, Keeps};
 use crate::blocks::is_target;
 use crate::ends::{Tie, Wait};
 use crate::faults::Fault;
-use crate::task::{Frame, Task};
+use crate::task::{Machine, Task};
 use tp_value::REGISTERS;
 use tpal_syntax::{Code, Word};
 
 /// `rA := jralloc @l`: the task waits from here on.
-pub(crate) fn jralloc(frame: &mut Frame, code: &Code, to: u8, target: u32) -> Result<(), Fault>
-    ensures effect { Gives (effect.jralloc code.now to target (state_of frame.old)) result
-        (state_of frame.new) }
-    ensures kept { Keeps frame.old frame.new }
+pub(crate) fn jralloc(machine: &mut Machine, code: &Code, to: u8, target: u32) -> Result<(), Fault>
+    ensures effect { Gives (effect.jralloc code.now to target (state_of machine.old)) result
+        (state_of machine.new) }
+    ensures kept { Keeps machine.old machine.new }
 {
-    if frame.pending.is_some() {
+    if machine.pending.is_some() {
         return Err(Fault::Pending);
     }
     if !is_target(code, target) {
         return Err(Fault::BadTarget);
     }
-    frame.waiting = Some(Wait { to, target });
+    machine.waiting = Some(Wait { to, target });
     Ok(())
 }
 
@@ -65,32 +65,32 @@ pub fn answer(task: Task, rec: Option<u32>) -> Task
 fn given(task: Task, rec: Option<u32>) -> Task
     ensures { result ≡ effect.answered rec task }
 {
-    let Task { frame } = task;
-    match frame.waiting {
-        None => Task { frame },
+    let Task { machine } = task;
+    match machine.waiting {
+        None => Task { machine },
         Some(wait) => Task {
-            frame: answered(frame, wait, rec),
+            machine: answered(machine, wait, rec),
         },
     }
 }
 
-fn answered(frame: Box<Frame>, wait: Wait, rec: Option<u32>) -> Box<Frame>
-    ensures { state_of result.value ≡ effect.with_answer (Some wait) rec (state_of frame.value) }
+fn answered(machine: Box<Machine>, wait: Wait, rec: Option<u32>) -> Box<Machine>
+    ensures { state_of result.value ≡ effect.with_answer (Some wait) rec (state_of machine.value) }
 {
-    let mut frame = frame;
-    frame.waiting = None;
+    let mut machine = machine;
+    machine.waiting = None;
     match rec {
         None => {
-            set_register(&mut frame.registers, wait.to, Word::Nil);
-            frame
+            set_register(&mut machine.registers, wait.to, Word::Nil);
+            machine
         }
         Some(rec) => {
-            set_register(&mut frame.registers, wait.to, Word::Rec(rec));
-            frame.pending = Some(Tie {
+            set_register(&mut machine.registers, wait.to, Word::Rec(rec));
+            machine.pending = Some(Tie {
                 rec,
                 target: wait.target,
             });
-            frame
+            machine
         }
     }
 }

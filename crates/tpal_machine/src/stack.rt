@@ -1,19 +1,19 @@
 // Instructions on the stack and its marks.
 
-ghost use Rattle.std.specs.Prelude.{◌≡◌, ◌≢◌, ◌<◌, ◌+ℤ◌, ◌≤ℤ◌, ◌^◌, IsSome, IfSome, OnErr, pos, ℤ};
 ghost use Rattle.std.specs.Bool.{OnTrue, OnFalse};
-ghost use Rattle.stack_marks.specs.Causes.{UnmarkCause};
-ghost use Rattle.stack_marks.specs.Stacks.{word_at};
+ghost use Rattle.std.specs.Prelude.{◌≡◌, ◌≢◌, ◌<◌, ◌+ℤ◌, ◌≤ℤ◌, ◌^◌, IsSome, IfSome, OnErr, pos, ℤ};
 ghost use Rattle.tpal_machine.specs.Answer.{Gives, GivesOr};
 ghost use Rattle.tpal_machine.specs.Effect as effect;
 ghost use Rattle.tpal_machine.specs.Fit.{IsOperand, stack_fault};
-ghost use Rattle.tpal_machine.specs.Passing.{Did, Does, DoesOr, Stays};
+ghost use Rattle.tpal_machine.specs.Ops.Anywhere.{Did, Does, DoesOr, Stays};
 ghost use Rattle.tpal_machine.specs.Seen.{state_of, Keeps, AreLow};
 ghost use Rattle.tpal_machine.specs.State.{State};
+ghost use Rattle.stack_marks.specs.Causes.{UnmarkCause};
+ghost use Rattle.stack_marks.specs.Stacks.{word_at};
 
 use crate::faults::Fault;
 use crate::flow::Trouble;
-use crate::task::Frame;
+use crate::task::Machine;
 use crate::words::{number_of, value_of};
 use stack_marks::{Mark, Stack, StackFault, in_order};
 use tpal_syntax::{Value, Word};
@@ -31,20 +31,20 @@ pub(crate) fn above(stack: &Stack, from: i64, off: u16) -> i64
 /// `rA := mem[rB+n]`.
 #[inline(always)]
 #[tactic(auto, using(crate::proofs::Stacks::cell_facts))]
-pub(crate) fn load(frame: &mut Frame, to: u8, base: u8, off: u16) -> Result<(), Fault>
+pub(crate) fn load(machine: &mut Machine, to: u8, base: u8, off: u16) -> Result<(), Fault>
     requires to { to < 32 }
     requires base { base < 32 }
-    ensures effect { Gives (effect.load to base off (state_of frame.old)) result
-        (state_of frame.new) }
-    ensures anywhere { Does (effect.load to base off) frame.old result frame.new }
-    ensures refused { OnErr result (frame.new ≡ frame.old) }
-    ensures stays { Stays frame.old frame.new }
-    ensures kept { Keeps frame.old frame.new }
+    ensures effect { Gives (effect.load to base off (state_of machine.old)) result
+        (state_of machine.new) }
+    ensures anywhere { Does (effect.load to base off) machine.old result machine.new }
+    ensures refused { OnErr result (machine.new ≡ machine.old) }
+    ensures stays { Stays machine.old machine.new }
+    ensures kept { Keeps machine.old machine.new }
 {
-    let from = number_of(frame.registers[base as usize])?;
-    match frame.stack.get(above(&frame.stack, from, off)) {
+    let from = number_of(machine.registers[base as usize])?;
+    match machine.stack.get(above(&machine.stack, from, off)) {
         Ok(word) => {
-            frame.registers[to as usize] = word;
+            machine.registers[to as usize] = word;
             Ok(())
         }
         Err(_) => Err(Fault::OutOfRange),
@@ -54,35 +54,35 @@ pub(crate) fn load(frame: &mut Frame, to: u8, base: u8, off: u16) -> Result<(), 
 /// `mem[rA+n] := v`.
 #[inline(always)]
 #[tactic(auto, using(crate::proofs::Stacks::cell_facts))]
-pub(crate) fn store(frame: &mut Frame, base: u8, off: u16, value: Value) -> Result<(), Fault>
+pub(crate) fn store(machine: &mut Machine, base: u8, off: u16, value: Value) -> Result<(), Fault>
     requires base { base < 32 }
     requires value { IsOperand value }
-    ensures effect { Gives (effect.store base off value (state_of frame.old)) result
-        (state_of frame.new) }
-    ensures anywhere { Does (effect.store base off value) frame.old result frame.new }
-    ensures refused { OnErr result (frame.new ≡ frame.old) }
-    ensures stays { Stays frame.old frame.new }
-    ensures kept { Keeps frame.old frame.new }
+    ensures effect { Gives (effect.store base off value (state_of machine.old)) result
+        (state_of machine.new) }
+    ensures anywhere { Does (effect.store base off value) machine.old result machine.new }
+    ensures refused { OnErr result (machine.new ≡ machine.old) }
+    ensures stays { Stays machine.old machine.new }
+    ensures kept { Keeps machine.old machine.new }
 {
-    let from = number_of(frame.registers[base as usize])?;
-    let word = value_of(&frame.registers, value);
-    let at = above(&frame.stack, from, off);
-    match frame.stack.set(at, word) {
+    let from = number_of(machine.registers[base as usize])?;
+    let word = value_of(&machine.registers, value);
+    let at = above(&machine.stack, from, off);
+    match machine.stack.set(at, word) {
         Ok(()) => Ok(()),
         Err(_) => Err(Fault::OutOfRange),
     }
 }
 
 /// `salloc n`.
-pub(crate) fn salloc(frame: &mut Frame, cells: u16) -> Result<(), Trouble>
-    ensures effect { GivesOr (effect.salloc cells (state_of frame.old)) result
-        (state_of frame.new) }
-    ensures anywhere { DoesOr (effect.salloc cells) frame.old result frame.new }
-    ensures refused { OnErr result (frame.new ≡ frame.old) }
-    ensures stays { Stays frame.old frame.new }
-    ensures kept { Keeps frame.old frame.new }
+pub(crate) fn salloc(machine: &mut Machine, cells: u16) -> Result<(), Trouble>
+    ensures effect { GivesOr (effect.salloc cells (state_of machine.old)) result
+        (state_of machine.new) }
+    ensures anywhere { DoesOr (effect.salloc cells) machine.old result machine.new }
+    ensures refused { OnErr result (machine.new ≡ machine.old) }
+    ensures stays { Stays machine.old machine.new }
+    ensures kept { Keeps machine.old machine.new }
 {
-    match frame.stack.push(u32::from(cells)) {
+    match machine.stack.push(u32::from(cells)) {
         Ok(()) => Ok(()),
         Err(StackFault::TooLong) => Err(Trouble::Stuck(Fault::TooLong)),
         Err(
@@ -97,13 +97,13 @@ pub(crate) fn salloc(frame: &mut Frame, cells: u16) -> Result<(), Trouble>
 
 /// `salloc n`. Where it answers false nothing has changed. It stands apart, since it calls others.
 #[inline(never)]
-pub(crate) fn grow(frame: &mut Frame, cells: u16) -> bool
-    ensures done { OnTrue result (Did (effect.salloc cells) frame.old frame.new) }
-    ensures same { OnFalse result (frame.new ≡ frame.old) }
-    ensures stays { Stays frame.old frame.new }
-    ensures kept { Keeps frame.old frame.new }
+pub(crate) fn grow(machine: &mut Machine, cells: u16) -> bool
+    ensures done { OnTrue result (Did (effect.salloc cells) machine.old machine.new) }
+    ensures same { OnFalse result (machine.new ≡ machine.old) }
+    ensures stays { Stays machine.old machine.new }
+    ensures kept { Keeps machine.old machine.new }
 {
-    frame.stack.push(u32::from(cells)).is_ok()
+    machine.stack.push(u32::from(cells)).is_ok()
 }
 
 /// Why a call of the stack that takes no memory is refused.
@@ -120,14 +120,15 @@ pub(crate) fn stack_fault(fault: StackFault) -> Fault
 
 /// `sfree n`.
 #[tactic(auto, using(crate::proofs::Refusals::sfree_goes, crate::proofs::Refusals::sfree_refused))]
-pub(crate) fn sfree(frame: &mut Frame, cells: u16) -> Result<(), Fault>
-    ensures effect { Gives (effect.sfree cells (state_of frame.old)) result (state_of frame.new) }
-    ensures anywhere { Does (effect.sfree cells) frame.old result frame.new }
-    ensures refused { OnErr result (frame.new ≡ frame.old) }
-    ensures stays { Stays frame.old frame.new }
-    ensures kept { Keeps frame.old frame.new }
+pub(crate) fn sfree(machine: &mut Machine, cells: u16) -> Result<(), Fault>
+    ensures effect { Gives (effect.sfree cells (state_of machine.old)) result
+        (state_of machine.new) }
+    ensures anywhere { Does (effect.sfree cells) machine.old result machine.new }
+    ensures refused { OnErr result (machine.new ≡ machine.old) }
+    ensures stays { Stays machine.old machine.new }
+    ensures kept { Keeps machine.old machine.new }
 {
-    match frame.stack.pop(u32::from(cells)) {
+    match machine.stack.pop(u32::from(cells)) {
         Ok(()) => Ok(()),
         Err(fault) => Err(stack_fault(fault)),
     }
@@ -137,25 +138,25 @@ pub(crate) fn sfree(frame: &mut Frame, cells: u16) -> Result<(), Fault>
 #[inline(always)]
 #[tactic(auto, using(crate::proofs::NoNumbers::on_number_none, crate::proofs::Refusals::below_all))]
 pub(crate) fn prmpush(
-    frame: &mut Frame,
+    machine: &mut Machine,
     base: u8,
     off: u16,
     cells: u16,
     split: u32,
 ) -> Result<(), Fault>
     requires { base < 32 }
-    ensures effect { Gives (effect.prmpush base off cells split (state_of frame.old)) result
-        (state_of frame.new) }
-    ensures anywhere { Does (effect.prmpush base off cells split) frame.old result frame.new }
-    ensures refused { OnErr result (frame.new ≡ frame.old) }
-    ensures stays { IsSome (effect.oldest frame.old.stack) → Stays frame.old frame.new }
-    ensures kept { Keeps frame.old frame.new }
+    ensures effect { Gives (effect.prmpush base off cells split (state_of machine.old)) result
+        (state_of machine.new) }
+    ensures anywhere { Does (effect.prmpush base off cells split) machine.old result machine.new }
+    ensures refused { OnErr result (machine.new ≡ machine.old) }
+    ensures stays { IsSome (effect.oldest machine.old.stack) → Stays machine.old machine.new }
+    ensures kept { Keeps machine.old machine.new }
 {
-    let from = number_of(frame.registers[base as usize])?;
+    let from = number_of(machine.registers[base as usize])?;
     if from < 0 {
         return Err(Fault::OutOfRange);
     }
-    mark_from(frame, magnitude(from), off, cells, split)
+    mark_from(machine, magnitude(from), off, cells, split)
 }
 
 fn magnitude(number: i64) -> u64
@@ -169,25 +170,31 @@ fn magnitude(number: i64) -> u64
 /// A mark for the work from a position on.
 #[inline(always)]
 #[tactic(auto, using(crate::proofs::Stacks::mark_facts))]
-fn mark_from(frame: &mut Frame, base: u64, off: u16, cells: u16, split: u32) -> Result<(), Fault>
+fn mark_from(
+    machine: &mut Machine,
+    base: u64,
+    off: u16,
+    cells: u16,
+    split: u32,
+) -> Result<(), Fault>
     requires { base < 2 ^ 63 }
-    ensures effect { Gives (effect.with_mark_from (state_of frame.old) (pos base) off cells split)
+    ensures effect { Gives (effect.with_mark_from (state_of machine.old) (pos base) off cells split)
         result
-        (state_of frame.new) }
+        (state_of machine.new) }
     ensures anywhere { Does (λ state. effect.with_mark_from state (pos base) off cells split)
-        frame.old result frame.new }
-    ensures refused { OnErr result (frame.new ≡ frame.old) }
-    ensures stays { IsSome (effect.oldest frame.old.stack) → Stays frame.old frame.new }
-    ensures kept { Keeps frame.old frame.new }
+        machine.old result machine.new }
+    ensures refused { OnErr result (machine.new ≡ machine.old) }
+    ensures stays { IsSome (effect.oldest machine.old.stack) → Stays machine.old machine.new }
+    ensures kept { Keeps machine.old machine.new }
 {
-    in_order(&frame.stack);
+    in_order(&machine.stack);
     let mark = Mark {
         at: base + u64::from(off),
         base,
         cells: u64::from(cells),
         split,
     };
-    match frame.stack.mark(mark) {
+    match machine.stack.mark(mark) {
         Ok(()) => Ok(()),
         Err(fault) => Err(stack_fault(fault)),
     }
@@ -195,46 +202,46 @@ fn mark_from(frame: &mut Frame, base: u64, off: u16, cells: u16, split: u32) -> 
 
 /// `prmpop mem[rA+c]`.
 #[tactic(auto, using(crate::proofs::NoNumbers::on_number_none))]
-pub(crate) fn prmpop(frame: &mut Frame, base: u8, off: u16) -> Result<(), Fault>
+pub(crate) fn prmpop(machine: &mut Machine, base: u8, off: u16) -> Result<(), Fault>
     requires { base < 32 }
-    ensures effect { Gives (effect.prmpop base off (state_of frame.old)) result
-        (state_of frame.new) }
-    ensures kept { Keeps frame.old frame.new }
+    ensures effect { Gives (effect.prmpop base off (state_of machine.old)) result
+        (state_of machine.new) }
+    ensures kept { Keeps machine.old machine.new }
 {
-    let from = number_of(frame.registers[base as usize])?;
-    unmark_from(frame, from, off)
+    let from = number_of(machine.registers[base as usize])?;
+    unmark_from(machine, from, off)
 }
 
 /// No mark so many cells above a position.
 #[tactic(auto, using(crate::proofs::Stacks::beyond_the_top))]
-pub(crate) fn unmark_from(frame: &mut Frame, from: i64, off: u16) -> Result<(), Fault>
-    ensures effect { Gives (effect.without_mark (from +ℤ pos off) (state_of frame.old)) result
-        (state_of frame.new) }
-    ensures anywhere { Does (effect.without_mark (from +ℤ pos off)) frame.old result frame.new }
-    ensures refused { OnErr result (frame.new ≡ frame.old) }
-    ensures stays { IfSome (effect.oldest frame.old.stack) (λ m. pos m.at ≢ from +ℤ pos off)
-        → Stays frame.old frame.new }
-    ensures kept { Keeps frame.old frame.new }
+pub(crate) fn unmark_from(machine: &mut Machine, from: i64, off: u16) -> Result<(), Fault>
+    ensures effect { Gives (effect.without_mark (from +ℤ pos off) (state_of machine.old)) result
+        (state_of machine.new) }
+    ensures anywhere { Does (effect.without_mark (from +ℤ pos off)) machine.old result machine.new }
+    ensures refused { OnErr result (machine.new ≡ machine.old) }
+    ensures stays { IfSome (effect.oldest machine.old.stack) (λ m. pos m.at ≢ from +ℤ pos off)
+        → Stays machine.old machine.new }
+    ensures kept { Keeps machine.old machine.new }
 {
-    in_order(&frame.stack);
+    in_order(&machine.stack);
     match from.checked_add(i64::from(off)) {
         None => Err(Fault::OutOfRange),
-        Some(at) => unmark(frame, at),
+        Some(at) => unmark(machine, at),
     }
 }
 
 /// No mark at a position.
 #[tactic(auto, using(crate::proofs::Stacks::unmark_facts))]
-fn unmark(frame: &mut Frame, at: i64) -> Result<(), Fault>
-    ensures effect { Gives (effect.without_mark at (state_of frame.old)) result
-        (state_of frame.new) }
-    ensures anywhere { Does (effect.without_mark at) frame.old result frame.new }
-    ensures refused { OnErr result (frame.new ≡ frame.old) }
-    ensures stays { IfSome (effect.oldest frame.old.stack) (λ m. pos m.at ≢ at)
-        → Stays frame.old frame.new }
-    ensures kept { Keeps frame.old frame.new }
+fn unmark(machine: &mut Machine, at: i64) -> Result<(), Fault>
+    ensures effect { Gives (effect.without_mark at (state_of machine.old)) result
+        (state_of machine.new) }
+    ensures anywhere { Does (effect.without_mark at) machine.old result machine.new }
+    ensures refused { OnErr result (machine.new ≡ machine.old) }
+    ensures stays { IfSome (effect.oldest machine.old.stack) (λ m. pos m.at ≢ at)
+        → Stays machine.old machine.new }
+    ensures kept { Keeps machine.old machine.new }
 {
-    match frame.stack.unmark(at) {
+    match machine.stack.unmark(at) {
         Ok(()) => Ok(()),
         Err(fault) => not_unmarked(fault),
     }
@@ -258,38 +265,38 @@ fn not_unmarked(fault: StackFault) -> Result<(), Fault>
 
 /// `prmdrop`.
 #[tactic(auto, using(crate::proofs::Stacks::low_dropped))]
-pub(crate) fn prmdrop(frame: &mut Frame) -> Result<(), Fault>
-    ensures effect { Gives (effect.prmdrop (state_of frame.old)) result (state_of frame.new) }
-    ensures kept { Keeps frame.old frame.new }
+pub(crate) fn prmdrop(machine: &mut Machine) -> Result<(), Fault>
+    ensures effect { Gives (effect.prmdrop (state_of machine.old)) result (state_of machine.new) }
+    ensures kept { Keeps machine.old machine.new }
 {
-    match frame.stack.drop_oldest() {
+    match machine.stack.drop_oldest() {
         Some(_) => Ok(()),
         None => Err(Fault::NoMark),
     }
 }
 
 /// `prmempty rA`.
-pub(crate) fn prmempty(frame: &mut Frame, r: u8)
+pub(crate) fn prmempty(machine: &mut Machine, r: u8)
     requires { r < 32 }
-    ensures effect { state_of frame.new ≡ effect.prmempty r (state_of frame.old) }
-    ensures kept { Keeps frame.old frame.new }
+    ensures effect { state_of machine.new ≡ effect.prmempty r (state_of machine.old) }
+    ensures kept { Keeps machine.old machine.new }
 {
-    frame.registers[r as usize] = Word::Int(i64::from(frame.stack.oldest().is_none()));
+    machine.registers[r as usize] = Word::Int(i64::from(machine.stack.oldest().is_none()));
 }
 
 /// `prmsplit rA, rB`.
-pub(crate) fn prmsplit(frame: &mut Frame, base: u8, split: u8) -> Result<(), Fault>
+pub(crate) fn prmsplit(machine: &mut Machine, base: u8, split: u8) -> Result<(), Fault>
     requires base { base < 32 }
     requires split { split < 32 }
-    requires low { AreLow frame.old }
-    ensures effect { Gives (effect.prmsplit base split (state_of frame.old)) result
-        (state_of frame.new) }
-    ensures kept { Keeps frame.old frame.new }
+    requires low { AreLow machine.old }
+    ensures effect { Gives (effect.prmsplit base split (state_of machine.old)) result
+        (state_of machine.new) }
+    ensures kept { Keeps machine.old machine.new }
 {
-    match frame.stack.oldest() {
+    match machine.stack.oldest() {
         Some(mark) => {
-            frame.registers[base as usize] = Word::Int(mark.base as i64);
-            frame.registers[split as usize] = Word::Label(mark.split);
+            machine.registers[base as usize] = Word::Int(mark.base as i64);
+            machine.registers[split as usize] = Word::Label(mark.split);
             Ok(())
         }
         None => Err(Fault::NoMark),

@@ -15,7 +15,7 @@ use tpal_syntax::{Code, Word};
 
 /// What a task holds. The machine changes it in place.
 #[derive(Drop)]
-pub(crate) struct Frame {
+pub(crate) struct Machine {
     pub(crate) registers: [Word; 32],
     pub(crate) stack: Stack,
     pub(crate) tables: Vec<Held>,
@@ -35,7 +35,7 @@ pub(crate) struct Frame {
 /// over at every fork, claim and turn.
 #[derive(Drop)]
 pub struct Task {
-    pub(crate) frame: Box<Frame>,
+    pub(crate) machine: Box<Machine>,
 }
 
 impl Model for Task {
@@ -49,9 +49,9 @@ impl Model for Task {
 
     ghost use Rattle.tpal_machine.specs.Seen.{state_of, AreLow};
 
-    ghost view = { λ task. state_of task.frame.value };
+    ghost view = { λ task. state_of task.machine.value };
 
-    ghost invariant = { λ task. AreLow task.frame.value };
+    ghost invariant = { λ task. AreLow task.machine.value };
 }
 
 impl Task {
@@ -79,7 +79,7 @@ impl Task {
         ensures block { result.0 ≡ self.now.block }
         ensures position { result.1 ≡ min self.now.at (2 ^ 32 - 1) }
     {
-        (self.frame.block, told(self.frame.at))
+        (self.machine.block, told(self.machine.at))
     }
 }
 
@@ -89,9 +89,9 @@ fn first_task(alloc: Global, tables: Vec<Held>, fuel: u64) -> Result<Task, NoMem
 {
     let mut registers = [Word::Nil; 32];
     registers[31] = Word::Int(0);
-    let frame = Box::new(
+    let machine = Box::new(
         alloc,
-        Frame {
+        Machine {
             registers,
             stack: Stack::new(alloc, 0),
             tables,
@@ -107,5 +107,5 @@ fn first_task(alloc: Global, tables: Vec<Held>, fuel: u64) -> Result<Task, NoMem
             waiting: None,
         },
     )?;
-    Ok(Task { frame })
+    Ok(Task { machine })
 }

@@ -1,4 +1,4 @@
 -- Lemmas of this crate.
 pub mod Distinct
--- ops that are written one behind the other
-pub mod Decoding
+-- ops
+pub mod OpLaws

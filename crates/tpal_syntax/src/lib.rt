@@ -5,27 +5,28 @@
 //! time as `ops`, which the machine reads. Start with `instructions` and `blocks`.
 #![tactic(auto)]
 
+// The types of a code.
 mod blocks;
 mod codes;
-mod conditions;
 mod instructions;
-mod joined;
-mod levels;
-mod loops;
-mod names;
 mod notes;
-mod ops;
-mod parts;
 mod sites;
-mod sums;
 mod words;
+
+// Whether lists of tables and blocks are a code.
+mod conditions;
+mod names;
+mod parts;
+
+// The fast road: the instructions of a code a second time, as ops.
+mod ops;
 
 pub use blocks::{Block, CodeTable};
 pub use codes::Code;
 pub use conditions::is_target;
 pub use instructions::{Alu, Instr, Term, Value};
 pub use notes::{CarryAt, CutKind, Note, Target};
-pub use ops::{Flat, Op, Span};
+pub use ops::{Flat, Op, OpRange};
 pub use parts::{is_instr, is_term};
 pub use sites::{CallSite, LeafSite, LoopSite};
 pub use words::Word;

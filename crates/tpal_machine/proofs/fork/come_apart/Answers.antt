@@ -7,34 +7,34 @@ use Rattle.tpal_machine.proofs.fork.come_apart.Goals as goal
 
 pub returns-clause-parts : goal.returns-clause-parts
 returns-clause-parts c =
-    let rest_made : c.in_ok-rest_made.rest_made.items ≡ c.args.frame.now.made.items =
+    let rest_made : c.in_ok-rest_made.rest_made.items ≡ c.args.machine.now.made.items =
     cc c.in_ok-rest_made.ensures in
-    let child_made : c.in_ok-child_made.child_made.items ≡ c.args.frame.now.made.items =
+    let child_made : c.in_ok-child_made.child_made.items ≡ c.args.machine.now.made.items =
     cc c.in_ok-child_made.ensures in
     let limit = c.limit-limit.ensures.limit in
     let held = ap (λ v. v.items) c.replace-held.ensures.value in
     sym (λ i. record {
       rec = c.args.tie.rec;
       left = record {
-        registers = c.args.frame.now.registers;
+        registers = c.args.machine.now.registers;
         stack = c.args.stacks.left;
         tables = (rw held at c.in_ok-tables.ensures.left) i;
-        made = c.args.frame.now.made.items;
-        fuel = c.args.frame.now.fuel;
+        made = c.args.machine.now.made.items;
+        fuel = c.args.machine.now.fuel;
         beat = c.take.ensures.after i;
         output = (ap (λ v. v.items) c.replace.ensures.after ∙ c.new-6.ensures.items) i;
         goal = goals.At c.args.tie.rec Left c.args.tie.target;
-        block = c.args.frame.now.block;
-        at = c.args.frame.now.at;
+        block = c.args.machine.now.block;
+        at = c.args.machine.now.at;
         pending = None;
         met = None;
-        waiting = c.args.frame.now.waiting;
+        waiting = c.args.machine.now.waiting;
       };
       rest = record {
         stack = c.args.stacks.rest;
         tables = (rw held at c.in_ok-tables.ensures.rest) i;
         output = (c.replace.ensures.value i).items;
-        goal = c.args.frame.now.goal;
+        goal = c.args.machine.now.goal;
         base = c.args.base;
         rec = c.args.tie.rec;
         target = c.args.tie.target;
@@ -42,7 +42,7 @@ returns-clause-parts c =
         made = rest_made i;
       };
       child = (ap state_of c.in_ok-right.ensures.ok ∙ (λ j. record {
-        registers = slice_set c.args.frame.now.registers 31 (c.position.ensures j);
+        registers = slice_set c.args.machine.now.registers 31 (c.position.ensures j);
         stack = c.args.stacks.child;
         tables = (rw held at c.in_ok-tables.ensures.child) j;
         made = child_made j;

@@ -6,6 +6,6 @@ use Rattle.tpal_machine.proofs.fork.fork_at.Goals as goal
 pub returns-in-Err-clause-err : goal.returns-in-Err-clause-err
 returns-in-Err-clause-err c =
     let taken = rw c.deref_mut.ensures.value at c.replace-stack.ensures.value in
-    c.cut_trouble.ensures c.args.frame.value.stack c.args.mark _
+    c.cut_trouble.ensures c.args.machine.value.stack c.args.mark _
     (subst (λ (st : StackValue). CutCause c.in-Err.fault st c.args.mark.base c.args.mark.cells)
     taken c.in-Err.ensures.cause)

@@ -11,15 +11,15 @@ anyway (Err e) P p = p
 
 pub returns-in_err-put-clause-refused : goal.returns-in_err-put-clause-refused
 returns-in_err-put-clause-refused c =
-    let frame = c.args.frame.now in
+    let machine = c.args.machine.now in
     anyway c.from_residual-in_err-put.result _
-    (ap (λ ts. record frame { tables = ts })
-    (ap (with_item frame.tables c.args.table) c.in_err-put.ensures.err
-    ∙ written_over frame.tables c.args.table c.index_mut.result.now c.index_mut.ensures.value))
+    (ap (λ ts. record machine { tables = ts })
+    (ap (with_item machine.tables c.args.table) c.in_err-put.ensures.err
+    ∙ written_over machine.tables c.args.table c.index_mut.result.now c.index_mut.ensures.value))
 
 pub returns-else-branch-clause-refused : goal.returns-else-branch-clause-refused
 returns-else-branch-clause-refused c =
-    let frame = c.args.frame.now in
-    ap (λ ts. record frame { tables = ts })
-    (ap (with_item frame.tables c.args.table) (c.in_ok-put.ensures.not_held (ap Ok c.if-branch.false))
-    ∙ written_over frame.tables c.args.table c.index_mut.result.now c.index_mut.ensures.value)
+    let machine = c.args.machine.now in
+    ap (λ ts. record machine { tables = ts })
+    (ap (with_item machine.tables c.args.table) (c.in_ok-put.ensures.not_held (ap Ok c.if-branch.false))
+    ∙ written_over machine.tables c.args.table c.index_mut.result.now c.index_mut.ensures.value)
