@@ -9,7 +9,7 @@ use Rattle.slices.specs.Cells.{listed}
 use Rattle.slices.specs.Holding.{Holding, cell_at}
 use Rattle.tp_value.specs.declared.values.Table.{Table}
 use Rattle.loop_meaning.specs.State.{has_cell, cell_of}
-use Rattle.code_laws.specs.Owing.{IsWholeOf}
+use Rattle.scene_laws.specs.Tables.{IsWholeOf}
 
 both : (a b : Bool) → (a && b) ≡ true → (a ≡ true) × (b ≡ true)
 both true b h = (refl, h)

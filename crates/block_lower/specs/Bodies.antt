@@ -4,7 +4,7 @@ use Rattle.tp_value.specs.declared.limits.TheConstants.{MAX_DECLARED_VARIABLES}
 use Rattle.tp_value.specs.declared.limits.TheConstants.{MAX_ACTIVATION_CELLS}
 use Rattle.block_lower.specs.declared.body.Body.{Body}
 use Rattle.block_lower.specs.declared.body.Callee.{Callee}
-use Rattle.code_laws.specs.Layout.{value_cell, Entry, Activation}
+use Rattle.scene_laws.specs.Layout.{value_cell, Entry, Activation}
 
 abbrev pub entry : Callee → Entry
 entry c = record { name = c.name.items; label = c.label; parameters = c.parameters; size = c.size }

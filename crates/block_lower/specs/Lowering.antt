@@ -44,23 +44,24 @@ use Rattle.block_lower.specs.declared.repeat.Bound.TheVariants as bound
 use Rattle.block_lower.specs.declared.repeat.Turns.{Turns}
 use Rattle.block_lower.specs.declared.round.Round as told
 use Rattle.block_lower.specs.Bodies.{entries, activation}
-use Rattle.code_laws.specs.Code.{Opens, OpensAs, Computes, Operand, Arguments}
-use Rattle.code_laws.specs.Code.{parameter_cell, passed}
-use Rattle.code_laws.specs.Code.{Calls, Code, Codes, Other, to, store, load, below_test}
-use Rattle.code_laws.specs.Code.{step_up, put_tested}
-use Rattle.code_laws.specs.DeepMarked.{IsDeepSite, last_begun, next_begun}
-use Rattle.code_laws.specs.Fitting.{IsVisible, AreVisible, Fits, AllFit}
-use Rattle.code_laws.specs.Layout.{value_cell, bound_cell, Entry, Activation, kept_argument}
-use Rattle.code_laws.specs.LeafMarked.{IsLeafAt, leaf_turn}
-use Rattle.code_laws.specs.Marked.{length_test, marked_begin, unmark, side_test, IsQuietSite}
-use Rattle.code_laws.specs.Names.{Sees, SeesAs, StandFor}
-use Rattle.code_laws.specs.Opposite.{opposite}
-use Rattle.code_laws.specs.Pairs.{IsPair, call_enters, call_site, pair_begins, pair_joined}
-use Rattle.code_laws.specs.Pairs.{passed_call, second_call}
-use Rattle.code_laws.specs.Quiet.{list_is_quiet}
-use Rattle.code_laws.specs.Round.{Round}
-use Rattle.code_laws.specs.Sites.{rows_from}
-use Rattle.code_laws.specs.Sizes.{has_row}
+use Rattle.scene_laws.specs.Code.{Opens, OpensAs, Computes, Operand, Arguments}
+use Rattle.scene_laws.specs.Code.{parameter_cell, passed}
+use Rattle.scene_laws.specs.Code.{Calls, Code, Codes, Other, to, store, load, below_test}
+use Rattle.scene_laws.specs.Code.{step_up, put_tested}
+use Rattle.scene_laws.specs.DeepMarked.{IsDeepSite, last_begun, next_begun}
+use Rattle.scene_laws.specs.Visible.{IsVisible, AreVisible}
+use Rattle.code_laws.specs.Fitting.{Fits, AllFit}
+use Rattle.scene_laws.specs.Layout.{value_cell, bound_cell, Entry, Activation, kept_argument}
+use Rattle.scene_laws.specs.LeafMarked.{IsLeafAt, leaf_turn}
+use Rattle.scene_laws.specs.Marked.{length_test, marked_begin, unmark, side_test, IsQuietSite}
+use Rattle.scene_laws.specs.Names.{Sees, SeesAs, StandFor}
+use Rattle.scene_laws.specs.Opposite.{opposite}
+use Rattle.scene_laws.specs.Pairs.{IsPair, call_enters, call_site, pair_begins, pair_joined}
+use Rattle.scene_laws.specs.Pairs.{passed_call, second_call}
+use Rattle.scene_laws.specs.Quiet.{list_is_quiet}
+use Rattle.scene_laws.specs.Round.{Round}
+use Rattle.scene_laws.specs.Sites.{rows_from}
+use Rattle.scene_laws.specs.Sizes.{has_row}
 use Rattle.block_lower.specs.Writing.{label, next_label, IsFresh, Pushes, Stands, Continues}
 use Rattle.block_lower.specs.Writing.{Leads}
 

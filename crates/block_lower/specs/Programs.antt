@@ -17,15 +17,16 @@ use Rattle.expr_lower.specs.declared.scope.Scope.{Scope}
 use Rattle.block_lower.specs.declared.body.Body.{Body}
 use Rattle.block_lower.specs.declared.output.Output.{Output}
 use Rattle.block_lower.specs.Bodies.{entries, activation}
-use Rattle.code_laws.specs.Fitting.{IsVisible, AllFit, DeclsFit}
-use Rattle.code_laws.specs.Code.{Codes, store}
-use Rattle.code_laws.specs.Layout.{value_cell, levels_cell, Entry, Activation}
-use Rattle.code_laws.specs.Main.{IsFunction, Makes, table_name}
-use Rattle.code_laws.specs.Names.{SeesBare, names_after_list}
-use Rattle.code_laws.specs.Quiet.{functions_are_quiet}
-use Rattle.code_laws.specs.Round.{outermost}
-use Rattle.code_laws.specs.Sizes.{added_by_list, added_by_func, added_by_decls, declared_by_list}
-use Rattle.code_laws.specs.Sizes.{kept_by_list}
+use Rattle.scene_laws.specs.Visible.{IsVisible}
+use Rattle.code_laws.specs.Fitting.{AllFit, DeclsFit}
+use Rattle.scene_laws.specs.Code.{Codes, store}
+use Rattle.scene_laws.specs.Layout.{value_cell, levels_cell, Entry, Activation}
+use Rattle.form_laws.specs.Functions.{IsFunction, Makes, table_name}
+use Rattle.scene_laws.specs.Names.{SeesBare, names_after_list}
+use Rattle.scene_laws.specs.Quiet.{functions_are_quiet}
+use Rattle.scene_laws.specs.Round.{outermost}
+use Rattle.scene_laws.specs.Sizes.{added_by_list, added_by_func, added_by_decls, declared_by_list}
+use Rattle.scene_laws.specs.Sizes.{kept_by_list}
 use Rattle.block_lower.specs.Writing.{label, Stands, Continues, Leads}
 
 -- ---- functions

@@ -2,7 +2,7 @@
 use Rattle.std.specs.Prelude.{◌≡◌, ◌-◌, ◌^◌, ◌<◌, min}
 use Rattle.loop_syntax.specs.declared.program.Program.{Program}
 use Rattle.tp_value.specs.declared.limits.TheConstants.{MAX_BLOCKS}
-use Rattle.code_laws.specs.Count.{blocks_of_program}
+use Rattle.scene_laws.specs.Count.{blocks_of_program}
 use Rattle.block_lower.specs.declared.fault.LowerFault.{LowerFault}
 use Rattle.block_lower.specs.declared.fault.LowerFault.TheVariants.{Blocks, NoMemory}
 

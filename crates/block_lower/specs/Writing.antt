@@ -10,7 +10,7 @@ use Rattle.tpal_syntax.specs.Listing.{Listing}
 use Rattle.expr_lower.specs.Bodies.{name_of, trap_block}
 use Rattle.expr_lower.specs.Standing.{AreAt}
 use Rattle.block_lower.specs.declared.output.Output.{Output}
-use Rattle.code_laws.specs.Code.{OpensAs}
+use Rattle.scene_laws.specs.Code.{OpensAs}
 
 -- the label of the open block
 abbrev pub label : Output → ℕ

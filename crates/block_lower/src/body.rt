@@ -3,8 +3,8 @@
 ghost use Rattle.std.specs.Prelude.{◌≡◌, ◌≤◌, ◌+◌, Some};
 ghost use Rattle.tp_value.specs.declared.limits.TheConstants.{MAX_ACTIVATION_CELLS, MAX_PARAMETERS};
 ghost use Rattle.block_lower.specs.Bodies.{entries, HasRoomFor};
-ghost use Rattle.code_laws.specs.Layout as layout;
-ghost use Rattle.code_laws.specs.Layout.{Entry, entry_of};
+ghost use Rattle.scene_laws.specs.Layout as layout;
+ghost use Rattle.scene_laws.specs.Layout.{Entry, entry_of};
 
 use crate::layout::value_cell;
 

@@ -3,8 +3,8 @@
 
 ghost use Rattle.std.specs.Prelude.{◌≡◌, ◌+◌, min};
 ghost use Rattle.std.specs.List.{sum_by};
-ghost use Rattle.code_laws.specs.Count.{blocks_of_expr, blocks_of_exprs, blocks, blocks_of_list};
-ghost use Rattle.code_laws.specs.Count.{blocks_of_func, blocks_of_decl, blocks_of_program};
+ghost use Rattle.scene_laws.specs.Count.{blocks_of_expr, blocks_of_exprs, blocks, blocks_of_list};
+ghost use Rattle.scene_laws.specs.Count.{blocks_of_func, blocks_of_decl, blocks_of_program};
 
 use loop_check::Checked;
 use loop_syntax::{Expr, Func, Stmt, TableDecl};

@@ -11,12 +11,12 @@ ghost use Rattle.loop_syntax.specs.declared.Stmt;
 ghost use Rattle.expr_lower.specs.Bodies.{trap_count};
 ghost use Rattle.handler_gen.specs.Sites.{IsLoopSite};
 ghost use Rattle.block_lower.specs.Bodies.{HasRoomFor};
-ghost use Rattle.code_laws.specs.Heights.{AllAreLow};
+ghost use Rattle.scene_laws.specs.Heights.{AllAreLow};
 ghost use Rattle.block_lower.specs.Lowering.{Lowers, FitsIn, WritesNext, WritesLast};
 ghost use Rattle.block_lower.specs.Lowering.{WritesDeepSite, BeginsDeep};
-ghost use Rattle.code_laws.specs.Names.{SeesAfter};
-ghost use Rattle.code_laws.specs.Quiet.{list_is_quiet};
-ghost use Rattle.code_laws.specs.Sizes as sizes;
+ghost use Rattle.scene_laws.specs.Names.{SeesAfter};
+ghost use Rattle.scene_laws.specs.Quiet.{list_is_quiet};
+ghost use Rattle.scene_laws.specs.Sizes as sizes;
 ghost use Rattle.block_lower.specs.Writing as writing;
 ghost use Rattle.block_lower.specs.Writing.{IsFresh};
 

@@ -7,14 +7,14 @@ ghost use Rattle.tp_value.specs.declared.limits.TheConstants.{MAX_TABLES};
 ghost use Rattle.loop_rules.specs.Names.{texts};
 ghost use Rattle.tpal_syntax.specs.Listing.{Listing};
 ghost use Rattle.block_lower.specs.Bodies.{entries, HasRoomFor};
-ghost use Rattle.code_laws.specs.Code as codes;
-ghost use Rattle.code_laws.specs.Heights.{FuncIsLow};
-ghost use Rattle.code_laws.specs.Layout.{return_cell};
-ghost use Rattle.code_laws.specs.Names.{SeesAfter};
+ghost use Rattle.scene_laws.specs.Code as codes;
+ghost use Rattle.scene_laws.specs.Heights.{FuncIsLow};
+ghost use Rattle.scene_laws.specs.Layout.{return_cell};
+ghost use Rattle.scene_laws.specs.Names.{SeesAfter};
 ghost use Rattle.block_lower.specs.Programs as programs;
 ghost use Rattle.block_lower.specs.Programs.{LowersFunc, LowersFuncs, FuncIsSmall};
 ghost use Rattle.block_lower.specs.Programs.{FuncsFitNow};
-ghost use Rattle.code_laws.specs.Sizes as sizes;
+ghost use Rattle.scene_laws.specs.Sizes as sizes;
 ghost use Rattle.block_lower.specs.Writing as writing;
 ghost use Rattle.block_lower.specs.Writing.{IsFresh, Stands, Continues};
 
@@ -37,7 +37,7 @@ fn most_of(f: &Func) -> usize
 }
 
 /// How many cells it has.
-#[tactic(auto, using(code_laws::proofs::Counts::Adding::few_kept_by_list))]
+#[tactic(auto, using(scene_laws::proofs::Counts::Adding::few_kept_by_list))]
 fn size_of(f: &Func) -> u16
     requires small { FuncIsSmall f.now }
     requires low { FuncIsLow f.now }

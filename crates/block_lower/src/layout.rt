@@ -2,7 +2,7 @@
 
 ghost use Rattle.std.specs.Prelude.{◌≡◌, ◌<◌, ◌≤◌};
 ghost use Rattle.tp_value.specs.declared.limits.TheConstants.{MAX_PARAMETERS};
-ghost use Rattle.code_laws.specs.Layout as layout;
+ghost use Rattle.scene_laws.specs.Layout as layout;
 
 use tp_value::{MAX_DECLARED_VARIABLES, MAX_PAR_NESTING};
 

@@ -12,15 +12,15 @@ ghost use Rattle.expr_lower.specs.Bodies.{trap_count};
 ghost use Rattle.expr_lower.specs.Nodes.{IsNode, operation_height, operation_traps};
 ghost use Rattle.expr_lower.specs.Registers.{base_register};
 ghost use Rattle.loop_syntax.specs.declared.Expr.{Expr};
-ghost use Rattle.code_laws.specs.Code as codes;
+ghost use Rattle.scene_laws.specs.Code as codes;
 ghost use Rattle.block_lower.specs.Lowering.{WritesOperand, WritesValue};
 ghost use Rattle.block_lower.specs.Writing as writing;
 ghost use Rattle.block_lower.specs.Writing.{IsEmpty, IsFresh, Pushes, Traps, Closes, Appends};
 ghost use Rattle.block_lower.specs.Writing.{Readies};
 ghost use Rattle.expr_lower.specs.Scopes.{offset_of, register_of, table_number};
 ghost use Rattle.block_lower.specs.Bodies.{HasRoomFor};
-ghost use Rattle.code_laws.specs.Layout.{value_cell};
-ghost use Rattle.code_laws.specs.Names.{SeesAfter};
+ghost use Rattle.scene_laws.specs.Layout.{value_cell};
+ghost use Rattle.scene_laws.specs.Names.{SeesAfter};
 
 use crate::body::{Body, kept_cell, parameter_cell};
 use crate::output::{Output, close, next_label, push, push_operation, push_trap_block, push_value};

@@ -4,10 +4,10 @@ ghost use Rattle.std.specs.Prelude.{◌≡◌, ◌+◌, ◌<◌, ◌≤◌, ◌+
 ghost use Rattle.loop_rules.specs.Limits.{height};
 ghost use Rattle.expr_lower.specs.Bodies.{trap_count};
 ghost use Rattle.block_lower.specs.Bodies.{HasRoomFor};
-ghost use Rattle.code_laws.specs.Heights.{DeclIsLow};
+ghost use Rattle.scene_laws.specs.Heights.{DeclIsLow};
 ghost use Rattle.block_lower.specs.Programs.{SeesTables, WritesMakes};
-ghost use Rattle.code_laws.specs.Main.{table_name};
-ghost use Rattle.code_laws.specs.Sizes as sizes;
+ghost use Rattle.form_laws.specs.Functions.{table_name};
+ghost use Rattle.scene_laws.specs.Sizes as sizes;
 ghost use Rattle.block_lower.specs.Writing as writing;
 ghost use Rattle.block_lower.specs.Writing.{Pushes};
 ghost use Rattle.block_lower.specs.declared.body.Body.{Body};

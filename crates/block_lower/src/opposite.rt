@@ -3,8 +3,8 @@
 ghost use Rattle.std.specs.Prelude.{◌≡◌, Box, MatchOption, None};
 ghost use Rattle.std.specs.declared.alloc.Global.{Global};
 ghost use Rattle.expr_lower.specs.Bodies.{literal};
-ghost use Rattle.code_laws.specs.Opposite.{IsFound, branch_blocks, of_below};
-ghost use Rattle.code_laws.specs.Opposite.{opposite};
+ghost use Rattle.scene_laws.specs.Opposite.{IsFound, branch_blocks, of_below};
+ghost use Rattle.scene_laws.specs.Opposite.{opposite};
 
 use expr_lower::{Operation, literal};
 use loop_syntax::{BinOp, Expr};

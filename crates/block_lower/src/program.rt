@@ -6,17 +6,19 @@ ghost use Rattle.tp_value.specs.declared.limits.TheConstants.{MAX_BLOCKS, MAX_TA
 ghost use Rattle.tpal_syntax.specs.Listing.{Listing};
 ghost use Rattle.expr_lower.specs.Standing.{AreAt};
 ghost use Rattle.block_lower.specs.Bodies.{entries, HasRoomFor};
-ghost use Rattle.code_laws.specs.Code as codes;
-ghost use Rattle.code_laws.specs.Count.{blocks_of_program};
+ghost use Rattle.scene_laws.specs.Code as codes;
+ghost use Rattle.scene_laws.specs.Count.{blocks_of_program};
 ghost use Rattle.code_laws.specs.Fitting.{ProgramFits};
-ghost use Rattle.code_laws.specs.Layout.{levels_cell, value_cell};
-ghost use Rattle.code_laws.specs.Main.{IsProgram, table_name};
-ghost use Rattle.code_laws.specs.Names.{SeesBare};
-ghost use Rattle.code_laws.specs.Owing.{AreDeclared, OwesMeaning};
+ghost use Rattle.scene_laws.specs.Layout.{levels_cell, value_cell};
+ghost use Rattle.code_laws.specs.Main.{IsProgram};
+ghost use Rattle.form_laws.specs.Functions.{table_name};
+ghost use Rattle.scene_laws.specs.Names.{SeesBare};
+ghost use Rattle.scene_laws.specs.Tables.{AreDeclared};
+ghost use Rattle.code_laws.specs.Owing.{OwesMeaning};
 ghost use Rattle.block_lower.specs.Programs as programs;
 ghost use Rattle.block_lower.specs.Programs.{LowersMain};
 ghost use Rattle.block_lower.specs.Refusing.{IsCause};
-ghost use Rattle.code_laws.specs.Sizes as sizes;
+ghost use Rattle.scene_laws.specs.Sizes as sizes;
 ghost use Rattle.block_lower.specs.Writing as writing;
 ghost use Rattle.block_lower.specs.Writing.{IsFresh, Pushes};
 

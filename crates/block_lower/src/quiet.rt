@@ -1,7 +1,7 @@
 // Where no task is cut.
 
 ghost use Rattle.std.specs.Prelude.{◌≡◌};
-ghost use Rattle.code_laws.specs.Quiet as quiet;
+ghost use Rattle.scene_laws.specs.Quiet as quiet;
 
 use loop_syntax::{Func, Reduce, Stmt};
 

@@ -7,13 +7,13 @@ ghost use Rattle.tp_value.specs.declared.limits.TheConstants.{MAX_EXPRESSION_HEI
 ghost use Rattle.loop_rules.specs.Limits.{height};
 ghost use Rattle.expr_lower.specs.Bodies.{trap_count};
 ghost use Rattle.block_lower.specs.Bodies.{HasRoomFor};
-ghost use Rattle.code_laws.specs.Code as codes;
-ghost use Rattle.code_laws.specs.Heights.{AllAreLow};
+ghost use Rattle.scene_laws.specs.Code as codes;
+ghost use Rattle.scene_laws.specs.Heights.{AllAreLow};
 ghost use Rattle.block_lower.specs.Lowering.{Lowers, WithBody, LowersBody, WritesBelow};
 ghost use Rattle.block_lower.specs.Lowering.{WritesBounds, WritesStart, WritesBoundedStart};
 ghost use Rattle.block_lower.specs.Lowering.{BeginsLoop, EndsLoop, FitsIn, FitsInside};
-ghost use Rattle.code_laws.specs.Names.{SeesAfter};
-ghost use Rattle.code_laws.specs.Sizes as sizes;
+ghost use Rattle.scene_laws.specs.Names.{SeesAfter};
+ghost use Rattle.scene_laws.specs.Sizes as sizes;
 ghost use Rattle.block_lower.specs.Writing as writing;
 ghost use Rattle.block_lower.specs.Writing.{IsEmpty, IsFresh, Pushes};
 

@@ -2,7 +2,7 @@
 
 ghost use Rattle.std.specs.Prelude.{◌≡◌, ◌<◌, ◌≤◌, ◌+◌, ◌++◌, ◌∷◌, [], take, length, OnOk};
 ghost use Rattle.tp_value.specs.declared.limits.TheConstants.{MAX_DECLARED_VARIABLES};
-ghost use Rattle.code_laws.specs.Names.{SeesAfter};
+ghost use Rattle.scene_laws.specs.Names.{SeesAfter};
 
 use crate::layout::value_cell;
 use expr_lower::Scope;

@@ -4,7 +4,7 @@ ghost use Rattle.std.specs.Prelude.{◌≡◌, ◌+◌, ◌<◌, ◌≤◌, ◌�
 ghost use Rattle.tp_value.specs.declared.limits.TheConstants.{MAX_CARRIES, MAX_TABLES};
 ghost use Rattle.tp_value.specs.declared.limits.TheConstants.{MAX_DECLARED_VARIABLES};
 ghost use Rattle.tp_value.specs.declared.limits.TheConstants.{MAX_PAR_NESTING};
-ghost use Rattle.code_laws.specs.Sites as sites;
+ghost use Rattle.scene_laws.specs.Sites as sites;
 ghost use Rattle.block_lower.specs.Writing as writing;
 ghost use Rattle.block_lower.specs.Writing.{Pushes};
 

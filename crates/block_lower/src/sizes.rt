@@ -4,8 +4,8 @@
 ghost use Rattle.std.specs.Prelude.{◌≡◌, ◌+◌, min};
 ghost use Rattle.std.specs.List.{list_any};
 ghost use Rattle.expr_lower.specs.Bodies.{trap_count};
-ghost use Rattle.code_laws.specs.Heights.{AllAreLow, AreLow};
-ghost use Rattle.code_laws.specs.Sizes as sizes;
+ghost use Rattle.scene_laws.specs.Heights.{AllAreLow, AreLow};
+ghost use Rattle.scene_laws.specs.Sizes as sizes;
 
 use crate::layout::kept_by_both;
 use crate::opposite::branch_blocks;

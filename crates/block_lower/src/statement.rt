@@ -10,13 +10,13 @@ ghost use Rattle.loop_rules.specs.Names.{operator_of};
 ghost use Rattle.block_lower.specs.declared.body.Body.{Body};
 ghost use Rattle.block_lower.specs.declared.round.Round.{Round};
 ghost use Rattle.block_lower.specs.Bodies.{HasRoomFor};
-ghost use Rattle.code_laws.specs.Heights.{AreLow, AllAreLow};
+ghost use Rattle.scene_laws.specs.Heights.{AreLow, AllAreLow};
 ghost use Rattle.block_lower.specs.Lowering.{Lowers, WithBody, LowersAll, LowersBranch};
 ghost use Rattle.block_lower.specs.Lowering.{LowersOther, FitsIn, WritesChoice, WritesTest};
 ghost use Rattle.block_lower.specs.Lowering.{folded_in_cell};
-ghost use Rattle.code_laws.specs.Names.{SeesAfter, names_after, names_after_list};
-ghost use Rattle.code_laws.specs.Opposite.{branch_blocks, opposite};
-ghost use Rattle.code_laws.specs.Sizes as sizes;
+ghost use Rattle.scene_laws.specs.Names.{SeesAfter, names_after, names_after_list};
+ghost use Rattle.scene_laws.specs.Opposite.{branch_blocks, opposite};
+ghost use Rattle.scene_laws.specs.Sizes as sizes;
 ghost use Rattle.block_lower.specs.Writing as writing;
 ghost use Rattle.block_lower.specs.Writing.{IsFresh, Pushes};
 

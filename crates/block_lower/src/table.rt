@@ -11,9 +11,9 @@ ghost use Rattle.expr_lower.specs.Scopes.{table_number};
 ghost use Rattle.tp_value.specs.declared.Place.{Place};
 ghost use Rattle.block_lower.specs.declared.round.Round.{Round};
 ghost use Rattle.block_lower.specs.Bodies.{HasRoomFor};
-ghost use Rattle.code_laws.specs.Heights.{IsLow};
+ghost use Rattle.scene_laws.specs.Heights.{IsLow};
 ghost use Rattle.block_lower.specs.Lowering.{Lowers, WritesPut};
-ghost use Rattle.code_laws.specs.Sizes as sizes;
+ghost use Rattle.scene_laws.specs.Sizes as sizes;
 ghost use Rattle.block_lower.specs.Writing as writing;
 
 use crate::lowering::Lowering;

@@ -2,7 +2,7 @@
 
 -- what holds of expressions, arguments and calls where no rule is broken
 pub mod UnbrokenExpressions
--- where statements stand in a program: what is visible behind a statement, and at which levels
+-- where statements stand in a program: what is visible behind a statement
 pub mod UnbrokenSpots
 -- what stands round a statement where no rule is broken: each fixed variable is that of a loop, or
 -- the nearest `par` doesn't let its body set it

@@ -10,8 +10,6 @@ use Rattle.tp_value.specs.declared.limits.TheConstants.{MAX_REDUCTIONS}
 use Rattle.tp_value.specs.declared.limits.TheConstants.{MAX_DECLARED_VARIABLES}
 use Rattle.loop_syntax.specs.declared.App.{App}
 use Rattle.loop_syntax.specs.declared.Carry.{Carry}
-use Rattle.loop_syntax.specs.declared.Expr.{Expr}
-use Rattle.loop_syntax.specs.declared.Expr.TheVariants.{Int, Var, Cell', Rows, Cols, Neg', Bin'}
 use Rattle.loop_syntax.specs.declared.Func.{Func}
 use Rattle.loop_syntax.specs.declared.Program.{Program}
 use Rattle.loop_syntax.specs.declared.Reduce.{Reduce}
@@ -23,27 +21,13 @@ use Rattle.loop_syntax.specs.declared.TableDecl.TheVariants.{Input, Made}
 use Rattle.loop_rules.specs.Declarations.{declared_list, table_of_decl}
 use Rattle.loop_rules.specs.Names.{is_in, texts, func_names, func_of}
 use Rattle.loop_rules.specs.Sites.{tables_of}
-use Rattle.code_laws.specs.Heights.{AllAreLow, FuncIsLow, DeclIsLow}
-use Rattle.code_laws.specs.Layout.{Entry, entry_of}
-use Rattle.code_laws.specs.Names.{names_after, names_after_list}
-pub use Rattle.code_laws.specs.Names.{level_of}
-use Rattle.code_laws.specs.Round.{Round, outermost, loop_round, par_round}
-use Rattle.code_laws.specs.Sites.{carried_table}
+use Rattle.scene_laws.specs.Heights.{AllAreLow, FuncIsLow, DeclIsLow}
+use Rattle.scene_laws.specs.Layout.{Entry, entry_of}
+use Rattle.scene_laws.specs.Names.{level_of, names_after, names_after_list}
+use Rattle.scene_laws.specs.Round.{Round, outermost, loop_round, par_round}
+use Rattle.scene_laws.specs.Sites.{carried_table}
+use Rattle.scene_laws.specs.Visible.{IsVisible, AreVisible}
 use Rattle.frame_machine.specs.Lawful.{Distinct, DistinctTargets}
-
--- the variables and tables of an expression are among these tables and these variables
-abbrev pub IsVisible : List (List ℕ) → List (List ℕ) → Expr → Type 0
-IsVisible tables names (Int n place) = ⊤
-IsVisible tables names (Var x) = IsTrue (is_in names x.text.items)
-IsVisible tables names (Cell' t p a q b) =
-    IsTrue (is_in tables t.text.items) × IsVisible tables names a × IsVisible tables names b
-IsVisible tables names (Rows t) = IsTrue (is_in tables t.text.items)
-IsVisible tables names (Cols t) = IsTrue (is_in tables t.text.items)
-IsVisible tables names (Neg' p a place) = IsVisible tables names a
-IsVisible tables names (Bin' o place p a q b) = IsVisible tables names a × IsVisible tables names b
-
-abbrev pub AreVisible : List (List ℕ) → List (List ℕ) → List Expr → Type 0
-AreVisible tables names es = AllByRecursion (IsVisible tables names) es
 
 -- Statements of a program with these tables and functions, in an activation with room for so many
 -- variables.

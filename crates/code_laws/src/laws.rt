@@ -5,7 +5,7 @@ ghost use Rattle.std.specs.Prelude.{◌≡◌, ◌*◌, ◌≤◌, length};
 ghost use Rattle.loop_check.specs.Unbroken.{NoneBroken};
 ghost use Rattle.loop_parse.specs.Text.{Reads};
 ghost use Rattle.loop_syntax.specs.Tree.{program_of};
-ghost use Rattle.code_laws.specs.Count.{blocks_of_program};
+ghost use Rattle.scene_laws.specs.Count.{blocks_of_program};
 ghost use Rattle.code_laws.specs.Main.{IsProgram};
 ghost use Rattle.code_laws.specs.Owing.{OwesMeaning};
 

@@ -9,12 +9,12 @@ use Rattle.loop_syntax.specs.declared.Stmt.TheVariants.{Fold, Call, Both, Print,
 use Rattle.tpal_syntax.specs.declared.instructions.Instr.{Instr}
 use Rattle.tpal_syntax.specs.declared.instructions.Term.{Term}
 use Rattle.tpal_syntax.specs.Listing.{Listing}
-use Rattle.code_laws.specs.Code.{Code, Codes, none, one_more}
+use Rattle.scene_laws.specs.Code.{Code, Codes, none, one_more}
 use Rattle.code_laws.specs.Fitting.{Fits, FitInRow, AllFit}
-use Rattle.code_laws.specs.Heights.{RowIsLow, AllAreLow}
-use Rattle.code_laws.specs.Layout.{Entry, Activation}
-use Rattle.code_laws.specs.Names.{names_after, names_after_list}
-use Rattle.code_laws.specs.Round.{Round, loop_round}
+use Rattle.scene_laws.specs.Heights.{RowIsLow, AllAreLow}
+use Rattle.scene_laws.specs.Layout.{Entry, Activation}
+use Rattle.scene_laws.specs.Names.{names_after, names_after_list}
+use Rattle.scene_laws.specs.Round.{Round, loop_round}
 
 low_of_row : {m : _} (row : Row_of-Stmt m) → RowIsLow row → AllAreLow (items-the_row-Stmt _ row)
 low_of_row end_of-Stmt low = tt

@@ -19,15 +19,15 @@ use Rattle.block_lower.specs.declared.body.Body.{Body}
 use Rattle.block_lower.specs.declared.round.Round as told
 use Rattle.block_lower.specs.Bodies.{entries}
 use Rattle.code_laws.specs.Fitting.{AllFit, Fits}
-use Rattle.code_laws.specs.Layout.{Entry}
+use Rattle.scene_laws.specs.Layout.{Entry}
 use Rattle.block_lower.specs.Lowering.{AreStill, FitsIn, FitsInside, IsRound}
-use Rattle.code_laws.specs.Names.{SeesAfter, names_after, names_after_list}
+use Rattle.scene_laws.specs.Names.{SeesAfter, names_after, names_after_list}
 use Rattle.block_lower.specs.Programs.{FuncFitsIn, FuncsFitNow, most_of}
-use Rattle.code_laws.specs.Quiet.{all_is_quiet, is_leaf, is_quiet, list_is_quiet}
-use Rattle.code_laws.specs.Round.{Round, loop_round, outermost, par_round}
+use Rattle.scene_laws.specs.Quiet.{all_is_quiet, is_leaf, is_quiet, list_is_quiet}
+use Rattle.scene_laws.specs.Round.{Round, loop_round, outermost, par_round}
 use Rattle.block_lower.proofs.Written.Fitting.{fit_of_vec}
 use Rattle.block_lower.proofs.Written.LoweredLoops.{loop_is_round, par_is_round}
-use Rattle.code_laws.proofs.Counts.QuietRows.{leaf_is_quiet, quiet_of_vec}
+use Rattle.scene_laws.proofs.Counts.QuietRows.{leaf_is_quiet, quiet_of_vec}
 use Rattle.block_lower.proofs.Written.Standing.{sees_held}
 use Rattle.block_lower.proofs.Written.WrittenFunctions.{holds_at, sees_tables}
 

@@ -15,13 +15,13 @@ use Rattle.loop_syntax.specs.declared.Reduce.{Reduce}
 use Rattle.tpal_syntax.specs.declared.sites.LeafSite.{LeafSite}
 use Rattle.expr_lower.specs.declared.scope.Scope.{Scope}
 use Rattle.expr_lower.specs.Scopes.{has_cell_in, offset_of, register_in}
-use Rattle.code_laws.specs.Layout.{bound_cell, value_cell}
+use Rattle.scene_laws.specs.Layout.{bound_cell, value_cell}
 use Rattle.block_lower.specs.Lowering.{AreHeld, held_by, held_from}
-use Rattle.code_laws.specs.Names.{Sees, StandFor, level_of}
-use Rattle.code_laws.specs.Round.{register_for}
-use Rattle.code_laws.specs.Sites.{accs_of}
-use Rattle.code_laws.proofs.Rules.UnbrokenSpots.{at_level}
-use Rattle.code_laws.proofs.Scenes.Seeing.{cell_of_level, one_cell}
+use Rattle.scene_laws.specs.Names.{Sees, StandFor, level_of}
+use Rattle.scene_laws.specs.Round.{register_for}
+use Rattle.scene_laws.specs.Sites.{accs_of}
+use Rattle.scene_laws.proofs.Scenes.Levels.{at_level}
+use Rattle.scene_laws.proofs.Scenes.Seeing.{cell_of_level, one_cell}
 use Rattle.block_lower.proofs.Written.Standing.{is_behind, level_before, level_behind}
 
 abbrev Held : Type 0

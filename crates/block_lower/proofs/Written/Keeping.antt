@@ -5,12 +5,12 @@ use Rattle.std.specs.declared.alloc.Global.{Global}
 use Rattle.std.proofs.lemmas.List.{map-append}
 use Rattle.loop_syntax.specs.declared.Stmt.{Stmt}
 use Rattle.expr_lower.specs.declared.scope.Scope.{Scope}
-use Rattle.code_laws.specs.Layout.{value_cell}
-use Rattle.code_laws.specs.Names.{Sees, SeesAfter, AreLaid, names_after, names_after_list}
-use Rattle.code_laws.proofs.Forms.Choices.{first_names, first_names_in}
+use Rattle.scene_laws.specs.Layout.{value_cell}
+use Rattle.scene_laws.specs.Names.{Sees, SeesAfter, AreLaid, names_after, names_after_list}
+use Rattle.form_laws.proofs.Forms.Choices.{first_names, first_names_in}
 use Rattle.block_lower.proofs.Written.Fitting.{names_after_more}
 use Rattle.block_lower.proofs.Written.Laying.{names_take_cells, laid_take, laid_push}
-use Rattle.code_laws.proofs.Scenes.Seeing.{as_long}
+use Rattle.scene_laws.proofs.Scenes.Seeing.{as_long}
 
 pub sees_declared : (old new : Scope) (c : Vec ℕ Global × ℕ) (x : List ℕ)
     → new.cells.items ≡ old.cells.items ++ c ∷ [] → c.0.items ≡ x

@@ -2,8 +2,8 @@
 use Rattle.std.proofs.Common.{◌≡◌, ℕ, zero, suc, ◌+◌, List, [], ◌∷◌, ◌++◌, length, take, map, Vec}
 use Rattle.std.proofs.Common.{refl, ap, arith}
 use Rattle.std.specs.declared.alloc.Global.{Global}
-use Rattle.code_laws.specs.Layout.{value_cell}
-use Rattle.code_laws.specs.Names.{AreLaid}
+use Rattle.scene_laws.specs.Layout.{value_cell}
+use Rattle.scene_laws.specs.Names.{AreLaid}
 
 abbrev Cell : Type 0
 Cell = Vec ℕ Global × ℕ

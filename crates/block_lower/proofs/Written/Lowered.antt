@@ -23,23 +23,24 @@ use Rattle.block_lower.specs.declared.body.Body.{Body}
 use Rattle.block_lower.specs.declared.output.Output.{Output}
 use Rattle.block_lower.specs.declared.round.Round as told
 use Rattle.block_lower.specs.Bodies.{entries, activation}
-use Rattle.code_laws.specs.Code.{Opens, Computes, Operand, number, standing, computed, IsCell}
-use Rattle.code_laws.specs.Code.{Code, set_register_code}
-use Rattle.code_laws.specs.Code.{let_code, set_code, print_code, if_code, if_not_code, while_code}
-use Rattle.code_laws.specs.Code.{Codes}
-use Rattle.code_laws.specs.Code.{Branch, branch, Other, nothing, something, to, store}
-use Rattle.code_laws.specs.Fitting.{AllFit, IsFree, level_of}
-use Rattle.code_laws.specs.Layout.{value_cell}
+use Rattle.scene_laws.specs.Code.{Opens, Computes, Operand, number, standing, computed, IsCell}
+use Rattle.scene_laws.specs.Code.{Code, set_register_code}
+use Rattle.scene_laws.specs.Code.{let_code, set_code, print_code, if_code, if_not_code, while_code}
+use Rattle.scene_laws.specs.Code.{Codes}
+use Rattle.scene_laws.specs.Code.{Branch, branch, Other, nothing, something, to, store}
+use Rattle.code_laws.specs.Fitting.{AllFit, IsFree}
+use Rattle.scene_laws.specs.Names.{level_of}
+use Rattle.scene_laws.specs.Layout.{value_cell}
 use Rattle.block_lower.specs.Lowering.{WritesValue, WritesOperand, WritesTest, WritesBelow, Lowers}
 use Rattle.block_lower.specs.Lowering.{WritesChoice, by_opposite, by_test}
 use Rattle.block_lower.specs.Lowering.{IsRound, WithBody, LowersAll, LowersBranch, LowersOther, LowersBody}
-use Rattle.code_laws.specs.Names.{Sees, SeesAfter, SeesAs, names_after_list}
+use Rattle.scene_laws.specs.Names.{Sees, SeesAfter, SeesAs, names_after_list}
 use Rattle.block_lower.specs.Writing.{label, IsEmpty, IsFresh, Pushes, Closes, Stands, Continues}
 use Rattle.block_lower.specs.Writing.{Leads}
-use Rattle.code_laws.specs.Round.{Round}
-use Rattle.code_laws.proofs.Forms.Opposites.{opposite_visible}
+use Rattle.scene_laws.specs.Round.{Round}
+use Rattle.form_laws.proofs.Forms.Opposites.{opposite_visible}
 use Rattle.block_lower.proofs.Written.Fitting.{fit_of_vec, fit_before, fit_last, codes_more}
-use Rattle.code_laws.proofs.Scenes.Seeing.{as_long, cell_of_level, seen_variable}
+use Rattle.scene_laws.proofs.Scenes.Seeing.{as_long, cell_of_level, seen_variable}
 use Rattle.block_lower.proofs.Written.Standing.{held_for, sees_as, stand_after_list}
 use Rattle.block_lower.proofs.Written.Writing.{pushed, closed_block, empty_opens, fresh_opens}
 

@@ -22,15 +22,15 @@ use Rattle.block_lower.specs.declared.body.Body.{Body}
 use Rattle.block_lower.specs.declared.output.Output.{Output}
 use Rattle.block_lower.specs.declared.round.Round as told
 use Rattle.block_lower.specs.Bodies.{entries, activation}
-use Rattle.code_laws.specs.Code.{Operand, Arguments, no_argument, one_argument, parameter_cell}
-use Rattle.code_laws.specs.Code.{passed, Calls, Code, call_code, Opens, to, store, load}
-use Rattle.code_laws.specs.Code.{call_test, call_entry, call_exit}
-use Rattle.code_laws.specs.Fitting.{IsVisible, AreVisible}
-use Rattle.code_laws.specs.Layout.{levels_cell, value_cell, Entry, entry_of, Activation}
-use Rattle.code_laws.specs.Layout.{kept_argument}
+use Rattle.scene_laws.specs.Code.{Operand, Arguments, no_argument, one_argument, parameter_cell}
+use Rattle.scene_laws.specs.Code.{passed, Calls, Code, call_code, Opens, to, store, load}
+use Rattle.scene_laws.specs.Code.{call_test, call_entry, call_exit}
+use Rattle.scene_laws.specs.Visible.{IsVisible, AreVisible}
+use Rattle.scene_laws.specs.Layout.{levels_cell, value_cell, Entry, entry_of, Activation}
+use Rattle.scene_laws.specs.Layout.{kept_argument}
 use Rattle.block_lower.specs.Lowering.{WritesOperand, WritesArguments, WritesBothArguments}
 use Rattle.block_lower.specs.Lowering.{WritesPassed, WritesCall, Lowers}
-use Rattle.code_laws.specs.Pairs.{call_given}
+use Rattle.scene_laws.specs.Pairs.{call_given}
 use Rattle.block_lower.specs.Writing.{label, IsFresh, Pushes, Closes, Stands, Continues, Leads}
 use Rattle.block_lower.proofs.Written.Lowered.{cell_is}
 use Rattle.block_lower.proofs.Written.Standing.{sees_bare}

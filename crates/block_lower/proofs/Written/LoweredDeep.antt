@@ -30,24 +30,24 @@ use Rattle.block_lower.specs.declared.body.Body.{Body}
 use Rattle.block_lower.specs.declared.output.Output.{Output}
 use Rattle.block_lower.specs.declared.round.Round as told
 use Rattle.block_lower.specs.Bodies.{entries, activation}
-use Rattle.code_laws.specs.Code.{Code, Opens, OpensAs, deep_par_code, load, store, to}
-use Rattle.code_laws.specs.DeepMarked.{last_begun, next_begun}
-use Rattle.code_laws.specs.Layout.{cursor_cell, value_cell, Activation}
+use Rattle.scene_laws.specs.Code.{Code, Opens, OpensAs, deep_par_code, load, store, to}
+use Rattle.scene_laws.specs.DeepMarked.{last_begun, next_begun}
+use Rattle.scene_laws.specs.Layout.{cursor_cell, value_cell, Activation}
 use Rattle.block_lower.specs.Lowering.{BeginsPar, IsParBegun}
 use Rattle.block_lower.specs.Lowering.{WritesBegin, WritesPrep, WritesNext, WritesLast}
 use Rattle.block_lower.specs.Lowering.{IsRoundDeep, WritesDeepSite, IsDeepBegun, BeginsDeep, Lowers}
 use Rattle.block_lower.specs.Lowering.{LowersBody}
-use Rattle.code_laws.specs.Marked.{length_test, marked_begin, side_test, unmark}
-use Rattle.code_laws.specs.Quiet.{list_is_quiet}
-use Rattle.code_laws.specs.Round.{Round, par_round}
-use Rattle.code_laws.specs.Sites.{loop_site, rows_from}
-use Rattle.code_laws.specs.Sizes.{has_row}
+use Rattle.scene_laws.specs.Marked.{length_test, marked_begin, side_test, unmark}
+use Rattle.scene_laws.specs.Quiet.{list_is_quiet}
+use Rattle.scene_laws.specs.Round.{Round, par_round}
+use Rattle.scene_laws.specs.Sites.{loop_site, rows_from}
+use Rattle.scene_laws.specs.Sizes.{has_row}
 use Rattle.block_lower.specs.Writing.{label, next_label, IsFresh, Pushes, Closes, Appends, Readies}
 use Rattle.block_lower.specs.Writing.{Stands, Continues, Leads}
 use Rattle.block_lower.proofs.Written.Fitting.{fit_of_vec}
 use Rattle.block_lower.proofs.Written.LoweredLoops.{Bodied, bodied, par_is_round}
 use Rattle.block_lower.proofs.Written.LoweredPars.{readied, reduced_free_cells, site_there}
-use Rattle.code_laws.proofs.Scenes.Seeing.{as_long}
+use Rattle.scene_laws.proofs.Scenes.Seeing.{as_long}
 use Rattle.block_lower.proofs.Written.Standing.{sees_bare, stand_bare}
 use Rattle.block_lower.proofs.Written.Writing.{appended, closed_block, empty_opens, fresh_opens}
 use Rattle.block_lower.proofs.Written.Writing.{pushed}

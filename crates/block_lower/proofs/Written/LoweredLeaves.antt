@@ -40,20 +40,20 @@ use Rattle.block_lower.specs.declared.body.Body.{Body}
 use Rattle.block_lower.specs.declared.output.Output.{Output}
 use Rattle.block_lower.specs.declared.round.Round as told
 use Rattle.block_lower.specs.Bodies.{activation, entries}
-use Rattle.code_laws.specs.Code.{Code, Opens, leaf_par_code, to}
+use Rattle.scene_laws.specs.Code.{Code, Opens, leaf_par_code, to}
 use Rattle.code_laws.specs.Fitting.{AllFit}
-use Rattle.code_laws.specs.Layout.{Activation, bound_cell, value_cell}
-use Rattle.code_laws.specs.LeafMarked.{leaf_turn}
+use Rattle.scene_laws.specs.Layout.{Activation, bound_cell, value_cell}
+use Rattle.scene_laws.specs.LeafMarked.{leaf_turn}
 use Rattle.block_lower.specs.Lowering.{AreHeld, BeginsLeaf, BeginsPar, EndsLeaf, IsBodyAt}
 use Rattle.block_lower.specs.Lowering.{IsLeafBegun, IsParBegun, IsRound, IsRoundLeaf, Lowers}
 use Rattle.block_lower.specs.Lowering.{LowersBody, WritesBegin, WritesLeafSite, WritesLeafTurn}
 use Rattle.block_lower.specs.Lowering.{WritesPrep, held_by, leaf_of}
-use Rattle.code_laws.specs.Marked.{marked_begin, length_test, side_test, unmark}
-use Rattle.code_laws.specs.Names.{SeesAfter, StandFor}
-use Rattle.code_laws.specs.Quiet.{is_leaf, list_is_quiet}
-use Rattle.code_laws.specs.Round.{Round, leaf_round, par_round}
-use Rattle.code_laws.specs.Sites.{accs_of, loop_site, rows_from}
-use Rattle.code_laws.specs.Sizes.{has_row, site_blocks}
+use Rattle.scene_laws.specs.Marked.{marked_begin, length_test, side_test, unmark}
+use Rattle.scene_laws.specs.Names.{SeesAfter, StandFor}
+use Rattle.scene_laws.specs.Quiet.{is_leaf, list_is_quiet}
+use Rattle.scene_laws.specs.Round.{Round, leaf_round, par_round}
+use Rattle.scene_laws.specs.Sites.{accs_of, loop_site, rows_from}
+use Rattle.scene_laws.specs.Sizes.{has_row, site_blocks}
 use Rattle.block_lower.specs.Writing.{Appends, Closes, Continues, IsFresh, Leads, Pushes, Readies}
 use Rattle.block_lower.specs.Writing.{Stands, label, next_label}
 use Rattle.block_lower.proofs.Written.Fitting.{all_held, fit_of_vec}
@@ -61,8 +61,8 @@ use Rattle.block_lower.proofs.Written.Held.{stand_held}
 use Rattle.block_lower.proofs.Written.LoweredPars.{readied, reduced_free_cells, site_there}
 use Rattle.block_lower.proofs.Written.LoweredPars.{targets_seen}
 use Rattle.block_lower.proofs.Written.LoweredPars.{any_rows}
-use Rattle.code_laws.proofs.Counts.QuietRows.{leaf_is_quiet}
-use Rattle.code_laws.proofs.Scenes.Seeing.{as_long}
+use Rattle.scene_laws.proofs.Counts.QuietRows.{leaf_is_quiet}
+use Rattle.scene_laws.proofs.Scenes.Seeing.{as_long}
 use Rattle.block_lower.proofs.Written.Standing.{sees_bare, sees_held}
 use Rattle.block_lower.proofs.Written.Writing.{appended, closed_block, fresh_opens, pushed}
 use Rattle.block_lower.proofs.Written.Writing.{reopened_as}

@@ -23,21 +23,21 @@ use Rattle.block_lower.specs.declared.body.Body.{Body}
 use Rattle.block_lower.specs.declared.output.Output.{Output}
 use Rattle.block_lower.specs.declared.round.Round as told
 use Rattle.block_lower.specs.Bodies.{entries, activation}
-use Rattle.code_laws.specs.Code.{OpensAs, Opens, Computes, Code, loop_code, loop_to_code, Codes}
-use Rattle.code_laws.specs.Code.{to, store, load, below_test, step_up}
+use Rattle.scene_laws.specs.Code.{OpensAs, Opens, Computes, Code, loop_code, loop_to_code, Codes}
+use Rattle.scene_laws.specs.Code.{to, store, load, below_test, step_up}
 use Rattle.code_laws.specs.Fitting.{AllFit}
-use Rattle.code_laws.specs.Layout.{value_cell, bound_cell}
+use Rattle.scene_laws.specs.Layout.{value_cell, bound_cell}
 use Rattle.block_lower.specs.declared.repeat.Bound.{Bound}
 use Rattle.block_lower.specs.declared.repeat.Bound.TheVariants as bound
 use Rattle.block_lower.specs.Lowering.{IsRound, WritesValue, WritesBelow, WritesStart, AreBounds}
 use Rattle.block_lower.specs.Lowering.{WritesBounds}
 use Rattle.block_lower.specs.Lowering.{WritesBoundedStart, BeginsLoop, turn, WritesSome}
 use Rattle.block_lower.specs.Lowering.{Lowers, WithBody, IsBodyAt, LowersBody}
-use Rattle.code_laws.specs.Names.{Sees, SeesAs, StandFor}
-use Rattle.code_laws.specs.Round.{Round, loop_round, par_round}
+use Rattle.scene_laws.specs.Names.{Sees, SeesAs, StandFor}
+use Rattle.scene_laws.specs.Round.{Round, loop_round, par_round}
 use Rattle.block_lower.specs.Writing.{label, IsFresh, Pushes, Closes, Stands, Continues, Leads}
 use Rattle.block_lower.proofs.Written.Fitting.{fit_of_vec}
-use Rattle.code_laws.proofs.Scenes.Seeing.{as_long}
+use Rattle.scene_laws.proofs.Scenes.Seeing.{as_long}
 use Rattle.block_lower.proofs.Written.Standing.{stand_more}
 use Rattle.block_lower.proofs.Written.Writing.{pushed, closed_block, fresh_opens}
 

@@ -31,14 +31,14 @@ use Rattle.block_lower.specs.declared.body.Target.{Target}
 use Rattle.block_lower.specs.declared.output.Output.{Output}
 use Rattle.block_lower.specs.declared.round.Round as told
 use Rattle.block_lower.specs.Bodies.{activation, HasRoomFor}
-use Rattle.code_laws.specs.Code.{OpensAs, Opens, Code, both_code, call_exit, to, store, load}
-use Rattle.code_laws.specs.Layout.{kept_argument, kept_by_both, kept_cell, kept_mark}
-use Rattle.code_laws.specs.Layout.{kept_record, levels_cell, Activation, Entry}
+use Rattle.scene_laws.specs.Code.{OpensAs, Opens, Code, both_code, call_exit, to, store, load}
+use Rattle.scene_laws.specs.Layout.{kept_argument, kept_by_both, kept_cell, kept_mark}
+use Rattle.scene_laws.specs.Layout.{kept_record, levels_cell, Activation, Entry}
 use Rattle.block_lower.specs.Lowering.{AreBothArguments, WritesBothArguments, WritesPassed, Lowers}
 use Rattle.block_lower.specs.Lowering.{WritesFirst, WritesJoined, WritesSecond, WritesPair, GoesTo}
 use Rattle.block_lower.specs.Lowering.{WritesPassedCall, pair_site}
-use Rattle.code_laws.specs.Pairs.{IsPair, call_enters, call_given, call_site, first_exit, fitted}
-use Rattle.code_laws.specs.Pairs.{kept_from, pair_begins, pair_joined, passed_call, second_call}
+use Rattle.scene_laws.specs.Pairs.{IsPair, call_enters, call_given, call_site, first_exit, fitted}
+use Rattle.scene_laws.specs.Pairs.{kept_from, pair_begins, pair_joined, passed_call, second_call}
 use Rattle.block_lower.specs.Writing.{label, next_label, IsFresh, Pushes, Closes, Appends, Readies}
 use Rattle.block_lower.specs.Writing.{Stands, Continues, Leads}
 use Rattle.block_lower.proofs.Written.Lowered.{cell_is}

@@ -39,28 +39,28 @@ use Rattle.block_lower.specs.declared.repeat.Bound.TheVariants as bound
 use Rattle.block_lower.specs.declared.repeat.Turns.{Turns}
 use Rattle.block_lower.specs.declared.round.Round as told
 use Rattle.block_lower.specs.Bodies.{entries, activation}
-use Rattle.code_laws.specs.Code.{OpensAs, Opens, IsFreeCell, Code, Codes, quiet_par_code, to}
-use Rattle.code_laws.specs.Code.{store, load, next_turn}
+use Rattle.scene_laws.specs.Code.{OpensAs, Opens, IsFreeCell, Code, Codes, quiet_par_code, to}
+use Rattle.scene_laws.specs.Code.{store, load, next_turn}
 use Rattle.code_laws.specs.Fitting.{CanBeCut, IsFree}
-use Rattle.code_laws.specs.Layout.{value_cell, Activation, Entry}
+use Rattle.scene_laws.specs.Layout.{value_cell, Activation, Entry}
 use Rattle.block_lower.specs.Lowering.{BeginsPar, IsParBegun, WritesBounds, WritesSome}
 use Rattle.block_lower.specs.Lowering.{WritesLength}
 use Rattle.block_lower.specs.Lowering.{WritesBegin, WritesPrep, IsRoundQuiet, WritesSite}
 use Rattle.block_lower.specs.Lowering.{IsQuietBegun, BeginsQuiet, EndsLoop, turn, Lowers}
 use Rattle.block_lower.specs.Lowering.{LowersBody}
-use Rattle.code_laws.specs.Marked.{length_test, marked_begin, unmark, side_test, IsSite}
-use Rattle.code_laws.specs.Marked.{IsQuietSite}
-use Rattle.code_laws.specs.Names.{Sees, SeesAfter, StandFor}
-use Rattle.code_laws.specs.Quiet.{list_is_quiet}
-use Rattle.code_laws.specs.Round.{Round, par_round}
-use Rattle.code_laws.specs.Sites.{carried_table, carries_from, loop_site, rows_from}
-use Rattle.code_laws.specs.Sizes.{has_row}
+use Rattle.scene_laws.specs.Marked.{length_test, marked_begin, unmark, side_test, IsSite}
+use Rattle.scene_laws.specs.Marked.{IsQuietSite}
+use Rattle.scene_laws.specs.Names.{Sees, SeesAfter, StandFor}
+use Rattle.scene_laws.specs.Quiet.{list_is_quiet}
+use Rattle.scene_laws.specs.Round.{Round, par_round}
+use Rattle.scene_laws.specs.Sites.{carried_table, carries_from, loop_site, rows_from}
+use Rattle.scene_laws.specs.Sizes.{has_row}
 use Rattle.block_lower.specs.Writing.{label, next_label, IsFresh, Pushes, Traps, Closes}
 use Rattle.block_lower.specs.Writing.{Appends, Readies, Stands, Continues, Leads}
 use Rattle.block_lower.proofs.Written.Fitting.{fit_of_vec}
 use Rattle.block_lower.proofs.Written.Lowered.{cell_is}
 use Rattle.block_lower.proofs.Written.LoweredLoops.{Bodied, bodied, par_is_round}
-use Rattle.code_laws.proofs.Scenes.Seeing.{as_long, seen_table, seen_variable}
+use Rattle.scene_laws.proofs.Scenes.Seeing.{as_long, seen_table, seen_variable}
 use Rattle.block_lower.proofs.Written.Standing.{sees_bare, stand_bare}
 use Rattle.block_lower.proofs.Written.Writing.{reopened, pushed, trapped, closed_block, fresh_opens}
 use Rattle.block_lower.proofs.Written.Writing.{appended}

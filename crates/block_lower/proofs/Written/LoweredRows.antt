@@ -6,7 +6,7 @@ use Rattle.loop_syntax.specs.declared.Carry.TheVariants as carry
 use Rattle.expr_lower.specs.declared.scope.Scope.{Scope}
 use Rattle.tpal_syntax.specs.declared.instructions.Instr.{Instr}
 use Rattle.block_lower.specs.declared.output.Output.{Output}
-use Rattle.code_laws.specs.Sites.{row_load, row_register, rows_from}
+use Rattle.scene_laws.specs.Sites.{row_load, row_register, rows_from}
 use Rattle.block_lower.specs.Writing.{Pushes}
 
 rows_after : (scope : Scope) (before : ℕ) (xs ys : List Carry)

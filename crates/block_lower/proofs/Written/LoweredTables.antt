@@ -22,17 +22,17 @@ use Rattle.block_lower.specs.declared.body.Body.{Body}
 use Rattle.block_lower.specs.declared.output.Output.{Output}
 use Rattle.block_lower.specs.declared.round.Round as told
 use Rattle.block_lower.specs.Bodies.{activation, HasRoomFor}
-use Rattle.code_laws.specs.Code.{Computes, Operand, IsTable, Code, put_code, put_kept_code}
-use Rattle.code_laws.specs.Code.{fold_code, fold_register_code, fold_nothing_code}
-use Rattle.code_laws.specs.Code.{emit_code, store, load, alu_of}
-use Rattle.code_laws.specs.Code.{put_tested}
-use Rattle.code_laws.specs.Layout.{kept_cell, Activation}
+use Rattle.scene_laws.specs.Code.{Computes, Operand, IsTable, Code, put_code, put_kept_code}
+use Rattle.scene_laws.specs.Code.{fold_code, fold_register_code, fold_nothing_code}
+use Rattle.scene_laws.specs.Code.{emit_code, store, load, alu_of}
+use Rattle.scene_laws.specs.Code.{put_tested}
+use Rattle.scene_laws.specs.Layout.{kept_cell, Activation}
 use Rattle.block_lower.specs.Lowering.{WritesValue, WritesOperand, WritesPut, Lowers}
 use Rattle.block_lower.specs.Lowering.{folded_in_cell}
-use Rattle.code_laws.specs.Names.{SeesAs}
+use Rattle.scene_laws.specs.Names.{SeesAs}
 use Rattle.block_lower.specs.Writing.{next_label, Pushes, Traps, Continues, Leads}
 use Rattle.block_lower.proofs.Written.Lowered.{cell_is}
-use Rattle.code_laws.proofs.Scenes.Seeing.{seen_table}
+use Rattle.scene_laws.proofs.Scenes.Seeing.{seen_table}
 use Rattle.block_lower.proofs.Written.Standing.{held_for, stand_of}
 use Rattle.block_lower.proofs.Written.Writing.{pushed, trapped}
 

@@ -26,23 +26,23 @@ use Rattle.loop_rules.specs.Sites.{tables_of}
 use Rattle.tp_value.specs.declared.limits.TheConstants.{MAX_DECLARED_VARIABLES}
 use Rattle.tp_value.specs.declared.limits.TheConstants.{MAX_ACTIVATION_CELLS}
 use Rattle.expr_lower.specs.Bodies.{can_trap, literal, trap_count}
-use Rattle.code_laws.specs.Count.{nodes, blocks_of_expr, blocks_of_exprs, blocks, blocks_of_all}
-use Rattle.code_laws.specs.Count.{blocks_of_list, blocks_of_func, blocks_of_decl}
-use Rattle.code_laws.specs.Count.{blocks_of_program}
-use Rattle.code_laws.specs.Heights.{AllAreLow, FuncIsLow}
-use Rattle.code_laws.specs.Layout.{Entry, entry_of, value_cell}
+use Rattle.scene_laws.specs.Count.{nodes, blocks_of_expr, blocks_of_exprs, blocks, blocks_of_all}
+use Rattle.scene_laws.specs.Count.{blocks_of_list, blocks_of_func, blocks_of_decl}
+use Rattle.scene_laws.specs.Count.{blocks_of_program}
+use Rattle.scene_laws.specs.Heights.{AllAreLow, FuncIsLow}
+use Rattle.scene_laws.specs.Layout.{Entry, entry_of, value_cell}
 use Rattle.code_laws.specs.Fitting.{AllFit, HasEntry, AreEntriesOf, MainFits, FuncFits}
 use Rattle.code_laws.specs.Fitting.{variables_of}
-use Rattle.code_laws.specs.Opposite.{branch_blocks, opposite}
+use Rattle.scene_laws.specs.Opposite.{branch_blocks, opposite}
 use Rattle.block_lower.specs.Programs.{most_of, size_of, added_by_funcs, added_by_program, entry_at}
 use Rattle.block_lower.specs.Programs.{entries_from, quiet_calls, FuncIsSmall}
-use Rattle.code_laws.specs.Quiet.{is_quiet, all_is_quiet, row_is_leaf}
-use Rattle.code_laws.specs.Round.{outermost}
-use Rattle.code_laws.specs.Sizes.{trap_counts, added, added_by_all, added_by_other, added_by_list}
-use Rattle.code_laws.specs.Sizes.{added_by_func, added_by_decl, added_by_decls, has_row}
-use Rattle.code_laws.specs.Sizes.{par_blocks, declared, declared_by_list, kept_by_list}
-use Rattle.code_laws.specs.Sizes.{kept_by_decls}
-use Rattle.code_laws.proofs.Counts.Adding.{few_kept_by_list, few_kept_by_decls}
+use Rattle.scene_laws.specs.Quiet.{is_quiet, all_is_quiet, row_is_leaf}
+use Rattle.scene_laws.specs.Round.{outermost}
+use Rattle.scene_laws.specs.Sizes.{trap_counts, added, added_by_all, added_by_other, added_by_list}
+use Rattle.scene_laws.specs.Sizes.{added_by_func, added_by_decl, added_by_decls, has_row}
+use Rattle.scene_laws.specs.Sizes.{par_blocks, declared, declared_by_list, kept_by_list}
+use Rattle.scene_laws.specs.Sizes.{kept_by_decls}
+use Rattle.scene_laws.proofs.Counts.Adding.{few_kept_by_list, few_kept_by_decls}
 
 -- ---- blocks
 

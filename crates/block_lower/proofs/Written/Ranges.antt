@@ -17,23 +17,23 @@ use Rattle.tpal_syntax.specs.declared.instructions.Term.{Term}
 use Rattle.tpal_syntax.specs.declared.instructions.Value.{Value}
 use Rattle.tpal_syntax.specs.Listing.{Listing}
 use Rattle.expr_lower.specs.Bodies.{literal}
-use Rattle.code_laws.specs.Code.{Arguments, Branch, Code, Codes, Operand, Other}
-use Rattle.code_laws.specs.Code.{both_code, branch, call_code, computed, deep_par_code, emit_code}
-use Rattle.code_laws.specs.Code.{fold_code, fold_nothing_code, if_code, if_not_code}
-use Rattle.code_laws.specs.Code.{leaf_par_code, let_code}
-use Rattle.code_laws.specs.Code.{loop_code, loop_to_code, no_argument, none, nothing, number}
-use Rattle.code_laws.specs.Code.{one_argument}
-use Rattle.code_laws.specs.Code.{one_more, print_code, put_code, put_kept_code, quiet_par_code}
-use Rattle.code_laws.specs.Code.{fold_register_code, set_code, set_register_code, something}
-use Rattle.code_laws.specs.Code.{standing, while_code}
-use Rattle.code_laws.specs.Layout.{Activation}
-use Rattle.code_laws.specs.Main.{IsFunction, Makes, input_table, made_kept_table, made_table}
-use Rattle.code_laws.specs.Main.{no_table}
+use Rattle.scene_laws.specs.Code.{Arguments, Branch, Code, Codes, Operand, Other}
+use Rattle.scene_laws.specs.Code.{both_code, branch, call_code, computed, deep_par_code, emit_code}
+use Rattle.scene_laws.specs.Code.{fold_code, fold_nothing_code, if_code, if_not_code}
+use Rattle.scene_laws.specs.Code.{leaf_par_code, let_code}
+use Rattle.scene_laws.specs.Code.{loop_code, loop_to_code, no_argument, none, nothing, number}
+use Rattle.scene_laws.specs.Code.{one_argument}
+use Rattle.scene_laws.specs.Code.{one_more, print_code, put_code, put_kept_code, quiet_par_code}
+use Rattle.scene_laws.specs.Code.{fold_register_code, set_code, set_register_code, something}
+use Rattle.scene_laws.specs.Code.{standing, while_code}
+use Rattle.scene_laws.specs.Layout.{Activation}
+use Rattle.form_laws.specs.Functions.{IsFunction, Makes, input_table, made_kept_table, made_table}
+use Rattle.form_laws.specs.Functions.{no_table}
 use Rattle.block_lower.specs.Programs.{AreWritten, activation_of}
-use Rattle.code_laws.specs.Sizes.{added_by_func}
-use Rattle.code_laws.specs.Round.{Round}
-use Rattle.code_laws.proofs.Forms.Opposites.{opposite_ranged}
-use Rattle.code_laws.proofs.Scenes.Values.{variable_ranged}
+use Rattle.scene_laws.specs.Sizes.{added_by_func}
+use Rattle.scene_laws.specs.Round.{Round}
+use Rattle.form_laws.proofs.Forms.Opposites.{opposite_ranged}
+use Rattle.scene_laws.proofs.Scenes.Values.{variable_ranged}
 
 -- the statements of a body, as a row
 row_ranged : {m : _} (row : Row_of-Stmt m) → All StmtInRange (items-the_row-Stmt _ row)

@@ -29,13 +29,13 @@ use Rattle.block_lower.specs.declared.body.Body.{Body}
 use Rattle.block_lower.specs.declared.round.Round as told
 use Rattle.block_lower.specs.Bodies.{HasRoomFor, entries}
 use Rattle.code_laws.specs.Fitting.{CanBeCut}
-use Rattle.code_laws.specs.Layout.{bound_cell, cursor_cell, rec_cell, value_cell, Entry}
+use Rattle.scene_laws.specs.Layout.{bound_cell, cursor_cell, rec_cell, value_cell, Entry}
 use Rattle.block_lower.specs.Lowering.{FitsIn}
-use Rattle.code_laws.specs.Names.{Sees}
-use Rattle.code_laws.specs.Sites.{accs_of, carried_table, carries_from, carry_at, loop_site}
+use Rattle.scene_laws.specs.Names.{Sees}
+use Rattle.scene_laws.specs.Sites.{accs_of, carried_table, carries_from, carry_at, loop_site}
 use Rattle.block_lower.proofs.Written.LoweredPars.{targets_seen}
-use Rattle.code_laws.proofs.Scenes.Seeing.{as_long, cell_of_level, one_cell, seen_table}
-use Rattle.code_laws.proofs.Rules.UnbrokenSpots.{at_level}
+use Rattle.scene_laws.proofs.Scenes.Seeing.{as_long, cell_of_level, one_cell, seen_table}
+use Rattle.scene_laws.proofs.Scenes.Levels.{at_level}
 
 pub no_pairs : {X : Type 0} (R : X → X → Type 0) → AllPairs R []
 no_pairs R i j d less below = absurd (omega (arith, below))

@@ -12,12 +12,12 @@ use Rattle.loop_syntax.specs.declared.Stmt.TheVariants.{Let, Set, Put, If', Whil
 use Rattle.loop_syntax.specs.declared.Stmt.TheVariants.{Fold, Call, Both, Print, Emit}
 use Rattle.expr_lower.specs.declared.scope.Scope.{Scope}
 use Rattle.expr_lower.specs.Scopes.{has_cell_in, offset_of, register_in, register_of}
-use Rattle.code_laws.specs.Code.{Stand}
-use Rattle.code_laws.specs.Layout.{value_cell}
-use Rattle.code_laws.specs.Names.{AreLaid, Sees, SeesAs, StandFor, level_of, names_after}
-use Rattle.code_laws.specs.Names.{names_after_list}
-use Rattle.code_laws.specs.Round.{register_for}
-use Rattle.code_laws.proofs.Scenes.Seeing.{cell_of_level, has_cell, seen_variable}
+use Rattle.scene_laws.specs.Code.{Stand}
+use Rattle.scene_laws.specs.Layout.{value_cell}
+use Rattle.scene_laws.specs.Names.{AreLaid, Sees, SeesAs, StandFor, level_of, names_after}
+use Rattle.scene_laws.specs.Names.{names_after_list}
+use Rattle.scene_laws.specs.Round.{register_for}
+use Rattle.scene_laws.proofs.Scenes.Seeing.{cell_of_level, has_cell, seen_variable}
 
 -- ---- names
 

@@ -8,8 +8,8 @@ use Rattle.std.proofs.lemmas.List.{take_more}
 use Rattle.loop_syntax.specs.declared.Stmt.{Stmt}
 use Rattle.block_lower.specs.declared.body.Body.{Body}
 use Rattle.block_lower.specs.Bodies.{HasRoomFor}
-use Rattle.code_laws.specs.Heights.{AreLow, AllAreLow}
-use Rattle.code_laws.specs.Sizes.{kept, kept_by_list}
+use Rattle.scene_laws.specs.Heights.{AreLow, AllAreLow}
+use Rattle.scene_laws.specs.Sizes.{kept, kept_by_list}
 
 -- what follows from what holds where a call came to its end
 pub on_ok : {A E : Type 0} {P Q : Type 0} (r : Result A E) → (P → Q) → OnOk r P → OnOk r Q

@@ -20,11 +20,11 @@ use Rattle.expr_lower.specs.Nodes.{IsNode, operation_height}
 use Rattle.expr_lower.specs.Standing.{AreAt}
 use Rattle.expr_lower.proofs.Standing.{front, back}
 use Rattle.block_lower.specs.declared.output.Output.{Output}
-use Rattle.code_laws.specs.Code.{OpensAs, Opens}
+use Rattle.scene_laws.specs.Code.{OpensAs, Opens}
 use Rattle.block_lower.specs.Lowering.{WritesValue}
 use Rattle.block_lower.specs.Writing.{label, next_label, IsEmpty, IsFresh, Pushes, Traps, Closes}
 use Rattle.block_lower.specs.Writing.{Appends, Stands, Continues}
-use Rattle.code_laws.proofs.Scenes.Seeing.{visible_inside}
+use Rattle.scene_laws.proofs.Scenes.Seeing.{visible_inside}
 use Rattle.block_lower.proofs.Written.Standing.{stand_of}
 
 -- the same block, named and put together in another way

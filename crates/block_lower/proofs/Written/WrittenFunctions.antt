@@ -21,18 +21,18 @@ use Rattle.block_lower.specs.declared.body.Callee.{Callee}
 use Rattle.block_lower.specs.declared.output.Output.{Output}
 use Rattle.block_lower.specs.declared.round.Round as told
 use Rattle.block_lower.specs.Bodies.{entry, entries, activation, HasRoomFor}
-use Rattle.code_laws.specs.Heights.{FuncIsLow}
-use Rattle.code_laws.specs.Code.{Computes, Codes, load}
+use Rattle.scene_laws.specs.Heights.{FuncIsLow}
+use Rattle.scene_laws.specs.Code.{Computes, Codes, load}
 use Rattle.code_laws.specs.Fitting.{AllFit}
-use Rattle.code_laws.specs.Layout.{return_cell, Entry, Activation}
+use Rattle.scene_laws.specs.Layout.{return_cell, Entry, Activation}
 use Rattle.block_lower.specs.Lowering.{IsRound, WritesValue, LowersAll}
-use Rattle.code_laws.specs.Main.{HasRoom, IsFunction}
-use Rattle.code_laws.specs.Names.{Sees, SeesAfter, SeesBare, names_after_list}
+use Rattle.form_laws.specs.Functions.{HasRoom, IsFunction}
+use Rattle.scene_laws.specs.Names.{Sees, SeesAfter, SeesBare, names_after_list}
 use Rattle.block_lower.specs.Programs.{most_of, size_of, entry_at, entries_from, added_by_funcs}
 use Rattle.block_lower.specs.Programs.{FuncIsSmall, FuncFitsIn, LowersFunc, activation_of}
 use Rattle.block_lower.specs.Programs.{AreWritten, LowersFuncs}
-use Rattle.code_laws.specs.Round.{outermost}
-use Rattle.code_laws.specs.Sizes.{added_by_func, kept_by_list}
+use Rattle.scene_laws.specs.Round.{outermost}
+use Rattle.scene_laws.specs.Sizes.{added_by_func, kept_by_list}
 use Rattle.block_lower.specs.Writing.{label, next_label, IsFresh, Pushes, Closes, Stands, Continues}
 use Rattle.block_lower.specs.Writing.{Leads}
 use Rattle.block_lower.proofs.Written.Planning.{func_fits}

@@ -26,20 +26,22 @@ use Rattle.block_lower.specs.declared.body.Body.{Body}
 use Rattle.block_lower.specs.declared.output.Output.{Output}
 use Rattle.block_lower.specs.declared.round.Round as told
 use Rattle.block_lower.specs.Bodies.{entries, activation, HasRoomFor}
-use Rattle.code_laws.specs.Code.{Codes, store}
-use Rattle.code_laws.specs.Fitting.{IsVisible, AllFit, FuncFits, DeclsFit, ProgramFits}
-use Rattle.code_laws.specs.Heights.{FuncIsLow}
-use Rattle.code_laws.specs.Layout.{levels_cell, value_cell, Entry, entry_of, Activation}
+use Rattle.scene_laws.specs.Code.{Codes, store}
+use Rattle.scene_laws.specs.Visible.{IsVisible}
+use Rattle.code_laws.specs.Fitting.{AllFit, FuncFits, DeclsFit, ProgramFits}
+use Rattle.scene_laws.specs.Heights.{FuncIsLow}
+use Rattle.scene_laws.specs.Layout.{levels_cell, value_cell, Entry, entry_of, Activation}
 use Rattle.block_lower.specs.Lowering.{IsRound, FitsIn, LowersAll}
-use Rattle.code_laws.specs.Main.{IsFunction, AreFunctions, IsProgram, Makes, table_name}
-use Rattle.code_laws.specs.Names.{Sees, SeesAfter, SeesBare, names_after_list}
-use Rattle.code_laws.specs.Owing.{IsDeclared, AreDeclared}
+use Rattle.form_laws.specs.Functions.{IsFunction, AreFunctions, Makes, table_name}
+use Rattle.code_laws.specs.Main.{IsProgram}
+use Rattle.scene_laws.specs.Names.{Sees, SeesAfter, SeesBare, names_after_list}
+use Rattle.scene_laws.specs.Tables.{IsDeclared, AreDeclared}
 use Rattle.block_lower.specs.Programs.{most_of, entries_from, quiet_calls, dispatch_of}
 use Rattle.block_lower.specs.Programs.{added_by_main, added_by_funcs, FuncFitsIn, FuncsFitNow}
 use Rattle.block_lower.specs.Programs.{activation_of, AreWritten, LowersFuncs, SeesTables}
 use Rattle.block_lower.specs.Programs.{WritesMakes, IsMainAt, LowersMain}
-use Rattle.code_laws.specs.Round.{outermost}
-use Rattle.code_laws.specs.Sizes.{added_by_func, declared_by_list, kept_by_list, kept_by_decls}
+use Rattle.scene_laws.specs.Round.{outermost}
+use Rattle.scene_laws.specs.Sizes.{added_by_func, declared_by_list, kept_by_list, kept_by_decls}
 use Rattle.block_lower.specs.Writing.{label, next_label, IsFresh, Pushes, Closes, Stands, Continues}
 use Rattle.block_lower.specs.Writing.{Leads}
 use Rattle.block_lower.proofs.Written.Planning.{IsPlanned, entry_is_planned, main_fits}

@@ -21,16 +21,16 @@ use Rattle.expr_lower.specs.declared.scope.Scope.{Scope}
 use Rattle.block_lower.specs.declared.body.Body.{Body}
 use Rattle.block_lower.specs.declared.output.Output.{Output}
 use Rattle.block_lower.specs.Bodies.{activation, HasRoomFor}
-use Rattle.code_laws.specs.Code.{Computes, store, load}
+use Rattle.scene_laws.specs.Code.{Computes, store, load}
 use Rattle.code_laws.specs.Fitting.{DeclsFit}
-use Rattle.code_laws.specs.Heights.{DeclIsLow}
-use Rattle.code_laws.specs.Layout.{value_cell, Activation}
+use Rattle.scene_laws.specs.Heights.{DeclIsLow}
+use Rattle.scene_laws.specs.Layout.{value_cell, Activation}
 use Rattle.block_lower.specs.Lowering.{WritesValue}
-use Rattle.code_laws.specs.Main.{Makes, no_table, input_table, made_table, made_kept_table}
-use Rattle.code_laws.specs.Main.{table_name}
-use Rattle.code_laws.specs.Names.{Sees, SeesAs, SeesBare}
+use Rattle.form_laws.specs.Functions.{Makes, no_table, input_table, made_table, made_kept_table}
+use Rattle.form_laws.specs.Functions.{table_name}
+use Rattle.scene_laws.specs.Names.{Sees, SeesAs, SeesBare}
 use Rattle.block_lower.specs.Programs.{SeesTables, WritesMakes}
-use Rattle.code_laws.specs.Sizes.{kept_by_decl, kept_by_decls}
+use Rattle.scene_laws.specs.Sizes.{kept_by_decl, kept_by_decls}
 use Rattle.block_lower.specs.Writing.{Pushes, Leads}
 use Rattle.block_lower.proofs.Written.Stepping.{room_within}
 use Rattle.block_lower.proofs.Written.Standing.{sees_bare}

@@ -28,9 +28,9 @@ use Rattle.loop_check.specs.Unbroken.{NoneBroken}
 use Rattle.loop_check.proofs.Fine.{at_none, none_of, append_none_right}
 use Rattle.loop_check.proofs.Lists.{Each, each_left, each_right, each_of}
 use Rattle.code_laws.specs.Fitting.{SizesAreVisible, DeclsFit, FuncFits, MainFits, ProgramFits}
-use Rattle.code_laws.specs.Heights.{DeclIsLow}
-use Rattle.code_laws.specs.Names.{names_after_list}
-use Rattle.code_laws.specs.Round.{outermost}
+use Rattle.scene_laws.specs.Heights.{DeclIsLow}
+use Rattle.scene_laws.specs.Names.{names_after_list}
+use Rattle.scene_laws.specs.Round.{outermost}
 use Rattle.code_laws.proofs.Rules.UnbrokenCuts.{short_enough}
 use Rattle.code_laws.proofs.Rules.UnbrokenExpressions.{Keeps, AreShort, whole_visible, whole_low}
 use Rattle.code_laws.proofs.Rules.UnbrokenLow.{low_list}

@@ -25,13 +25,14 @@ use Rattle.loop_check.proofs.Found.{eq_is, eq_self}
 use Rattle.loop_check.proofs.Lists.{Each}
 use Rattle.frame_machine.specs.Bodies.{Unreduced}
 use Rattle.frame_machine.specs.Lawful.{Distinct, DistinctTargets, TargetsIn}
-use Rattle.code_laws.specs.Fitting.{CanBeCut, IsFree, level_of}
-use Rattle.code_laws.specs.Layout.{Entry}
-use Rattle.code_laws.specs.Round.{Round}
-use Rattle.code_laws.specs.Sites.{carried_table}
+use Rattle.code_laws.specs.Fitting.{CanBeCut, IsFree}
+use Rattle.scene_laws.specs.Names.{level_of}
+use Rattle.scene_laws.specs.Layout.{Entry}
+use Rattle.scene_laws.specs.Round.{Round}
+use Rattle.scene_laws.specs.Sites.{carried_table}
 use Rattle.code_laws.proofs.Rules.UnbrokenExpressions.{Keeps, named_table}
 use Rattle.code_laws.proofs.Rules.UnbrokenRounds.{Around, reduced_free}
-use Rattle.code_laws.proofs.Rules.UnbrokenSpots.{at_level}
+use Rattle.scene_laws.proofs.Scenes.Levels.{at_level}
 
 -- ---- reduce lists
 

@@ -21,8 +21,8 @@ use Rattle.loop_rules.specs.Sites.{in_app}
 use Rattle.loop_check.proofs.Bools.{not_false}
 use Rattle.loop_check.proofs.Fine.{at_none}
 use Rattle.loop_check.proofs.Lists.{Each, each_left, each_right}
-use Rattle.code_laws.specs.Fitting.{IsVisible, AreVisible}
-use Rattle.code_laws.specs.Heights.{IsLow, AreLowArguments}
+use Rattle.scene_laws.specs.Visible.{IsVisible, AreVisible}
+use Rattle.scene_laws.specs.Heights.{IsLow, AreLowArguments}
 
 -- what is done at a place keeps the rules on names, on variables round a `par`, on variables of loops
 -- and on limits

@@ -7,8 +7,8 @@ use Rattle.loop_rules.specs.Sites.{Assigns, AssignsBoth, Spot, Site, site, in_wh
 use Rattle.loop_rules.specs.Sites.{in_carries, in_stmt, in_all, in_list, spot_after, in_loop}
 use Rattle.loop_rules.specs.Sites.{in_par}
 use Rattle.loop_check.proofs.Lists.{Each, each_left, each_right}
-use Rattle.code_laws.specs.Heights.{AreLow, RowIsLow, AllAreLow}
-use Rattle.code_laws.specs.Names.{names_after}
+use Rattle.scene_laws.specs.Heights.{AreLow, RowIsLow, AllAreLow}
+use Rattle.scene_laws.specs.Names.{names_after}
 use Rattle.code_laws.proofs.Rules.UnbrokenExpressions.{Keeps, AreShort, whole_low, app_low}
 use Rattle.code_laws.proofs.Rules.UnbrokenSpots.{with_names, behind_first, behind_head}
 

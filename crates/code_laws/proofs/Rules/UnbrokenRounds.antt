@@ -26,12 +26,13 @@ use Rattle.loop_check.proofs.Bools.{or_left, not_false, no_both}
 use Rattle.loop_check.proofs.Fine.{at_none, append_none_left, append_none_right}
 use Rattle.loop_check.proofs.Found.{eq_self, eq_is, is_in_end, is_in_more}
 use Rattle.frame_machine.specs.Lawful.{TargetsIn}
-use Rattle.code_laws.specs.Fitting.{level_of}
-use Rattle.code_laws.specs.Names.{names_after}
-use Rattle.code_laws.specs.Round.{Round, loop_round, unreduced, par_round}
-use Rattle.code_laws.proofs.Counts.Lists.{all_both}
+use Rattle.scene_laws.specs.Names.{level_of}
+use Rattle.scene_laws.specs.Names.{names_after}
+use Rattle.scene_laws.specs.Round.{Round, loop_round, unreduced, par_round}
+use Rattle.scene_laws.proofs.Counts.Lists.{all_both}
 use Rattle.code_laws.proofs.Rules.UnbrokenExpressions.{Keeps, chosen_none}
-use Rattle.code_laws.proofs.Rules.UnbrokenSpots.{with_names, get_before, get_last, at_level}
+use Rattle.code_laws.proofs.Rules.UnbrokenSpots.{with_names}
+use Rattle.scene_laws.proofs.Scenes.Levels.{get_before, get_last, at_level}
 
 -- ---- variables that may not be set
 

@@ -18,18 +18,20 @@ use Rattle.loop_rules.specs.Sites.{in_loop, in_par}
 use Rattle.loop_check.proofs.Bools.{not_false, or_left}
 use Rattle.loop_check.proofs.Fine.{at_none}
 use Rattle.loop_check.proofs.Lists.{Each, each_left, each_right}
-use Rattle.code_laws.specs.Fitting.{level_of, IsFree, IsCall, Fits, FitInRow, AllFit, HasEntry}
+use Rattle.scene_laws.specs.Names.{level_of}
+use Rattle.code_laws.specs.Fitting.{IsFree, IsCall, Fits, FitInRow, AllFit, HasEntry}
 use Rattle.code_laws.specs.Fitting.{AreEntriesOf}
-use Rattle.code_laws.specs.Layout.{Entry}
-use Rattle.code_laws.specs.Names.{names_after}
-use Rattle.code_laws.specs.Round.{Round, loop_round, par_round}
+use Rattle.scene_laws.specs.Layout.{Entry}
+use Rattle.scene_laws.specs.Names.{names_after}
+use Rattle.scene_laws.specs.Round.{Round, loop_round, par_round}
 use Rattle.code_laws.proofs.Rules.UnbrokenCuts.{can_be_cut}
 use Rattle.code_laws.proofs.Rules.UnbrokenExpressions.{Keeps, IsCallee, named_table}
 use Rattle.code_laws.proofs.Rules.UnbrokenExpressions.{whole_visible, args_visible, callee_of}
 use Rattle.code_laws.proofs.Rules.UnbrokenRounds.{Around, around_after, around_loop, around_par}
 use Rattle.code_laws.proofs.Rules.UnbrokenRounds.{shallow, set_free, folded_free}
 use Rattle.code_laws.proofs.Rules.UnbrokenSpots.{with_names, behind_first, behind_head}
-use Rattle.code_laws.proofs.Rules.UnbrokenSpots.{long_after, at_level}
+use Rattle.code_laws.proofs.Rules.UnbrokenSpots.{long_after}
+use Rattle.scene_laws.proofs.Scenes.Levels.{at_level}
 
 module _ (functions : List Entry) (most : ℕ) where
   -- a variable that is visible, and none of the fixed ones

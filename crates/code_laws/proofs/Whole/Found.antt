@@ -32,15 +32,16 @@ use Rattle.frame_machine.specs.Modes.{Modes, inner_modes, modes_of}
 use Rattle.frame_machine.proofs.RulesLawful.{all_lawful}
 use Rattle.loop_syntax.specs.declared.TableDecl.{TableDecl}
 use Rattle.loop_syntax.specs.declared.TableDecl.TheVariants.{Input, Made}
-use Rattle.code_laws.specs.Main.{table_name}
-use Rattle.code_laws.specs.Names.{names_after}
+use Rattle.form_laws.specs.Functions.{table_name}
+use Rattle.scene_laws.specs.Names.{names_after}
 use Rattle.code_laws.proofs.Rules.Unbroken.{program_fits}
-use Rattle.code_laws.proofs.Whole.Around.{Around, Free, callable_in_call, in_body, in_call}
-use Rattle.code_laws.proofs.Whole.Around.{modes_at}
-use Rattle.code_laws.proofs.Whole.Cutting.{ProgramRules}
-use Rattle.code_laws.proofs.Whole.Keeps.{called_in_safe, stands_free_in, stands_in, whole_in}
-use Rattle.code_laws.proofs.Whole.Occurring.{Occurs, OccursIn, at_first, at_later, in_if, in_loop}
-use Rattle.code_laws.proofs.Whole.Occurring.{in_other, in_par, in_while, itself}
+use Rattle.form_laws.proofs.Premises.Around.{Around, Free, callable_in_call, in_body, in_call}
+use Rattle.form_laws.proofs.Premises.Around.{modes_at}
+use Rattle.form_laws.proofs.Premises.Cutting.{ProgramRules}
+use Rattle.form_laws.proofs.Premises.Keeps.{called_in_safe, stands_free_in, stands_in, whole_in}
+use Rattle.form_laws.proofs.Premises.Occurring.{Occurs, OccursIn, at_first, at_later, in_if}
+use Rattle.form_laws.proofs.Premises.Occurring.{in_loop}
+use Rattle.form_laws.proofs.Premises.Occurring.{in_other, in_par, in_while, itself}
 
 same_after : (names : List (List ℕ)) (s : Stmt) → visible_after names s ≡ names_after names s
 same_after names (Let x e) = refl

@@ -21,27 +21,27 @@ use Rattle.tpal_machine.proofs.Kit.{Back, on_load, on_jump}
 use Rattle.expr_lower.specs.Leaving.{moved}
 use Rattle.expr_lower.proofs.Keeping.{register_set, register_other}
 use Rattle.expr_lower.proofs.Standing.{next, behind, at_end}
-use Rattle.code_laws.specs.Code.{load}
-use Rattle.code_laws.specs.Layout.{cursor_cell, rec_cell, return_cell, value_cell, Entry}
-use Rattle.code_laws.specs.Layout.{Activation}
+use Rattle.scene_laws.specs.Code.{load}
+use Rattle.scene_laws.specs.Layout.{cursor_cell, rec_cell, return_cell, value_cell, Entry}
+use Rattle.scene_laws.specs.Layout.{Activation}
 use Rattle.loop_syntax.specs.declared.Program.{Program}
 use Rattle.expr_lower.specs.Standing.{AreAt}
 use Rattle.handler_gen.specs.Blocks.{dispatch_block}
-use Rattle.code_laws.specs.Main.{IsFunction, FunctionAt, AreFunctions, bare}
-use Rattle.code_laws.specs.Quiet.{functions_are_quiet}
-use Rattle.code_laws.specs.Names.{names_after_list}
-use Rattle.code_laws.proofs.Forms.Called.{with_value, value_then, body_set}
-use Rattle.code_laws.proofs.Forms.Callees.{Returns, FunctionOwes, FunctionsOwe, CallsOwe}
-use Rattle.code_laws.proofs.Forms.Choices.{enters}
-use Rattle.code_laws.proofs.Whole.Cutting.{ProgramRules}
-use Rattle.code_laws.proofs.Whole.Around.{callable_in_call, in_call}
+use Rattle.form_laws.specs.Functions.{IsFunction, FunctionAt, AreFunctions, bare}
+use Rattle.scene_laws.specs.Quiet.{functions_are_quiet}
+use Rattle.scene_laws.specs.Names.{names_after_list}
+use Rattle.scene_laws.proofs.Scenes.Called.{with_value, value_then, body_set}
+use Rattle.form_laws.proofs.Forms.Callees.{Returns, FunctionOwes, FunctionsOwe, CallsOwe}
+use Rattle.form_laws.proofs.Forms.Choices.{enters}
+use Rattle.form_laws.proofs.Premises.Cutting.{ProgramRules}
+use Rattle.form_laws.proofs.Premises.Around.{callable_in_call, in_call}
 use Rattle.code_laws.proofs.Whole.Law.{codes_law}
-use Rattle.code_laws.proofs.Whole.Permitting.{PermitsAll, PermitsCall}
-use Rattle.code_laws.proofs.Scenes.Results.{fin, result, then}
-use Rattle.code_laws.proofs.Scenes.Scene.{Scene, ShowsIn, Owed, owed_bare, owed_seen}
-use Rattle.code_laws.proofs.Scenes.Showing.{shows_words}
-use Rattle.code_laws.proofs.Forms.Simple.{still_shows}
-use Rattle.code_laws.proofs.Scenes.Values.{ExprLaw, computes_bare}
+use Rattle.form_laws.proofs.Premises.Permitting.{PermitsAll, PermitsCall}
+use Rattle.scene_laws.proofs.Scenes.Results.{fin, result, then}
+use Rattle.scene_laws.proofs.Scenes.Scene.{Scene, ShowsIn, Owed, owed_bare, owed_seen}
+use Rattle.scene_laws.proofs.Scenes.Showing.{shows_words}
+use Rattle.form_laws.proofs.Forms.Simple.{still_shows}
+use Rattle.scene_laws.proofs.Scenes.Values.{ExprLaw, computes_bare}
 
 module _ (code : Listing) (heartbeat z : ℕ) (act : Activation) (fuel : ℕ) (expr_law : ExprLaw code
     heartbeat) (C : Scene code heartbeat z) (returns : Returns code heartbeat fuel z act C) where

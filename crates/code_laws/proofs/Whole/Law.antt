@@ -18,48 +18,49 @@ use Rattle.tpal_syntax.specs.declared.instructions.Value as operands
 use Rattle.tpal_syntax.specs.Listing.{Listing}
 use Rattle.expr_lower.specs.Standing.{AreAt}
 use Rattle.handler_gen.specs.Blocks.{dispatch_block}
-use Rattle.code_laws.specs.Layout.{Activation}
-use Rattle.code_laws.specs.Main.{bare}
-use Rattle.code_laws.specs.Quiet.{is_quiet, list_is_quiet}
-use Rattle.code_laws.specs.Code.{Computes, Operand, IsCell, IsTable, Opens, Code, let_code}
-use Rattle.code_laws.specs.Code.{set_code, set_register_code, put_code, put_kept_code}
-use Rattle.code_laws.specs.Code.{print_code, emit_code, if_code, if_not_code, while_code}
-use Rattle.code_laws.specs.Code.{loop_code, loop_to_code, quiet_par_code, deep_par_code}
-use Rattle.code_laws.specs.Code.{fold_code}
-use Rattle.code_laws.specs.Code.{fold_register_code, leaf_par_code}
-use Rattle.code_laws.specs.Code.{fold_nothing_code, call_code, both_code, Codes, none, one_more}
-use Rattle.code_laws.specs.Code.{Branch, branch, Other, nothing, something}
-use Rattle.code_laws.specs.Names.{names_after, names_after_list}
-use Rattle.code_laws.specs.Round.{Round, register_for}
-use Rattle.code_laws.proofs.Scenes.Admitting.{Admits, admits_more, admits_later, admits_loop}
-use Rattle.code_laws.proofs.Forms.Callees.{CallsOwe, HasPlace}
-use Rattle.code_laws.proofs.Forms.CallStatements.{call_law}
-use Rattle.code_laws.proofs.Forms.Choices.{SeenAt, blocks, leaves, nothing_done, if_law}
-use Rattle.code_laws.proofs.Forms.Choices.{if_not_law}
-use Rattle.code_laws.proofs.Forms.Choices.{first_names}
-use Rattle.code_laws.proofs.Forms.Choices.{first_names_in, more_names_one, Longer, longer_one}
-use Rattle.code_laws.proofs.Forms.Choices.{same_names}
-use Rattle.code_laws.proofs.Whole.Cutting.{ProgramRules}
-use Rattle.code_laws.proofs.DeepPars.DeepStatements.{deep_statement}
-use Rattle.code_laws.proofs.Forms.Emits.{emit_law}
-use Rattle.code_laws.proofs.Forms.Folds.{fold_law, fold_nothing_law, fold_register_law}
-use Rattle.code_laws.proofs.Forms.Loops.{inside, loop_law, loop_to_law}
-use Rattle.code_laws.proofs.LeafPars.LeafStatements.{leaf_statement}
-use Rattle.code_laws.proofs.Whole.Occurring.{in_if, in_other, in_while, in_loop, at_first}
-use Rattle.code_laws.proofs.Whole.Occurring.{at_later}
-use Rattle.code_laws.proofs.Whole.Occurring.{by_call, called_if, called_other, called_while}
-use Rattle.code_laws.proofs.Whole.Occurring.{called_loop, first_calls, later_calls}
-use Rattle.code_laws.proofs.CallPairs.PairStatements.{pair_law}
-use Rattle.code_laws.proofs.Whole.Permitting.{PermitsOne, PermitsAll, permits_more, permits_later}
-use Rattle.code_laws.proofs.Whole.Permitting.{permits_inside, first_loud, second_loud, loud_if}
-use Rattle.code_laws.proofs.Whole.Permitting.{loud_other, loud_while, loud_list, loud_loop}
-use Rattle.code_laws.proofs.QuietPars.QuietStatements.{quiet_statement}
-use Rattle.code_laws.proofs.Forms.Puts.{put_law, put_kept_law}
-use Rattle.code_laws.proofs.Scenes.Results.{Result, result, then, left, after_then}
-use Rattle.code_laws.proofs.Scenes.Scene.{Scene, OwedSeen, owed_bare, owed_seen}
-use Rattle.code_laws.proofs.Forms.Simple.{let_law, set_law, set_register_law, print_law}
-use Rattle.code_laws.proofs.Forms.Ticks.{later_in, while_law}
-use Rattle.code_laws.proofs.Scenes.Values.{ExprLaw}
+use Rattle.scene_laws.specs.Layout.{Activation}
+use Rattle.form_laws.specs.Functions.{bare}
+use Rattle.scene_laws.specs.Quiet.{is_quiet, list_is_quiet}
+use Rattle.scene_laws.specs.Code.{Computes, Operand, IsCell, IsTable, Opens, Code, let_code}
+use Rattle.scene_laws.specs.Code.{set_code, set_register_code, put_code, put_kept_code}
+use Rattle.scene_laws.specs.Code.{print_code, emit_code, if_code, if_not_code, while_code}
+use Rattle.scene_laws.specs.Code.{loop_code, loop_to_code, quiet_par_code, deep_par_code}
+use Rattle.scene_laws.specs.Code.{fold_code}
+use Rattle.scene_laws.specs.Code.{fold_register_code, leaf_par_code}
+use Rattle.scene_laws.specs.Code.{fold_nothing_code, call_code, both_code, Codes, none, one_more}
+use Rattle.scene_laws.specs.Code.{Branch, branch, Other, nothing, something}
+use Rattle.scene_laws.specs.Names.{names_after, names_after_list}
+use Rattle.scene_laws.specs.Round.{Round, register_for}
+use Rattle.form_laws.proofs.Premises.Admitting.{Admits, admits_more, admits_later, admits_loop}
+use Rattle.form_laws.proofs.Forms.Callees.{CallsOwe, HasPlace}
+use Rattle.form_laws.proofs.Forms.CallStatements.{call_law}
+use Rattle.form_laws.proofs.Forms.Choices.{SeenAt, blocks, leaves, nothing_done, if_law}
+use Rattle.form_laws.proofs.Forms.Choices.{if_not_law}
+use Rattle.form_laws.proofs.Forms.Choices.{first_names}
+use Rattle.form_laws.proofs.Forms.Choices.{first_names_in, more_names_one, Longer, longer_one}
+use Rattle.form_laws.proofs.Forms.Choices.{same_names}
+use Rattle.form_laws.proofs.Premises.Cutting.{ProgramRules}
+use Rattle.form_laws.proofs.DeepPars.DeepStatements.{deep_statement}
+use Rattle.form_laws.proofs.Forms.Emits.{emit_law}
+use Rattle.form_laws.proofs.Forms.Folds.{fold_law, fold_nothing_law, fold_register_law}
+use Rattle.form_laws.proofs.Forms.Loops.{inside, loop_law, loop_to_law}
+use Rattle.form_laws.proofs.LeafPars.LeafStatements.{leaf_statement}
+use Rattle.form_laws.proofs.Premises.Occurring.{in_if, in_other, in_while, in_loop, at_first}
+use Rattle.form_laws.proofs.Premises.Occurring.{at_later}
+use Rattle.form_laws.proofs.Premises.Occurring.{by_call, called_if, called_other, called_while}
+use Rattle.form_laws.proofs.Premises.Occurring.{called_loop, first_calls, later_calls}
+use Rattle.form_laws.proofs.CallPairs.PairStatements.{pair_law}
+use Rattle.form_laws.proofs.Premises.Permitting.{PermitsOne, PermitsAll, permits_more}
+use Rattle.form_laws.proofs.Premises.Permitting.{permits_later}
+use Rattle.form_laws.proofs.Premises.Permitting.{permits_inside, first_loud, second_loud, loud_if}
+use Rattle.form_laws.proofs.Premises.Permitting.{loud_other, loud_while, loud_list, loud_loop}
+use Rattle.form_laws.proofs.QuietPars.QuietStatements.{quiet_statement}
+use Rattle.form_laws.proofs.Forms.Puts.{put_law, put_kept_law}
+use Rattle.scene_laws.proofs.Scenes.Results.{Result, result, then, left, after_then}
+use Rattle.scene_laws.proofs.Scenes.Scene.{Scene, OwedSeen, owed_bare, owed_seen}
+use Rattle.form_laws.proofs.Forms.Simple.{let_law, set_law, set_register_law, print_law}
+use Rattle.form_laws.proofs.Forms.Ticks.{later_in, while_law}
+use Rattle.scene_laws.proofs.Scenes.Values.{ExprLaw}
 
 module _ (code : Listing) (heartbeat z : ℕ) (act : Activation) (p : Program) (fuel room : ℕ)
     (expr_law : ExprLaw code heartbeat) (rules : ProgramRules p act.tables)

@@ -8,8 +8,9 @@ use Rattle.tpal_syntax.specs.Listing.{Listing}
 use Rattle.tpal_machine.specs.declared.ends.Ending.TheVariants.{Root}
 use Rattle.tpal_machine.specs.Owes.{Owes}
 use Rattle.tpal_machine.specs.State.{first_state}
-use Rattle.code_laws.specs.Owing.{AreHeld, AreNamed, IsTable, OwesMeaning}
-use Rattle.code_laws.proofs.Scenes.Promises.{lesser}
+use Rattle.scene_laws.specs.Tables.{AreHeld, AreNamed, IsTable}
+use Rattle.code_laws.specs.Owing.{OwesMeaning}
+use Rattle.scene_laws.proofs.Scenes.Promises.{lesser}
 
 -- its first task owes the meaning, however many points it enters
 pub owes_anyhow : (program : Program) (listing : Listing) → OwesMeaning program listing

@@ -8,8 +8,8 @@ use Rattle.tpal_machine.proofs.Given.{first_of}
 use Rattle.expr_lower.proofs.Law.{expr_law}
 use Rattle.code_laws.specs.Main.{IsProgram}
 use Rattle.code_laws.specs.Owing.{OwesMeaning}
-use Rattle.code_laws.proofs.Forms.Makes.{given_tables_are}
-use Rattle.code_laws.proofs.Whole.Cutting.{ProgramRules}
+use Rattle.form_laws.proofs.Forms.Makes.{given_tables_are}
+use Rattle.form_laws.proofs.Premises.Cutting.{ProgramRules}
 use Rattle.code_laws.proofs.Whole.Found.{program_rules}
 use Rattle.code_laws.proofs.Whole.Root.{as_many_held, owes_promoted}
 

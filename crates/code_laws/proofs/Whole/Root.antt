@@ -43,26 +43,27 @@ use Rattle.tpal_machine.proofs.Kit.{Back, on_salloc, halts}
 use Rattle.expr_lower.specs.Standing.{Remains}
 use Rattle.expr_lower.proofs.Standing.{next, behind, at_end}
 use Rattle.handler_gen.proofs.Words.{word_same, words_as_many}
-use Rattle.code_laws.specs.Code.{store}
-use Rattle.code_laws.specs.Layout.{levels_cell, Activation}
-use Rattle.code_laws.specs.Main.{IsProgram, table_name}
-use Rattle.code_laws.specs.Owing.{AreDeclared, AreHeld}
-use Rattle.code_laws.specs.Names.{names_after_list}
-use Rattle.code_laws.proofs.Forms.Callees.{main_has_place}
-use Rattle.code_laws.proofs.Whole.Around.{Free}
-use Rattle.code_laws.proofs.Whole.Cutting.{ProgramRules}
+use Rattle.scene_laws.specs.Code.{store}
+use Rattle.scene_laws.specs.Layout.{levels_cell, Activation}
+use Rattle.code_laws.specs.Main.{IsProgram}
+use Rattle.form_laws.specs.Functions.{table_name}
+use Rattle.scene_laws.specs.Tables.{AreDeclared, AreHeld}
+use Rattle.scene_laws.specs.Names.{names_after_list}
+use Rattle.form_laws.proofs.Forms.Callees.{main_has_place}
+use Rattle.form_laws.proofs.Premises.Around.{Free}
+use Rattle.form_laws.proofs.Premises.Cutting.{ProgramRules}
 use Rattle.code_laws.proofs.Whole.Functions.{calls_owe}
 use Rattle.code_laws.proofs.Whole.Law.{codes_law}
-use Rattle.code_laws.proofs.Forms.Makes.{Making, AreGiven, count_held, makes_law, seeing}
-use Rattle.code_laws.proofs.Scenes.Moves.{opened}
-use Rattle.code_laws.proofs.Scenes.Promises.{CanRun, Terms, promised}
-use Rattle.code_laws.proofs.Scenes.Regions.{AtMostAChance, Covers, IsQuiet, everywhere}
-use Rattle.code_laws.proofs.Scenes.Results.{End, Result, Fin, Out, after_then, end_by, fin}
-use Rattle.code_laws.proofs.Scenes.Results.{result, then}
-use Rattle.code_laws.proofs.Scenes.Results.{then_end}
-use Rattle.code_laws.proofs.Scenes.Scene.{Scene, Owed}
-use Rattle.code_laws.proofs.Forms.Simple.{stores_in}
-use Rattle.code_laws.proofs.Scenes.Values.{ExprLaw}
+use Rattle.form_laws.proofs.Forms.Makes.{Making, AreGiven, count_held, makes_law, seeing}
+use Rattle.scene_laws.proofs.Scenes.Moves.{opened}
+use Rattle.scene_laws.proofs.Scenes.Promises.{CanRun, Terms, promised}
+use Rattle.scene_laws.proofs.Scenes.Regions.{AtMostAChance, Covers, IsQuiet, everywhere}
+use Rattle.scene_laws.proofs.Scenes.Results.{End, Result, Fin, Out, after_then, end_by, fin}
+use Rattle.scene_laws.proofs.Scenes.Results.{result, then}
+use Rattle.scene_laws.proofs.Scenes.Results.{then_end}
+use Rattle.scene_laws.proofs.Scenes.Scene.{Scene, Owed}
+use Rattle.form_laws.proofs.Forms.Simple.{stores_in}
+use Rattle.scene_laws.proofs.Scenes.Values.{ExprLaw}
 
 abbrev outcome_of_end : End → Outcome
 outcome_of_end (Fin s) = record { stop = Done; output = s.output; ticks = s.ticks }

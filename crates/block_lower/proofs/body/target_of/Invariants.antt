@@ -1,6 +1,6 @@
 use Rattle.std.proofs.Common.{◌≡◌, drop}
 use Rattle.block_lower.specs.Bodies.{entries}
-use Rattle.code_laws.specs.Layout.{entry_of}
+use Rattle.scene_laws.specs.Layout.{entry_of}
 use Rattle.block_lower.proofs.body.target_of.Given as goal
 
 abbrev pub invariant-loop-callee : goal.invariant-loop-callee

@@ -1,5 +1,5 @@
 use Rattle.std.proofs.Common.{arith}
-use Rattle.code_laws.proofs.Counts.Counting.{blocks_of_vec}
+use Rattle.scene_laws.proofs.Counts.Counting.{blocks_of_vec}
 use Rattle.block_lower.proofs.count.+count.Goals as goal
 
 pub in_stmt-returns-in-If : goal.in_stmt-returns-in-If

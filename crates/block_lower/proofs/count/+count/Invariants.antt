@@ -1,6 +1,6 @@
 use Rattle.std.proofs.Common.{◌≡◌, ◌-◌, ◌^◌, min, take}
 use Rattle.std.specs.List.{sum_by}
-use Rattle.code_laws.specs.Count.{blocks}
+use Rattle.scene_laws.specs.Count.{blocks}
 use Rattle.block_lower.proofs.count.+count.Given as goal
 
 abbrev pub invariant-in_list-loop-s : goal.invariant-in_list-loop-s

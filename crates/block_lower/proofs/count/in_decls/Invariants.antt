@@ -1,6 +1,6 @@
 use Rattle.std.proofs.Common.{◌≡◌, ◌-◌, ◌^◌, min, take}
 use Rattle.std.specs.List.{sum_by}
-use Rattle.code_laws.specs.Count.{blocks_of_decl}
+use Rattle.scene_laws.specs.Count.{blocks_of_decl}
 use Rattle.block_lower.proofs.count.in_decls.Given as goal
 
 abbrev pub invariant-loop-d : goal.invariant-loop-d

@@ -1,6 +1,6 @@
 use Rattle.std.proofs.Common.{◌≡◌, ◌-◌, ◌^◌, min, take}
 use Rattle.std.specs.List.{sum_by}
-use Rattle.code_laws.specs.Count.{blocks_of_expr}
+use Rattle.scene_laws.specs.Count.{blocks_of_expr}
 use Rattle.block_lower.proofs.count.in_exprs.Given as goal
 
 abbrev pub invariant-loop-e : goal.invariant-loop-e

@@ -2,7 +2,7 @@ use Rattle.std.proofs.Common.{◌≡◌, ◌≤◌, ◌+◌, drop, refl, arith}
 use Rattle.std.proofs.lemmas.List.Sums.{sum_by-cons}
 use Rattle.block_lower.specs.declared.body.Callee.{Callee}
 use Rattle.block_lower.specs.Programs.{entries_from}
-use Rattle.code_laws.specs.Sizes.{added_by_func}
+use Rattle.scene_laws.specs.Sizes.{added_by_func}
 use Rattle.block_lower.proofs.Written.WrittenFunctions.{next_dropped, entries_next}
 use Rattle.block_lower.proofs.function.callees_of.Goals as goal
 

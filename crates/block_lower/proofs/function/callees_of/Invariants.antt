@@ -1,7 +1,7 @@
 use Rattle.std.proofs.Common.{◌≡◌, ◌≤◌, ◌+◌, ◌++◌, drop}
 use Rattle.std.specs.List.{AllByRecursion}
 use Rattle.block_lower.specs.Bodies.{entries}
-use Rattle.code_laws.specs.Heights.{FuncIsLow}
+use Rattle.scene_laws.specs.Heights.{FuncIsLow}
 use Rattle.block_lower.specs.Programs.{entries_from, added_by_funcs, FuncIsSmall}
 use Rattle.block_lower.proofs.function.callees_of.Given as goal
 

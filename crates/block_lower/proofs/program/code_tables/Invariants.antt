@@ -1,5 +1,5 @@
 use Rattle.std.proofs.Common.{take}
-use Rattle.code_laws.specs.Owing.{AreDeclared}
+use Rattle.scene_laws.specs.Tables.{AreDeclared}
 use Rattle.block_lower.proofs.program.code_tables.Given as goal
 
 abbrev pub invariant-loop-table : goal.invariant-loop-table

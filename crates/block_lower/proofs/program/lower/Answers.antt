@@ -2,11 +2,11 @@ use Rattle.std.proofs.Common.{◌≡◌, ◌≤◌, length, sym, subst, arith}
 use Rattle.loop_syntax.specs.declared.Program.{Program}
 use Rattle.tpal_syntax.specs.Conditions.{IsCode}
 use Rattle.tpal_syntax.specs.Listing.{Listing}
-use Rattle.code_laws.specs.Count.{blocks_of_program}
+use Rattle.scene_laws.specs.Count.{blocks_of_program}
 use Rattle.code_laws.specs.Owing.{OwesMeaning}
 use Rattle.block_lower.proofs.Written.Planning.{fewer_blocks}
 use Rattle.code_laws.proofs.Rules.Unbroken.{program_fits}
-use Rattle.code_laws.proofs.Counts.Wholes.{stand_whole}
+use Rattle.scene_laws.proofs.Counts.Wholes.{stand_whole}
 use Rattle.code_laws.proofs.Whole.Owes.{owes_of}
 use Rattle.block_lower.proofs.program.lower.Goals as goal
 

@@ -1,5 +1,5 @@
 use Rattle.std.proofs.Common.{arith}
-use Rattle.code_laws.proofs.Counts.Adding.{few_kept_by_list, few_kept_by_decls}
+use Rattle.scene_laws.proofs.Counts.Adding.{few_kept_by_list, few_kept_by_decls}
 use Rattle.block_lower.proofs.Written.Planning.{fitting_are_small, fitting_main_is_small}
 use Rattle.block_lower.proofs.Written.WrittenPrograms.{funcs_low}
 use Rattle.block_lower.proofs.program.main_body.Goals as goal

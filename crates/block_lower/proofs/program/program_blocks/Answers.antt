@@ -3,7 +3,7 @@ use Rattle.std.proofs.lemmas.List.{length-append}
 use Rattle.tpal_syntax.specs.declared.blocks.Block.{Block}
 use Rattle.expr_lower.specs.Standing.{AreAt}
 use Rattle.handler_gen.specs.Blocks.{dispatch_block}
-use Rattle.code_laws.specs.Sizes.{kept_by_list, kept_by_decls}
+use Rattle.scene_laws.specs.Sizes.{kept_by_list, kept_by_decls}
 use Rattle.block_lower.proofs.Written.Planning.{fitting_are_small}
 use Rattle.block_lower.proofs.Written.WrittenPrograms.{funcs_fit_now, funcs_low, main_room}
 use Rattle.block_lower.proofs.Written.WrittenPrograms.{program_written}

@@ -1,5 +1,5 @@
 use Rattle.std.proofs.Common.{sym, ◌∙◌}
-use Rattle.code_laws.proofs.Counts.QuietRows.{quiet_of_vec}
+use Rattle.scene_laws.proofs.Counts.QuietRows.{quiet_of_vec}
 use Rattle.block_lower.proofs.quiet.+is_quiet.Goals as goal
 
 pub is_quiet-returns-then-list_is_quiet : goal.is_quiet-returns-then-list_is_quiet

@@ -1,5 +1,5 @@
 use Rattle.std.proofs.Common.{◌≡◌, drop}
-use Rattle.code_laws.specs.Quiet.{list_is_quiet}
+use Rattle.scene_laws.specs.Quiet.{list_is_quiet}
 use Rattle.block_lower.proofs.quiet.+is_quiet.Given as goal
 
 abbrev pub invariant-list_is_quiet-loop-s : goal.invariant-list_is_quiet-loop-s

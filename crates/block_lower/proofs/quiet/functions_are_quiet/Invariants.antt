@@ -1,5 +1,5 @@
 use Rattle.std.proofs.Common.{◌≡◌, drop}
-use Rattle.code_laws.specs.Quiet.{functions_are_quiet}
+use Rattle.scene_laws.specs.Quiet.{functions_are_quiet}
 use Rattle.block_lower.proofs.quiet.functions_are_quiet.Given as goal
 
 abbrev pub invariant-loop-f : goal.invariant-loop-f

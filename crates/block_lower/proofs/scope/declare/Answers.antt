@@ -1,5 +1,5 @@
 use Rattle.std.proofs.Common.{◌≡◌, length, refl, ap, ◌∙◌, arith}
-use Rattle.code_laws.specs.Layout.{value_cell}
+use Rattle.scene_laws.specs.Layout.{value_cell}
 use Rattle.block_lower.proofs.Written.Keeping.{sees_declared}
 use Rattle.block_lower.proofs.scope.declare.Goals as goal
 

@@ -1,5 +1,5 @@
 use Rattle.std.proofs.Common.{◌≡◌, take}
-use Rattle.code_laws.specs.Sites.{accs_of}
+use Rattle.scene_laws.specs.Sites.{accs_of}
 use Rattle.block_lower.proofs.site.accs_at.Given as goal
 
 abbrev pub invariant-loop-reduce : goal.invariant-loop-reduce

@@ -1,5 +1,5 @@
 use Rattle.std.proofs.Common.{◌≡◌, take}
-use Rattle.code_laws.specs.Sites.{carries_from}
+use Rattle.scene_laws.specs.Sites.{carries_from}
 use Rattle.block_lower.proofs.site.carries_at.Given as goal
 
 abbrev pub invariant-loop-before : goal.invariant-loop-before

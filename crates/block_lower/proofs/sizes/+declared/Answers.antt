@@ -1,7 +1,7 @@
 use Rattle.std.proofs.Common.{arith, length-append}
 use Rattle.loop_rules.specs.Declarations.{declared_all}
 use Rattle.loop_syntax.specs.declared.Stmt.TheBlock.{hidden-the_row-Stmt-0}
-use Rattle.code_laws.proofs.Counts.Adding.{declared_of_vec}
+use Rattle.scene_laws.proofs.Counts.Adding.{declared_of_vec}
 use Rattle.block_lower.proofs.sizes.+declared.Goals as goal
 
 pub declared-returns-in-If : goal.declared-returns-in-If

@@ -1,6 +1,6 @@
 use Rattle.std.proofs.Common.{◌≡◌, ◌-◌, ◌^◌, min, take}
 use Rattle.std.specs.List.{sum_by}
-use Rattle.code_laws.specs.Sizes.{declared}
+use Rattle.scene_laws.specs.Sizes.{declared}
 use Rattle.block_lower.proofs.sizes.+declared.Given as goal
 
 abbrev pub invariant-declared_by_list-loop-s : goal.invariant-declared_by_list-loop-s

@@ -1,7 +1,7 @@
 use Rattle.std.proofs.Common.{◌+◌, sym, arith}
 use Rattle.std.proofs.lemmas.Bool.{lt-leb}
 use Rattle.loop_rules.specs.Limits.{height}
-use Rattle.code_laws.proofs.Counts.Adding.{some_height}
+use Rattle.scene_laws.proofs.Counts.Adding.{some_height}
 use Rattle.block_lower.proofs.sizes.+is_low_at.Goals as goal
 
 pub returns-then-to-ge-MAX_EXPRESSION_HEIGHT : goal.returns-then-to-ge-MAX_EXPRESSION_HEIGHT

@@ -1,10 +1,10 @@
 use Rattle.std.proofs.Common.{◌≡◌, ◌+◌, subst, sym, arith}
 use Rattle.std.specs.List.{sum_by}
 use Rattle.std.proofs.lemmas.List.Sums.{sum_by_more_le}
-use Rattle.code_laws.specs.Count.{blocks}
-use Rattle.code_laws.specs.Heights.{AreLow}
-use Rattle.code_laws.proofs.Counts.Adding.{kept_of_vec}
-use Rattle.code_laws.proofs.Counts.Counting.{blocks_of_vec}
+use Rattle.scene_laws.specs.Count.{blocks}
+use Rattle.scene_laws.specs.Heights.{AreLow}
+use Rattle.scene_laws.proofs.Counts.Adding.{kept_of_vec}
+use Rattle.scene_laws.proofs.Counts.Counting.{blocks_of_vec}
 use Rattle.block_lower.proofs.Written.Stepping.{low_at}
 use Rattle.block_lower.proofs.Written.Fitting.{low_of_vec}
 use Rattle.block_lower.proofs.sizes.+kept.Goals as goal

@@ -1,7 +1,7 @@
 use Rattle.std.proofs.Common.{◌≡◌, ◌+◌, drop, max}
 use Rattle.std.specs.List.{sum_by}
-use Rattle.code_laws.specs.Count.{blocks}
-use Rattle.code_laws.specs.Sizes.{kept_by_list}
+use Rattle.scene_laws.specs.Count.{blocks}
+use Rattle.scene_laws.specs.Sizes.{kept_by_list}
 use Rattle.block_lower.proofs.sizes.+kept.Given as goal
 
 abbrev pub invariant-kept_by_list-loop-s : goal.invariant-kept_by_list-loop-s

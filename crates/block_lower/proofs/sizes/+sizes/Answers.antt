@@ -1,5 +1,5 @@
 use Rattle.std.proofs.Common.{arith}
-use Rattle.code_laws.proofs.Counts.Adding.{added_of_vec, par_of_vec, second_of_vec}
+use Rattle.scene_laws.proofs.Counts.Adding.{added_of_vec, par_of_vec, second_of_vec}
 use Rattle.block_lower.proofs.sizes.+sizes.Goals as goal
 
 pub added-returns-in-If : goal.added-returns-in-If

@@ -1,6 +1,6 @@
 use Rattle.std.proofs.Common.{◌≡◌, ◌-◌, ◌^◌, min, take}
 use Rattle.std.specs.List.{sum_by}
-use Rattle.code_laws.specs.Sizes.{added}
+use Rattle.scene_laws.specs.Sizes.{added}
 use Rattle.block_lower.proofs.sizes.+sizes.Given as goal
 
 abbrev pub invariant-added_by_list-loop-s : goal.invariant-added_by_list-loop-s

@@ -1,6 +1,6 @@
 use Rattle.std.proofs.Common.{◌≡◌, ◌-◌, ◌^◌, min, take}
 use Rattle.std.specs.List.{sum_by}
-use Rattle.code_laws.specs.Sizes.{added_by_decl}
+use Rattle.scene_laws.specs.Sizes.{added_by_decl}
 use Rattle.block_lower.proofs.sizes.added_by_decls.Given as goal
 
 abbrev pub invariant-loop-d : goal.invariant-loop-d

@@ -1,5 +1,5 @@
 use Rattle.std.proofs.Common.{◌≡◌, drop, max}
-use Rattle.code_laws.specs.Sizes.{kept_by_decls}
+use Rattle.scene_laws.specs.Sizes.{kept_by_decls}
 use Rattle.block_lower.proofs.sizes.kept_by_decls.Given as goal
 
 abbrev pub invariant-loop-d : goal.invariant-loop-d

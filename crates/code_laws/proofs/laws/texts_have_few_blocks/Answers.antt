@@ -1,4 +1,4 @@
-use Rattle.code_laws.proofs.Counts.FewBlocks.{few_blocks_of}
+use Rattle.scene_laws.proofs.Counts.FewBlocks.{few_blocks_of}
 use Rattle.code_laws.proofs.laws.texts_have_few_blocks.Goals as goal
 
 pub returns : goal.returns

@@ -7,14 +7,14 @@ use Rattle.loop_rules.specs.Declarations.{declared_all}
 use Rattle.loop_syntax.specs.declared.Stmt.{Stmt}
 use Rattle.loop_syntax.specs.declared.Stmt.TheBlock.{hidden-the_row-Stmt-0}
 use Rattle.expr_lower.specs.declared.scope.Scope.{Scope}
-use Rattle.code_laws.specs.Heights.{AreLow}
-use Rattle.code_laws.specs.Count.{blocks}
+use Rattle.scene_laws.specs.Heights.{AreLow}
+use Rattle.scene_laws.specs.Count.{blocks}
 use Rattle.block_lower.specs.Lowering.{LowersAll, LowersOther}
-use Rattle.code_laws.specs.Names.{SeesAfter, names_after_list}
-use Rattle.code_laws.specs.Sizes.{added, declared, kept, kept_by_list}
-use Rattle.code_laws.proofs.Counts.Counting.{blocks_of_vec}
-use Rattle.code_laws.proofs.Counts.Adding.{added_of_vec, par_of_vec, second_of_vec}
-use Rattle.code_laws.proofs.Counts.Adding.{declared_of_vec, kept_of_vec}
+use Rattle.scene_laws.specs.Names.{SeesAfter, names_after_list}
+use Rattle.scene_laws.specs.Sizes.{added, declared, kept, kept_by_list}
+use Rattle.scene_laws.proofs.Counts.Counting.{blocks_of_vec}
+use Rattle.scene_laws.proofs.Counts.Adding.{added_of_vec, par_of_vec, second_of_vec}
+use Rattle.scene_laws.proofs.Counts.Adding.{declared_of_vec, kept_of_vec}
 use Rattle.block_lower.proofs.Written.Fitting.{low_of_vec}
 use Rattle.block_lower.proofs.Written.Keeping.{sees_block, sees_body, sees_more}
 use Rattle.block_lower.proofs.Written.Lowered.{none_written, more_written, branch_written}
@@ -29,7 +29,7 @@ use Rattle.block_lower.proofs.Written.LoweredLeaves.{turn_written}
 use Rattle.block_lower.proofs.Written.LoweredLoops.{loop_written}
 use Rattle.block_lower.proofs.Written.LoweredPars.{body_same, quiet_written}
 use Rattle.block_lower.proofs.Written.Writing.{fresh_empty}
-use Rattle.code_laws.specs.Quiet.{is_leaf}
+use Rattle.scene_laws.specs.Quiet.{is_leaf}
 use Rattle.block_lower.proofs.Written.Stepping.{on_ok, low_at, kept_at, room_within, first_more}
 use Rattle.block_lower.proofs.Written.Stepping.{no_items}
 use Rattle.block_lower.proofs.lowering.Lowering.+lower.Goals as goal

@@ -1,9 +1,9 @@
 use Rattle.std.proofs.Common.{◌≡◌, ◌+◌, ◌≤◌, length, take}
 use Rattle.std.specs.List.{sum_by}
-use Rattle.code_laws.specs.Count.{blocks}
+use Rattle.scene_laws.specs.Count.{blocks}
 use Rattle.block_lower.specs.Lowering.{LowersAll}
-use Rattle.code_laws.specs.Names.{SeesAfter, names_after_list}
-use Rattle.code_laws.specs.Sizes.{added, declared}
+use Rattle.scene_laws.specs.Names.{SeesAfter, names_after_list}
+use Rattle.scene_laws.specs.Sizes.{added, declared}
 use Rattle.block_lower.specs.Writing.{next_label}
 use Rattle.block_lower.proofs.lowering.Lowering.+lower.Given as goal
 

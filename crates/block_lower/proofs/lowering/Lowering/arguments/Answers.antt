@@ -5,7 +5,7 @@ use Rattle.std.proofs.lemmas.List.Sums.{sum_by_more}
 use Rattle.loop_syntax.specs.declared.Expr.{Expr}
 use Rattle.expr_lower.specs.Bodies.{trap_count}
 use Rattle.block_lower.specs.declared.output.Output.{Output}
-use Rattle.code_laws.specs.Code.{store}
+use Rattle.scene_laws.specs.Code.{store}
 use Rattle.block_lower.specs.Lowering.{WritesArguments}
 use Rattle.block_lower.specs.Writing.{Pushes}
 use Rattle.block_lower.proofs.Written.LoweredCalls.{none_stored, more_stored}

@@ -3,9 +3,9 @@ use Rattle.tpal_syntax.specs.declared.sites.LoopSite.{LoopSite}
 use Rattle.block_lower.specs.Lowering.{BeginsDeep, BeginsPar}
 use Rattle.block_lower.specs.Writing.{next_label}
 use Rattle.expr_lower.specs.Bodies.{trap_count}
-use Rattle.code_laws.specs.Layout.{cursor_cell}
-use Rattle.code_laws.specs.Sites.{loop_site}
-use Rattle.code_laws.specs.Sizes.{added_by_list}
+use Rattle.scene_laws.specs.Layout.{cursor_cell}
+use Rattle.scene_laws.specs.Sites.{loop_site}
+use Rattle.scene_laws.specs.Sizes.{added_by_list}
 use Rattle.block_lower.proofs.Written.LoweredDeep.{deep_begun}
 use Rattle.block_lower.proofs.Written.Sited.{site_fits}
 use Rattle.block_lower.proofs.lowering.Lowering.begin_deep.Goals as goal

@@ -2,9 +2,9 @@ use Rattle.std.proofs.Common.{◌≡◌, ◌+◌, ◌*◌, length, ap, ◌∙◌
 use Rattle.expr_lower.specs.Bodies.{trap_count}
 use Rattle.tpal_syntax.specs.declared.sites.LeafSite.{LeafSite}
 use Rattle.tpal_syntax.specs.declared.sites.LoopSite.{LoopSite}
-use Rattle.code_laws.specs.Layout.{value_cell}
+use Rattle.scene_laws.specs.Layout.{value_cell}
 use Rattle.block_lower.specs.Lowering.{BeginsLeaf, BeginsPar}
-use Rattle.code_laws.specs.Sizes.{added_by_list}
+use Rattle.scene_laws.specs.Sizes.{added_by_list}
 use Rattle.block_lower.specs.Writing.{label, next_label}
 use Rattle.block_lower.proofs.Written.LoweredLeaves.{leaf_begun, leaf_head, leaf_right, leaf_stored}
 use Rattle.block_lower.proofs.Written.Sited.{site_fits}

@@ -2,7 +2,7 @@ use Rattle.std.proofs.Common.{◌≡◌, ℕ, ◌+◌, length, ap, subst, ◌∙
 use Rattle.expr_lower.specs.Bodies.{trap_count}
 use Rattle.block_lower.specs.Lowering.{BeginsPar}
 use Rattle.block_lower.specs.Writing.{next_label}
-use Rattle.code_laws.specs.Sites.{loop_site}
+use Rattle.scene_laws.specs.Sites.{loop_site}
 use Rattle.block_lower.proofs.Written.LoweredPars.{par_begun}
 use Rattle.block_lower.proofs.Written.Sited.{site_fits}
 use Rattle.block_lower.proofs.lowering.Lowering.begin_par.Goals as goal

@@ -5,9 +5,9 @@ use Rattle.block_lower.specs.declared.repeat.Turns.{Turns}
 use Rattle.block_lower.specs.Lowering.{BeginsQuiet, BeginsPar}
 use Rattle.block_lower.specs.Writing.{next_label}
 use Rattle.expr_lower.specs.Bodies.{trap_count}
-use Rattle.code_laws.specs.Layout.{value_cell}
-use Rattle.code_laws.specs.Sites.{loop_site}
-use Rattle.code_laws.specs.Sizes.{added_by_list}
+use Rattle.scene_laws.specs.Layout.{value_cell}
+use Rattle.scene_laws.specs.Sites.{loop_site}
+use Rattle.scene_laws.specs.Sizes.{added_by_list}
 use Rattle.block_lower.proofs.Written.LoweredPars.{quiet_begun}
 use Rattle.block_lower.proofs.Written.Sited.{site_fits}
 use Rattle.block_lower.proofs.lowering.Lowering.begin_quiet.Goals as goal

@@ -1,7 +1,7 @@
 use Rattle.std.proofs.Common.{◌≡◌, ℕ, ◌+◌, ap, length, subst, arith}
 use Rattle.block_lower.specs.Lowering.{WritesTest, by_opposite, by_test}
 use Rattle.block_lower.specs.Writing.{label}
-use Rattle.code_laws.proofs.Forms.Opposites.{found_blocks, found_traps}
+use Rattle.form_laws.proofs.Forms.Opposites.{found_blocks, found_traps}
 use Rattle.block_lower.proofs.lowering.Lowering.choice.Goals as goal
 
 pub operation-requires-clause-labels : goal.operation-requires-clause-labels

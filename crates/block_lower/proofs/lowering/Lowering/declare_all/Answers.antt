@@ -1,7 +1,7 @@
 use Rattle.std.proofs.Common.{◌++◌, List, take, take_all, refl, sym, subst, ◌∙◌, arith}
 use Rattle.loop_syntax.specs.declared.Name.{Name}
 use Rattle.loop_rules.specs.Names.{texts}
-use Rattle.code_laws.specs.Names.{SeesAfter}
+use Rattle.scene_laws.specs.Names.{SeesAfter}
 use Rattle.block_lower.proofs.Written.Stepping.{first_more}
 use Rattle.block_lower.proofs.Written.WrittenFunctions.{sees_parameter, sees_no_parameter}
 use Rattle.block_lower.proofs.lowering.Lowering.declare_all.Goals as goal

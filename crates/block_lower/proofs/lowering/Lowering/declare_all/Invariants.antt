@@ -1,6 +1,6 @@
 use Rattle.std.proofs.Common.{◌≡◌, ◌+◌, ◌++◌, length, take}
 use Rattle.loop_rules.specs.Names.{texts}
-use Rattle.code_laws.specs.Names.{SeesAfter}
+use Rattle.scene_laws.specs.Names.{SeesAfter}
 use Rattle.block_lower.proofs.lowering.Lowering.declare_all.Given as goal
 
 abbrev pub invariant-loop-x : goal.invariant-loop-x

@@ -1,7 +1,7 @@
 use Rattle.std.proofs.Common.{◌≡◌, ℕ, suc, ◌+◌, sym, ap, ◌∙◌, arith}
 use Rattle.block_lower.specs.Bodies.{activation}
-use Rattle.code_laws.specs.Layout.{Activation}
-use Rattle.code_laws.specs.Pairs.{kept_from}
+use Rattle.scene_laws.specs.Layout.{Activation}
+use Rattle.scene_laws.specs.Pairs.{kept_from}
 use Rattle.block_lower.proofs.Written.LoweredPairs.{more_kept}
 use Rattle.block_lower.proofs.lowering.Lowering.kept_arguments.Goals as goal
 

@@ -2,9 +2,9 @@ use Rattle.std.proofs.Common.{take, take_all, List, refl, ap, sym, subst, ◌∙
 use Rattle.std.proofs.lemmas.List.Sums.{sum_by_more}
 use Rattle.loop_syntax.specs.declared.Func.{Func}
 use Rattle.block_lower.specs.declared.body.Body.{Body}
-use Rattle.code_laws.specs.Heights.{FuncIsLow}
+use Rattle.scene_laws.specs.Heights.{FuncIsLow}
 use Rattle.block_lower.specs.Programs.{LowersFuncs, FuncIsSmall}
-use Rattle.code_laws.specs.Sizes.{added_by_func}
+use Rattle.scene_laws.specs.Sizes.{added_by_func}
 use Rattle.block_lower.proofs.Written.FittingNow.{func_fits_now}
 use Rattle.block_lower.proofs.Written.Stepping.{first_more}
 use Rattle.block_lower.proofs.Written.WrittenFunctions.{holds_at, func_room, no_funcs_written}

@@ -2,9 +2,9 @@ use Rattle.std.proofs.Common.{◌++◌, List, length, map, take, take_all, refl,
 use Rattle.std.proofs.Common.{◌∙◌, arith}
 use Rattle.std.proofs.lemmas.List.Sums.{sum_by_more}
 use Rattle.loop_syntax.specs.declared.TableDecl.{TableDecl}
-use Rattle.code_laws.specs.Main.{table_name}
+use Rattle.form_laws.specs.Functions.{table_name}
 use Rattle.block_lower.specs.Programs.{SeesTables, WritesMakes}
-use Rattle.code_laws.specs.Sizes.{added_by_decl}
+use Rattle.scene_laws.specs.Sizes.{added_by_decl}
 use Rattle.block_lower.proofs.Written.Stepping.{first_more}
 use Rattle.block_lower.proofs.Written.WrittenTables.{no_makes_written, makes_written, sees_no_table}
 use Rattle.block_lower.proofs.Written.WrittenTables.{sees_next_table, room_at}

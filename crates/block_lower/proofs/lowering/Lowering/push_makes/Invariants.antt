@@ -1,8 +1,8 @@
 use Rattle.std.proofs.Common.{◌≡◌, ◌+◌, ◌++◌, length, map, take}
 use Rattle.std.specs.List.{sum_by}
-use Rattle.code_laws.specs.Main.{table_name}
+use Rattle.form_laws.specs.Functions.{table_name}
 use Rattle.block_lower.specs.Programs.{SeesTables, WritesMakes}
-use Rattle.code_laws.specs.Sizes.{added_by_decl}
+use Rattle.scene_laws.specs.Sizes.{added_by_decl}
 use Rattle.block_lower.specs.Writing.{next_label}
 use Rattle.block_lower.proofs.lowering.Lowering.push_makes.Given as goal
 

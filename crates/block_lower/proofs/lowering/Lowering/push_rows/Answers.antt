@@ -1,6 +1,6 @@
 use Rattle.std.proofs.Common.{[], ◌∷◌, subst, ◌∙◌, arith}
 use Rattle.expr_lower.specs.declared.scope.Scope.{Scope}
-use Rattle.code_laws.specs.Sites.{rows_from}
+use Rattle.scene_laws.specs.Sites.{rows_from}
 use Rattle.block_lower.specs.Writing.{Pushes}
 use Rattle.block_lower.proofs.Written.LoweredRows.{rows_pushed}
 use Rattle.block_lower.proofs.Written.Stepping.{first_more}

@@ -1,5 +1,5 @@
 use Rattle.std.proofs.Common.{◌≡◌, take}
-use Rattle.code_laws.specs.Sites.{rows_from}
+use Rattle.scene_laws.specs.Sites.{rows_from}
 use Rattle.block_lower.specs.Writing.{next_label, Pushes}
 use Rattle.block_lower.proofs.lowering.Lowering.push_rows.Given as goal
 
