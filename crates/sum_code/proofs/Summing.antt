@@ -1,35 +1,30 @@
 -- What the tasks of the code owe, block by block.
 use Rattle.std.proofs.Common.{◌≡◌, ℕ, zero, suc, ◌+◌, ◌-◌, ◌/◌, ◌<◌, ◌≤◌, Bool, true, false, cond}
-use Rattle.std.proofs.Common.{Option, Some, None, Err, List, [], ◌∷◌, length, refl, sym, ap}
-use Rattle.std.proofs.Common.{◌∙◌, subst, arith}
-use Rattle.std.proofs.lemmas.List.Elements.{All-cons, All-nil}
-use Rattle.std.proofs.lemmas.Bool.{eq-eqb, le-leb, le-ltb, lt-ltb, true≢false}
-use Rattle.std.proofs.lemmas.Int.{ints}
-use Rattle.std.specs.Prelude.{ℤ, pos, ◌+ℤ◌, ◌-ℤ◌, ◌^◌, int_div, int_lt, nat_lt, slice_get, is_some}
+use Rattle.std.proofs.Common.{Option, Some, None, Err, [], ◌∷◌, refl, ap, subst, arith}
+use Rattle.std.proofs.lemmas.Bool.{eq-eqb, le-ltb, lt-ltb}
+use Rattle.std.specs.Prelude.{ℤ, pos, ◌^◌, nat_lt}
 use Rattle.beat_count.specs.BeatState.{BeatState}
 use Rattle.beat_count.specs.Heartbeat.{no_beat, counted, taken}
-use Rattle.stack_marks.specs.declared.mark.Mark.{Mark}
-use Rattle.tp_value.specs.declared.values.Stop.TheVariants.{Done, NoFuel}
-use Rattle.tp_value.specs.Number.{wrapped, truth}
-use Rattle.tpal_syntax.specs.declared.notes.CarryAt.{CarryAt}
+use Rattle.tp_value.specs.Number.{truth}
+use Rattle.tpal_syntax.specs.declared.blocks.Block.{Block}
 use Rattle.tpal_syntax.specs.declared.words.Word.{Word}
 use Rattle.tpal_syntax.specs.declared.words.Word.TheVariants as word
 use Rattle.tpal_syntax.specs.Listing.{Listing}
 use Rattle.tpal_machine.specs.declared.ends.SideName.TheVariants.{Left, Right}
-use Rattle.tpal_machine.specs.declared.ends.Tie.{Tie}
 use Rattle.tpal_machine.specs.declared.faults.Fault.TheVariants as fault
-use Rattle.tpal_machine.specs.Belongs.{IsWordOf, IsGoalOf, SideBelongsTo}
 use Rattle.tpal_machine.specs.Cut.{Forked, fork_under}
 use Rattle.tpal_machine.specs.Effect.{answered}
-use Rattle.tpal_machine.specs.Merge as merging
-use Rattle.tpal_machine.specs.Merge.{MergeOf}
 use Rattle.tpal_machine.specs.Owes.{Bound}
 use Rattle.tpal_machine.specs.Owes as owes
 use Rattle.tpal_machine.specs.State.{State, first_state}
-use Rattle.tpal_machine.specs.Step.{Goes, Ends, Stuck, advanced, forked, join_met, join_end}
-use Rattle.sum_code.specs.Sum.{joins, sum_of, sum_below, prints_sum}
-use Rattle.sum_code.proofs.Sums.{sum_split, sum_low, wrap_is}
-use Rattle.sum_code.proofs.Tasks.{Whose, run, side, goal_of, record_of, handed, ending_of, mark}
+use Rattle.tpal_machine.specs.Step.{Goes, advanced, forked}
+use Rattle.tpal_machine.proofs.Owing.{no_least}
+use Rattle.sum_code.specs.Sum.{sum_of, sum_below, main_block, end_block, child_block}
+use Rattle.sum_code.specs.Sum.{prints_sum}
+use Rattle.sum_code.proofs.Sides.{tie, merged, end_owes, merged_owes, merges}
+use Rattle.sum_code.proofs.Rounds.{iterated, iterates_once}
+use Rattle.sum_code.proofs.Sums.{sum_split, sum_low, middle}
+use Rattle.sum_code.proofs.Tasks.{Whose, run, side, record_of, handed, ending_of, mark}
 use Rattle.sum_code.proofs.Tasks.{words, task, rest}
 use Rattle.sum_code.proofs.Walking.{steps, owes_before, ready_owes, begun}
 
@@ -37,125 +32,27 @@ module _ (count heartbeat limit : ℕ) where
   abbrev pub code : Listing
   code = sum_below count
 
+  abbrev main : Block
+  main = main_block count
+
+  abbrev child : Block
+  child = child_block
+
   abbrev pub Owed : Bool → State → Whose → ℕ → Type 0
   Owed due state whose total = Bound code heartbeat due 0 state (ending_of whose total)
 
-  -- ---- the end of a part
-
-  pub end_owes : (whose : Whose) (total : ℕ) (marks : List Mark) (beat : BeatState)
-      (r0 r1 r3 r4 r5 r6 r7 r30 : Word)
-      → Owed false
-      (task limit whose 3 (words r0 r1 (word.Int (pos total)) r3 r4 r5 r6 r7 r30) (record_of whose)
-      marks beat)
-      whose total
-  unfolding steps
-  end_owes run total marks beat r0 r1 r3 r4 r5 r6 r7 r30 =
-      owes_before code heartbeat 5 false _ _ _ refl (owes.ends _ _ refl)
-  end_owes (side k name) total marks beat r0 r1 r3 r4 r5 r6 r7 r30 =
-      owes_before code heartbeat 4 false _ _ _ refl
-      (owes.ends _ _ (ap
-      (λ b. cond b (Ends (ending_of (side k name) total)) (Stuck fault.WrongRecord))
-      (eq-eqb k k refl)))
-
-  -- ---- two sides put together
-
-  abbrev tie : ℕ → Tie
-  tie k = record { rec = k; target = 9 }
-
-  -- the registers behind a join, where this is the sum so far
-  abbrev hands : (k right : ℕ) → ℤ → List Word
-  hands k right sum =
-      words word.Nil word.Nil (word.Int sum) word.Nil (word.Rec k) word.Nil (word.Int (pos right))
-      (word.Rec k) word.Nil
-
-  -- the task behind a join
-  abbrev merged : Whose → (k left right : ℕ) → State
-  merged whose k left right =
-      record (task limit whose 8 (hands k right (pos left)) (record_of whose) [] no_beat)
-      { met = Some (tie k) }
-
-  -- the same, once both sums are added
-  abbrev added : Whose → (k right : ℕ) → ℤ → State
-  added whose k right sum =
-      record (task limit whose 8 (hands k right sum) (record_of whose) [] (counted no_beat))
-      { at = 1; met = Some (tie k) }
-
-  merged_owes : (whose : Whose) (k left right total : ℕ) → left + right ≡ total → total < 2 ^ 63
-      → Owed false (merged whose k left right) whose total
-  unfolding steps
-  merged_owes whose k left right total is low =
-      owes_before code heartbeat 1 false _ (added whose k right (pos total)) _
-      (ap (λ z. Goes (added whose k right z)) (ap (λ n. wrapped (pos n)) is ∙ wrap_is total low))
-      (owes.goes false 0 0 _ _ _ (omega arith)
-      (ap
-      (λ b.
-      cond b
-      (join_met code heartbeat true (tie k) (advanced (added whose k right
-      (pos total))))
-      (join_end code k (advanced (added whose k right (pos total)))))
-      (eq-eqb k k refl))
-      (owes_before code heartbeat 1 false _ _ _ refl
-      (end_owes whose total [] _ _ _ _ _ _ _ _ _)))
-
   -- ---- a loop that is cut
 
-  -- a loop with one iteration to go, and so many more
+  -- a loop with one iteration to go, and so many more, before each of which the promotion point is
+  -- entered
   abbrev Loop : ℕ → Type 0
   Loop m = (whose : Whose) (a b s total : ℕ) (beat : BeatState) (r3 r4 r5 r6 r7 r30 : Word)
       → a + suc m ≡ b → s + sum_of (suc m) a ≡ total → b < 2 ^ 63 → total < 2 ^ 63
-      → Owed false
+      → Bound code heartbeat false m
       (task limit whose 2
       (words (word.Int (pos a)) (word.Int (pos b)) (word.Int (pos s)) r3 r4 r5 r6 r7 r30)
       (record_of whose) (mark ∷ []) beat)
-      whose total
-
-  record_is_word : (whose : Whose) → IsWordOf code (record_of whose)
-  record_is_word run = tt
-  record_is_word (side k name) = tt
-
-  goal_is_of : (whose : Whose) → IsGoalOf code (goal_of whose)
-  goal_is_of run = tt
-  goal_is_of (side k name) = refl
-
-  handed_belongs : (k total : ℕ) → SideBelongsTo code (handed k total)
-  handed_belongs k total =
-      All-cons (λ w. IsWordOf code w.1) (2, word.Int (pos total)) ((4, word.Rec k) ∷ []) tt
-      (All-cons (λ w. IsWordOf code w.1) (4, word.Rec k) [] tt (All-nil (λ w. IsWordOf code w.1)))
-
-  merges : (whose : Whose) (k left right : ℕ)
-      → MergeOf code (rest limit whose k (record_of whose)) (handed k left) (handed k right)
-      (merging.Goes (merged whose k left right))
-  merges whose k left right = record {
-    sides = record {
-      left_ticks = omega arith;
-      right_ticks = omega arith;
-      left_side = record { words = refl; slices = refl };
-      right_side = record { words = refl; slices = refl };
-      parts = λ i c is. absurd (no_carry i c is);
-    };
-    rest_belongs = record {
-      stack = record {
-        cells = All-cons (IsWordOf code) word.Nil (record_of whose ∷ []) tt
-            (All-cons (IsWordOf code) (record_of whose) [] (record_is_word whose)
-            (All-nil (IsWordOf code)));
-        marks = All-nil (λ m. m.split < length code.blocks);
-      };
-      tables = refl;
-      goal = goal_is_of whose;
-      target = refl;
-    };
-    left_belongs = handed_belongs k left;
-    right_belongs = handed_belongs k right;
-    gives =
-        ap
-        (λ b.
-        merging.joined_by (cond b Done NoFuel) (cond b 0 (limit + 1)) [] joins
-        (rest limit whose k (record_of whose)) (handed k left) (handed k right))
-        (le-leb 0 limit (omega arith));
-  }
-    where
-      no_carry : (i : ℕ) (c : CarryAt) → slice_get [] i ≡ Some c → ⊥
-      no_carry i c is = true≢false (sym (ap is_some is))
+      (ending_of whose total)
 
   -- ---- the left of a cut
 
@@ -204,11 +101,12 @@ module _ (count heartbeat limit : ℕ) where
       (subst (λ n. Owed false (left_tested 0 k a (word.Int (pos s)) r6 r7 false) (side k Left) n)
       same
       (owes_before code heartbeat 2 false _ _ _ refl
-      (end_owes (side k Left) s (mark ∷ []) _ _ _ _ _ _ _ _ _)))
+      (end_owes main child heartbeat limit (side k Left) s (mark ∷ []) _ _ _ _ _ _ _ _ _)))
   left_owes (suc j) k a s total kept r1 r3 r6 r7 loops is high low =
       left_tests (suc j) k a s total kept r1 r3 r6 r7 true (lt-ltb a (a + suc j) (omega arith))
       (owes_before code heartbeat 3 false _ _ _ refl
-      (loops j refl (side k Left) a (a + suc j) s total _ _ _ _ _ _ _ refl is high low))
+      (no_least code heartbeat false j _ _
+      (loops j refl (side k Left) a (a + suc j) s total _ _ _ _ _ _ _ refl is high low)))
 
   -- ---- the child of a cut
 
@@ -222,7 +120,8 @@ module _ (count heartbeat limit : ℕ) where
   unfolding steps
   child_owes k a b mid c total kept r0 r2 r3 r6 r7 r30 loop ends is high low =
       owes_before code heartbeat 5 false _ _ _ refl
-      (loop (side k Right) mid b 0 total _ _ _ _ _ _ _ ends (omega (arith, is)) high low)
+      (no_least code heartbeat false c _ _
+      (loop (side k Right) mid b 0 total _ _ _ _ _ _ _ ends (omega (arith, is)) high low))
 
   -- ---- the handler
 
@@ -260,17 +159,6 @@ module _ (count heartbeat limit : ℕ) where
         (record_of whose) [] no_beat;
   }
 
-  middle : (a b m : ℕ) → a + suc m ≡ b → b < 2 ^ 63
-      → wrapped (wrapped (int_div (wrapped (pos b -ℤ pos a)) (pos 2)) +ℤ pos a)
-      ≡ pos (a + suc m / 2)
-  middle a b m ends high =
-      let gap : pos b -ℤ pos a ≡ pos (suc m) = omega (arith, ints, ends) in
-      let sum : suc m / 2 + a ≡ a + suc m / 2 = omega arith in
-      ap (λ n. wrapped (wrapped (int_div n (pos 2)) +ℤ pos a))
-      (ap wrapped gap ∙ wrap_is (suc m) (omega (arith, ends, high)))
-      ∙ ap (λ n. wrapped (n +ℤ pos a)) (wrap_is (suc m / 2) (omega (arith, ends, high)))
-      ∙ (ap (λ n. wrapped (pos n)) sum ∙ wrap_is (a + suc m / 2) (omega (arith, ends, high)))
-
   fork_owes : (m : ℕ) → ((j : ℕ) → j ≤ m → Loop j) →
       (whose : Whose) (k a b s total : ℕ) (r6 r7 : Word)
       → a + suc m ≡ b → s + sum_of (suc m) a ≡ total → b < 2 ^ 63 → total < 2 ^ 63
@@ -284,7 +172,7 @@ module _ (count heartbeat limit : ℕ) where
       let upper = sum_of (suc c) (a + h) in
       let both : lower + upper ≡ total = omega (arith, is, split) in
       owes.forks_on _ (parts_of whose k a b h (word.Int (pos s)) r6 r7) (handed k lower)
-      (handed k upper) (merged whose k lower upper) _
+      (handed k upper) (merged limit whose k lower upper) _
       (ap
       (λ x.
       forked (cond x
@@ -297,8 +185,8 @@ module _ (count heartbeat limit : ℕ) where
       (omega (arith, both, low)))
       (child_owes k a b (a + h) c upper (record_of whose) _ _ _ r6 r7 _ (loops c (omega arith))
       (omega (arith, whole, ends)) refl high (omega (arith, both, low)))
-      (merges whose k lower upper)
-      (merged_owes whose k lower upper total both low)
+      (merges main child heartbeat limit whose k lower upper)
+      (merged_owes main child heartbeat limit whose k lower upper total both low)
 
   handler_owes : (m : ℕ) → ((j : ℕ) → j ≤ m → Loop j) →
       (whose : Whose) (a b s total : ℕ) (r3 r4 r5 r6 r7 : Word)
@@ -313,7 +201,8 @@ module _ (count heartbeat limit : ℕ) where
           Owed false (answered rec (waits whose a b (word.Int (pos s)) r3 r4 r5 r6 r7)) whose total
       answer None =
           owes_before code heartbeat 4 false _ _ _ refl
-          (loops m (omega arith) whose a b s total _ _ _ _ _ _ _ ends is high low)
+          (no_least code heartbeat false m _ _
+          (loops m (omega arith) whose a b s total _ _ _ _ _ _ _ ends is high low))
       answer (Some k) =
           owes_before code heartbeat 5 false _
           (forks whose k a b (word.Int (pos s)) r6 r7 (pos (a + suc m / 2))) _
@@ -322,38 +211,22 @@ module _ (count heartbeat limit : ℕ) where
 
   -- ---- the loop
 
-  -- a task behind an iteration, by its sum, the next number, and whether that is to be added
-  abbrev iterated : Whose → (b : ℕ) (sum next : ℤ) (r4 r5 r6 r7 r30 : Word) → BeatState → Bool →
-      State
-  iterated whose b sum next r4 r5 r6 r7 r30 beat more =
-      record
-      (task limit whose 2
-      (words (word.Int next) (word.Int (pos b)) (word.Int sum) (word.Int (truth more)) r4 r5 r6
-      r7 r30)
-      (record_of whose) (mark ∷ []) (counted (counted (counted beat))))
-      { at = 3 }
-
-  iterates : (whose : Whose) (a b s sum total : ℕ) (beat : BeatState) (r3 r4 r5 r6 r7 r30 : Word)
-      (more : Bool)
+  iterates : {least : ℕ} (whose : Whose) (a b s sum total : ℕ) (beat : BeatState)
+      (r3 r4 r5 r6 r7 r30 : Word) (more : Bool)
       → s + a ≡ sum → sum < 2 ^ 63 → a + 1 < 2 ^ 63 → nat_lt (a + 1) b ≡ more
-      → Owed false (iterated whose b (pos sum) (pos (a + 1)) r4 r5 r6 r7 r30 beat more) whose total
-      → Owed false
+      → Bound code heartbeat false least
+      (iterated limit whose b (pos sum) (pos (a + 1)) r4 r5 r6 r7 r30 (record_of whose) (mark ∷ [])
+      beat more)
+      (ending_of whose total)
+      → Bound code heartbeat false least
       (task limit whose 2
       (words (word.Int (pos a)) (word.Int (pos b)) (word.Int (pos s)) r3 r4 r5 r6 r7 r30)
       (record_of whose) (mark ∷ []) beat)
-      whose total
-  unfolding steps
+      (ending_of whose total)
   iterates whose a b s sum total beat r3 r4 r5 r6 r7 r30 more is low high test owes =
-      owes_before code heartbeat 3 false _
-      (iterated whose b (pos sum) (pos (a + 1)) r4 r5 r6 r7 r30 beat more) _
-      (ap
-      (λ x.
-      Goes (iterated whose b x (wrapped (pos (a + 1))) r4 r5 r6 r7 r30 beat
-      (int_lt (wrapped (pos (a + 1))) (pos b))))
-      (ap (λ n. wrapped (pos n)) is ∙ wrap_is sum low)
-      ∙ ap (λ y. Goes (iterated whose b (pos sum) y r4 r5 r6 r7 r30 beat (int_lt y (pos b))))
-      (wrap_is (a + 1) high)
-      ∙ ap (λ t. Goes (iterated whose b (pos sum) (pos (a + 1)) r4 r5 r6 r7 r30 beat t)) test)
+      owes_before code heartbeat 3 false _ _ _
+      (iterates_once main end_block child heartbeat limit whose a b s sum (record_of whose)
+      (mark ∷ []) beat r3 r4 r5 r6 r7 r30 more is low high test)
       owes
 
   loop_owes : (m : ℕ) → ((j : ℕ) → j < m → Loop j) → Loop m
@@ -362,13 +235,14 @@ module _ (count heartbeat limit : ℕ) where
       iterates whose a b s total total beat r3 r4 r5 r6 r7 r30 false (omega (arith, is)) low
       (omega (arith, ends, high)) (le-ltb (a + 1) b (omega (arith, ends)))
       (owes_before code heartbeat 2 false _ _ _ refl
-      (end_owes whose total (mark ∷ []) _ _ _ _ _ _ _ _ _))
+      (end_owes main child heartbeat limit whose total (mark ∷ []) _ _ _ _ _ _ _ _ _))
   loop_owes (suc m) loops whose a b s total beat r3 r4 r5 r6 r7 r30 ends is high low =
       iterates whose a b s (s + a) total beat r3 r4 r5 r6 r7 r30 true refl (omega (arith, is, low))
       (omega (arith, ends, high)) (lt-ltb (a + 1) b (omega (arith, ends)))
       (ready_owes code heartbeat _
-      (advanced (iterated whose b (pos (s + a)) (pos (a + 1)) r4 r5 r6 r7 r30 beat true)) 1 5 _
-      refl (λ allowed. refl)
+      (advanced (iterated limit whose b (pos (s + a)) (pos (a + 1)) r4 r5 r6 r7 r30
+      (record_of whose) (mark ∷ []) beat true)) 1 5 _
+      refl (λ allowed. refl) (λ after. refl)
       (λ after. owes_before code heartbeat 1 false _ _ _ refl
       (loops m (omega arith) whose (a + 1) b (s + a) total _ _ _ _ _ _ _ (omega (arith, ends))
       (omega (arith, is)) high low))
@@ -383,7 +257,7 @@ module _ (count heartbeat limit : ℕ) where
   -- ---- the run
 
   pub run_owes : 1 ≤ count → count ≤ 2 ^ 31 →
-      Bound code heartbeat false 0 (first_state [] limit) (prints_sum count)
+      Bound code heartbeat false (count - 1) (first_state [] limit) (prints_sum count)
   unfolding steps
   run_owes some few =
       let m = count - 1 in

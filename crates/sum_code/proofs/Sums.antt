@@ -1,10 +1,10 @@
 -- Sums of numbers that follow one another, and numbers of 64 bits.
-use Rattle.std.proofs.Common.{◌≡◌, ℕ, zero, suc, ◌+◌, ◌*◌, ◌<◌, ◌≤◌, ap, ◌∙◌, arith}
+use Rattle.std.proofs.Common.{◌≡◌, ℕ, zero, suc, ◌+◌, ◌*◌, ◌/◌, ◌<◌, ◌≤◌, ap, ◌∙◌, arith}
 use Rattle.std.proofs.Math.Nat.{suc-mul}
 use Rattle.std.proofs.lemmas.Int.{ints, int_wrap_fits}
 use Rattle.std.proofs.lemmas.Nat.{mul-le}
 use Rattle.std.specs.Int.{w64}
-use Rattle.std.specs.Prelude.{pos, ◌^◌}
+use Rattle.std.specs.Prelude.{pos, ◌^◌, ◌+ℤ◌, ◌-ℤ◌, int_div}
 use Rattle.tp_value.specs.Number.{wrapped}
 use Rattle.sum_code.specs.Sum.{sum_of}
 
@@ -43,3 +43,15 @@ sum_low n few =
 -- numbers of 63 bits stay as they are
 pub wrap_is : (n : ℕ) → n < 2 ^ 63 → wrapped (pos n) ≡ pos n
 wrap_is n low = int_wrap_fits w64 (pos n) (omega (arith, ints, low))
+
+-- the middle of what is left, as the handler finds it
+pub middle : (a b m : ℕ) → a + suc m ≡ b → b < 2 ^ 63
+    → wrapped (wrapped (int_div (wrapped (pos b -ℤ pos a)) (pos 2)) +ℤ pos a)
+    ≡ pos (a + suc m / 2)
+middle a b m ends high =
+    let gap : pos b -ℤ pos a ≡ pos (suc m) = omega (arith, ints, ends) in
+    let sum : suc m / 2 + a ≡ a + suc m / 2 = omega arith in
+    ap (λ n. wrapped (wrapped (int_div n (pos 2)) +ℤ pos a))
+    (ap wrapped gap ∙ wrap_is (suc m) (omega (arith, ends, high)))
+    ∙ ap (λ n. wrapped (n +ℤ pos a)) (wrap_is (suc m / 2) (omega (arith, ends, high)))
+    ∙ (ap (λ n. wrapped (pos n)) sum ∙ wrap_is (a + suc m / 2) (omega (arith, ends, high)))

@@ -9,7 +9,7 @@ use Rattle.tpal_syntax.specs.declared.words.Word.TheVariants as word
 use Rattle.tpal_syntax.specs.Listing.{Listing}
 use Rattle.tpal_machine.specs.declared.ends.Ending.{Ending}
 use Rattle.tpal_machine.specs.Effect.{has_mark}
-use Rattle.tpal_machine.specs.Owes.{Bound}
+use Rattle.tpal_machine.specs.Owes.{Bound, points}
 use Rattle.tpal_machine.specs.Owes as owes
 use Rattle.tpal_machine.specs.Reading.{with_register}
 use Rattle.tpal_machine.specs.State.{State}
@@ -19,7 +19,7 @@ use Rattle.tpal_machine.specs.Step.{entered_ready, step}
 -- ---- several steps
 
 -- goes on with the task after a step, where there is one
-abbrev on_goes : Step → (State → Step) → Step
+abbrev pub on_goes : Step → (State → Step) → Step
 on_goes (Goes state) more = more state
 on_goes (Beats state) more = Strays
 on_goes (Ends e) more = Strays
@@ -28,7 +28,7 @@ on_goes (Forks parts) more = Strays
 on_goes (Stuck fault) more = Strays
 on_goes Strays more = Strays
 
-abbrev goes : Step → Bool
+abbrev pub goes : Step → Bool
 goes (Goes state) = true
 goes (Beats state) = false
 goes (Ends e) = false
@@ -38,7 +38,7 @@ goes (Stuck fault) = false
 goes Strays = false
 
 -- the task that a step goes on to, or another
-abbrev after_or : State → Step → State
+abbrev pub after_or : State → Step → State
 after_or other (Goes state) = state
 after_or other (Beats state) = other
 after_or other (Ends e) = other
@@ -47,7 +47,7 @@ after_or other (Forks parts) = other
 after_or other (Stuck fault) = other
 after_or other Strays = other
 
-strays_not : {A : Type 0} {state : State} → Strays ≡ Goes state → A
+pub strays_not : {A : Type 0} {state : State} → Strays ≡ Goes state → A
 strays_not is = absurd (true≢false (sym (ap goes is)))
 
 -- whether a beat that isn't quiet, where it is late, a mark stands and it is allowed, diverts
@@ -62,6 +62,13 @@ begun = record { count = 0; quiet = true; granted = true }
 abbrev pub with_beat : State → BeatState → State
 with_beat state beat = record state { beat = beat }
 
+-- what an entry comes to, by whether it is diverted and by the beat after it
+abbrev pub picked : State → ℕ → ℕ → Bool → BeatState → Step
+picked state l handler is_beat beat =
+    cond is_beat (Beats (with_beat (with_register (at_block handler state) 30 (word.Label l))
+    beat))
+    (Goes (with_beat (at_block l state) beat))
+
 module _ (code : Listing) (heartbeat : ℕ) where
   -- so many steps, each of which goes on
   unfoldable pub steps : ℕ → State → Step
@@ -69,23 +76,23 @@ module _ (code : Listing) (heartbeat : ℕ) where
   steps (suc n) state = on_goes (step code heartbeat true state) (λ after. steps n after)
 
   -- what the task after several steps owes was owed before
-  pub owes_before : (n : ℕ) (due : Bool) (state last : State) (e : Ending)
+  pub owes_before : {least : ℕ} (n : ℕ) (due : Bool) (state last : State) (e : Ending)
       → steps n state ≡ Goes last
-      → Bound code heartbeat due 0 last e
-      → Bound code heartbeat due 0 state e
+      → Bound code heartbeat due least last e
+      → Bound code heartbeat due least state e
   unfolding steps
-  owes_before zero due state last e is bound =
-      subst (λ s. Bound code heartbeat due 0 s e) (sym (ap (after_or last) is)) bound
-  owes_before (suc n) due state last e is bound =
+  owes_before {least} zero due state last e is bound =
+      subst (λ s. Bound code heartbeat due least s e) (sym (ap (after_or last) is)) bound
+  owes_before {least} (suc n) due state last e is bound =
       first (step code heartbeat true state) refl is
       (λ after more. owes_before n due after last e more bound)
     where
       first : (one : Step) → step code heartbeat true state ≡ one
           → on_goes one (λ after. steps n after) ≡ Goes last
-          → ((after : State) → steps n after ≡ Goes last → Bound code heartbeat due 0 after e)
-          → Bound code heartbeat due 0 state e
+          → ((after : State) → steps n after ≡ Goes last → Bound code heartbeat due least after e)
+          → Bound code heartbeat due least state e
       first (Goes after) one is more =
-          owes.goes due 0 0 state after e (omega arith) one (more after is)
+          owes.goes due least least state after e (omega arith) one (more after is)
       first (Beats after) one is more = strays_not is
       first (Ends other) one is more = strays_not is
       first (Asks waits) one is more = strays_not is
@@ -95,30 +102,27 @@ module _ (code : Listing) (heartbeat : ℕ) where
 
   -- ---- entering a promotion-ready block
 
-  -- what an entry comes to, by whether it is diverted and by the beat after it
-  abbrev picked : State → ℕ → ℕ → Bool → BeatState → Step
-  picked state l handler is_beat beat =
-      cond is_beat (Beats (with_beat (with_register (at_block handler state) 30 (word.Label l))
-      beat))
-      (Goes (with_beat (at_block l state) beat))
-
-  -- A task that enters a promotion-ready block while a mark stands owes an ending where the task
-  -- at the block owes it with any beat, and the one that was diverted to the handler does.
-  pub ready_owes : (before state : State) (l handler : ℕ) (e : Ending)
+  -- A task that enters a promotion-ready block while a mark stands owes an ending, with a promotion
+  -- point more, where the task at the block owes it with any beat, and the one that was diverted to
+  -- the handler does.
+  pub ready_owes : {least : ℕ} (before state : State) (l handler : ℕ) (e : Ending)
       → has_mark state.stack ≡ true
       → ((allowed : Bool) →
       step code heartbeat allowed before ≡ entered_ready heartbeat allowed l handler state)
-      → ((beat : BeatState) → Bound code heartbeat false 0 (with_beat (at_block l state) beat) e)
+      → ((beat : BeatState) → points code (with_beat (at_block l state) beat) ≡ 1)
+      → ((beat : BeatState) →
+      Bound code heartbeat false least (with_beat (at_block l state) beat) e)
       → Bound code heartbeat true 0
       (with_beat (with_register (at_block handler state) 30 (word.Label l)) begun) e
-      → Bound code heartbeat false 0 before e
-  ready_owes before state l handler e marked enters on diverted =
+      → Bound code heartbeat false (suc least) before e
+  ready_owes {least} before state l handler e marked enters point on diverted =
       ⊎_elim passes loud (cases_Bool state.beat.quiet)
     where
       goes_by : is_diverted heartbeat (has_mark state.stack) true state.beat ≡ false →
-          Bound code heartbeat false 0 before e
+          Bound code heartbeat false (suc least) before e
       goes_by no_beat =
-          owes.goes false 0 0 before _ e (omega arith)
+          owes.goes false (suc least) least before _ e
+          (omega (arith, point (entered heartbeat (has_mark state.stack) true state.beat)))
           (enters true
           ∙ ap
           (λ d.
@@ -127,13 +131,13 @@ module _ (code : Listing) (heartbeat : ℕ) where
           no_beat)
           (on _)
 
-      passes : state.beat.quiet ≡ true → Bound code heartbeat false 0 before e
+      passes : state.beat.quiet ≡ true → Bound code heartbeat false (suc least) before e
       passes quiet =
           goes_by (ap (λ q. test q (nat_le heartbeat state.beat.count) (has_mark state.stack) true)
           quiet)
 
       beats_by : state.beat.quiet ≡ false → (nat_le heartbeat state.beat.count) ≡ true →
-          Bound code heartbeat false 0 before e
+          Bound code heartbeat false (suc least) before e
       beats_by speaks is_late =
           let tested : (allowed : Bool) →
           is_diverted heartbeat (has_mark state.stack) allowed state.beat
@@ -151,7 +155,8 @@ module _ (code : Listing) (heartbeat : ℕ) where
           state.beat))
           speaks
           ∙ ap (λ d. cond d begun state.beat) (tested true) in
-          owes.beats 0 0 before _ _ e (omega arith)
+          owes.beats (suc least) least before _ _ e
+          (omega (arith, point (entered heartbeat (has_mark state.stack) false state.beat)))
           (enters false
           ∙ ap
           (λ d.
@@ -167,7 +172,7 @@ module _ (code : Listing) (heartbeat : ℕ) where
           ∙ ap (picked state l handler true) after)
           (on _) diverted
 
-      loud : state.beat.quiet ≡ false → Bound code heartbeat false 0 before e
+      loud : state.beat.quiet ≡ false → Bound code heartbeat false (suc least) before e
       loud speaks =
           ⊎_elim (beats_by speaks)
           (λ early.

@@ -2,3 +2,5 @@
 
 -- the code, and what it prints
 pub mod Sum
+-- the same code with one fault each
+pub mod Wrong

@@ -119,9 +119,12 @@ joined_block =
     }
 
 -- main, loop, body, end, out, beat, back, child, comb, joined
-abbrev pub sum_below : ℕ → Listing
-sum_below count = record {
+abbrev pub sum_with : (main end child : Block) → Listing
+sum_with main end child = record {
   tables = [];
-  blocks = main_block count ∷ loop_block ∷ body_block ∷ end_block ∷ out_block ∷ beat_block
-      ∷ back_block ∷ child_block ∷ comb_block ∷ joined_block ∷ [];
+  blocks = main ∷ loop_block ∷ body_block ∷ end ∷ out_block ∷ beat_block ∷ back_block ∷ child
+      ∷ comb_block ∷ joined_block ∷ [];
 }
+
+abbrev pub sum_below : ℕ → Listing
+sum_below count = sum_with (main_block count) end_block child_block

@@ -1,7 +1,8 @@
 // The code, block by block.
 
-ghost use Rattle.std.specs.Prelude.{◌≡◌, IfOk, IfSome};
+ghost use Rattle.std.specs.Prelude.{◌≡◌, [], IfOk, IfSome, IfNone, IsSome};
 ghost use Rattle.sum_code.specs.Sum as sum;
+ghost use Rattle.tpal_syntax.specs.Conditions.{IsCode};
 ghost use Rattle.tpal_syntax.specs.declared.instructions.Instr.TheVariants as instr;
 ghost use Rattle.tpal_syntax.specs.declared.instructions.Term.TheVariants as term;
 ghost use Rattle.tpal_syntax.specs.declared.instructions.Value.TheVariants as value;
@@ -10,13 +11,13 @@ use std::alloc::Global;
 use tp_value::{Items, NoMemory};
 use tpal_syntax::{Alu, Block, Code, CutKind, Instr, Note, Target, Term, Value};
 
-const fn set(to: u8, value: Value) -> Instr
+pub(crate) const fn set(to: u8, value: Value) -> Instr
     ensures { result ≡ instr.Move to value }
 {
     Instr::Move { to, value }
 }
 
-const fn calc(to: u8, left: u8, alu: Alu, right: Value) -> Instr
+pub(crate) const fn calc(to: u8, left: u8, alu: Alu, right: Value) -> Instr
     ensures { result ≡ instr.Calc to left alu right }
 {
     Instr::Calc {
@@ -28,7 +29,7 @@ const fn calc(to: u8, left: u8, alu: Alu, right: Value) -> Instr
 }
 
 // The cell that holds the record of the side, or nothing.
-const fn keep(value: Value) -> Instr
+pub(crate) const fn keep(value: Value) -> Instr
     ensures { result ≡ instr.Store 31 1 value }
 {
     Instr::Store {
@@ -39,7 +40,7 @@ const fn keep(value: Value) -> Instr
 }
 
 // The mark of the loop, on the first cell.
-const fn mark() -> Instr
+pub(crate) const fn mark() -> Instr
     ensures { result ≡ instr.PrmPush 31 0 2 5 }
 {
     Instr::PrmPush {
@@ -68,19 +69,24 @@ fn block(
     })
 }
 
-fn plain(alloc: Global, name: &[u8], body: &[Instr], term: Term) -> Result<Block, NoMemory>
+pub(crate) fn plain(
+    alloc: Global,
+    name: &[u8],
+    body: &[Instr],
+    term: Term,
+) -> Result<Block, NoMemory>
     ensures { IfOk result (λ made. made ≡ sum.plain name.now body.now term) }
 {
     block(alloc, name, Note::Plain, body, term)
 }
 
-const fn to_block(label: u32) -> Term
+pub(crate) const fn to_block(label: u32) -> Term
     ensures { result ≡ term.Jump (value.Label label) }
 {
     Term::Jump(Value::Label(label))
 }
 
-fn main_block(alloc: Global, count: u32) -> Result<Block, NoMemory>
+pub(crate) fn main_block(alloc: Global, count: u32) -> Result<Block, NoMemory>
     ensures { IfOk result (λ made. made ≡ sum.main_block count) }
 {
     let body = [
@@ -112,7 +118,7 @@ fn body_block(alloc: Global) -> Result<Block, NoMemory>
     plain(alloc, b"body", &body, to_block(3))
 }
 
-fn end_block(alloc: Global) -> Result<Block, NoMemory>
+pub(crate) fn end_block(alloc: Global) -> Result<Block, NoMemory>
     ensures { IfOk result (λ made. made ≡ sum.end_block) }
 {
     let body = [
@@ -191,21 +197,40 @@ fn joined_block(alloc: Global) -> Result<Block, NoMemory>
     block(alloc, b"joined", Note::Target(target), &[], to_block(3))
 }
 
-/// The code that prints the sum of the numbers below `count`, where that is at least 1. It meets
-/// the conditions of codes, so None never comes.
-pub fn sum_below(alloc: Global, count: u32) -> Result<Option<Code>, NoMemory>
-    ensures { IfOk result (λ made. IfSome made (λ code. code ≡ sum.sum_below count)) }
+/// The code with these blocks for its begin, its end and its child.
+pub(crate) fn sum_with(
+    alloc: Global,
+    main: Block,
+    end: Block,
+    child: Block,
+) -> Result<Option<Code>, NoMemory>
+    ensures code { IfOk result
+        (λ made. IfSome made (λ code. code ≡ sum.sum_with main end child)) }
+    ensures none { IfOk result
+        (λ made. IfNone made (¬ IsCode [] (sum.sum_with main end child).blocks)) }
 {
     let mut blocks = Vec::new(alloc);
-    blocks.push(main_block(alloc, count)?)?;
+    blocks.push(main)?;
     blocks.push(loop_block(alloc)?)?;
     blocks.push(body_block(alloc)?)?;
-    blocks.push(end_block(alloc)?)?;
+    blocks.push(end)?;
     blocks.push(out_block(alloc)?)?;
     blocks.push(beat_block(alloc)?)?;
     blocks.push(back_block(alloc)?)?;
-    blocks.push(child_block(alloc)?)?;
+    blocks.push(child)?;
     blocks.push(comb_block(alloc)?)?;
     blocks.push(joined_block(alloc)?)?;
     Code::new(alloc, Vec::new(alloc), blocks)
+}
+
+/// The code that prints the sum of the numbers below `count`, where that is from 1 to 2^31. It
+/// meets the conditions of codes at every count, so None never comes.
+pub fn sum_below(alloc: Global, count: u32) -> Result<Option<Code>, NoMemory>
+    ensures code { IfOk result (λ made. IfSome made (λ code. code ≡ sum.sum_below count)) }
+    ensures some { IfOk result (λ made. IsSome made) }
+{
+    let main = main_block(alloc, count)?;
+    let end = end_block(alloc)?;
+    let child = child_block(alloc)?;
+    sum_with(alloc, main, end, child)
 }

@@ -28,7 +28,7 @@ fn stepped(config: Config, code: &Code, times: u16) -> Option<Config>
 
 // What a run prints that halts after so many instructions of worker 0, with its instructions and
 // tasks. An event that can't happen comes first, and changes nothing.
-fn printed(
+pub(crate) fn printed(
     alloc: Global,
     code: &Code,
     times: u16,

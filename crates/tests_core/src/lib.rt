@@ -1,7 +1,7 @@
-//! Tests of the core of all interleavings by its public calls alone: codes run event by event, a
-//! sum in many orders of events, and the solo run, with what each prints and counts. It stands on
-//! `schedule_core` and has no code of its own, so that proving a test proves none of its laws
-//! again.
+//! Tests of the core of all interleavings by its public calls alone: codes run event by event, also
+//! from their texts, a sum in many orders of events, and the solo run, with what each prints and
+//! counts. It stands on `schedule_core` and has no code of its own, so that proving a test proves
+//! none of its laws again.
 #![tactic(auto)]
 
 #[cfg(test)]
@@ -12,3 +12,5 @@ mod events;
 mod orders;
 #[cfg(test)]
 mod solo;
+#[cfg(test)]
+mod texts;

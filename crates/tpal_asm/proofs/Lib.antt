@@ -58,3 +58,7 @@ pub mod OneFault
 pub mod Clean
 -- a code's text leads to the code
 pub mod Complete
+-- each line leads on, or something is wrong with it
+pub mod EachLine
+-- each text has a code or a first fault
+pub mod EachText

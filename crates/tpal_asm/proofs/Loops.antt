@@ -127,7 +127,7 @@ led-start text hs draft e =
     let P : Draft → Type 0 = λ s. Led text text hs s 1 in
     subst P (sym e) record { before = []; pieces_are = refl; leads = stay first_draft; number = refl; room = omega arith; named = tt; small = (omega arith, omega arith) }
 
-leads-snoc : {hs : List Head} {draft : Draft} {lines : List (List ℕ)} {last : Draft} → Leads hs draft lines last → (bytes : List ℕ) (next : Draft) → Says hs (names_of hs) last bytes next → IsNewName next → IsWithin next
+pub leads-snoc : {hs : List Head} {draft : Draft} {lines : List (List ℕ)} {last : Draft} → Leads hs draft lines last → (bytes : List ℕ) (next : Draft) → Says hs (names_of hs) last bytes next → IsNewName next → IsWithin next
     → Leads hs draft (lines ++ bytes ∷ []) next
 leads-snoc (stay draft) bytes next says named within = go_on draft next next bytes [] says named within (stay next)
 leads-snoc (go_on draft one last b lines s n w rest) bytes next says named within = go_on draft one next b (lines ++ bytes ∷ []) s n w (leads-snoc rest bytes next says named within)

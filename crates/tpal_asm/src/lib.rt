@@ -19,4 +19,4 @@ mod steps;
 
 pub use assembling::assemble;
 pub use fault::AsmFault;
-pub use laws::one_fault_a_text;
+pub use laws::text_is_read_one_way;

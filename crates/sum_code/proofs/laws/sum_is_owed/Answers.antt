@@ -1,9 +1,10 @@
-use Rattle.std.proofs.Common.{false, [], refl, sym, subst, ap}
+use Rattle.std.proofs.Common.{◌-◌, false, [], refl, sym, subst, ap}
 use Rattle.std.specs.Prelude.{length}
 use Rattle.tpal_machine.specs.Owes.{Bound}
 use Rattle.tpal_machine.specs.State.{first_state}
 use Rattle.tpal_machine.proofs.Given.{first_of}
-use Rattle.sum_code.specs.Sum.{prints_sum}
+use Rattle.tpal_machine.proofs.Owing.{no_least}
+use Rattle.sum_code.specs.Sum.{sum_below, prints_sum}
 use Rattle.sum_code.proofs.Summing.{run_owes}
 use Rattle.sum_code.proofs.laws.sum_is_owed.Goals as goal
 
@@ -15,5 +16,8 @@ returns c = λ heartbeat limit. record {
   waits_not = refl;
   bound =
       subst (λ code. Bound code heartbeat false 0 (first_state [] limit) (prints_sum c.args.count))
-      (sym c.requires.code) (run_owes c.args.count heartbeat limit c.requires.some c.requires.few);
+      (sym c.requires.code)
+      (no_least (sum_below c.args.count) heartbeat false (c.args.count - 1) (first_state [] limit)
+      (prints_sum c.args.count)
+      (run_owes c.args.count heartbeat limit c.requires.some c.requires.few));
 }
