@@ -1,19 +1,28 @@
 -- What a worker counts, from turn to turn.
 use Rattle.std.proofs.Common.{◌≡◌, ◌⊎◌, ℕ, zero, suc, ◌+◌, ◌<◌, ◌≤◌, Bool, true, false, refl, sym}
-use Rattle.std.proofs.Common.{◌∙◌, inl, inr, ⊎_elim, arith}
-use Rattle.std.specs.Prelude.{min}
+use Rattle.std.proofs.Common.{◌∙◌, ◌-◌, ◌^◌, ap, subst, inl, inr, ⊎_elim, arith, Option, None, Some}
+use Rattle.std.specs.Prelude.{min, nat_lt, IfNone}
 use Rattle.std.proofs.Math.Nat.{min-eq_left, min-eq_right}
 use Rattle.tpal_syntax.specs.Listing.{Listing}
 use Rattle.tpal_machine.specs.declared.turn.Turn.{Turn}
 use Rattle.tpal_machine.specs.declared.turn.Turn.TheVariants as turn
 use Rattle.tpal_machine.specs.Answer.{HadMemory}
 use Rattle.tpal_machine.specs.Keeping.{IsUndiverted}
+use Rattle.tpal_machine.specs.Memory.{WhereWanting}
 use Rattle.tpal_machine.specs.Owed.{due_after}
 use Rattle.tpal_machine.specs.State.{State}
 use Rattle.tpal_machine.specs.Step.{Step, Goes, Beats, Ends, Asks, Forks, Stuck, Strays, step}
 use Rattle.tpal_machine.specs.Turn.{Turned, turn_from, turn_of, went_on}
 use Rattle.tpal_machine.proofs.Undiverted.{agrees}
+use Rattle.join_records.specs.declared.table.Taken.{Taken}
+use Rattle.join_records.specs.Answers.{NoneFree}
 use Rattle.join_records.specs.Words.{bit}
+use Rattle.steal_pool.specs.declared.seat.Counts.{Counts}
+use Rattle.steal_pool.specs.declared.seat.Work.{Work}
+use Rattle.steal_pool.specs.declared.seat.Work.TheVariants as work
+use Rattle.steal_pool.specs.Has.{Knows, count_in}
+use Rattle.steal_pool.specs.Stepped.{CountsTask, SkipsFairly, turn_in, UnlessLost}
+use Rattle.steal_pool.specs.Terms.{Terms}
 
 -- a beat is due after a turn where one was, or came in it
 pub due_bits : (due : Bool) (b : ℕ) → b ≤ 1 → (due ≡ true → b ≡ 0) → bit due + b ≡ bit (due_after due b)
@@ -76,3 +85,41 @@ had turn.NoMemory f p = tt
 pub short_beats : (t : Turn) (code : Listing) (heartbeat n : ℕ) (allowed : Bool) (s : State) (before b after forks : ℕ) → HadMemory t (b ≡ (turn_of n code heartbeat allowed s).beats) → b ≤ 1 → after ≡ before + b → before ≤ forks → (allowed ≡ true → before < forks) → HadMemory t (after ≤ forks)
 short_beats t code heartbeat n true s before b after forks is few sum low below = had t (λ e. let more = below refl in omega arith) is
 short_beats t code heartbeat n false s before b after forks is few sum low below = had t (λ e. let none : b ≡ 0 = e ∙ calm_turn n code heartbeat 0 0 s in omega arith) is
+
+-- ---- what a turn counts
+
+pub unless : (w : Work) {P : Type 0} → P → UnlessLost w P
+unless work.Nothing p = p
+unless (work.Runs task) p = p
+unless (work.Ended e) p = p
+unless (work.Finished outcome) p = p
+unless work.Saw p = p
+unless work.Lost p = tt
+
+-- a worker that has memory counted the machine's turn of its task
+pub counts_turn : (terms : Terms) (task : State) (c d : Counts) (t : Turn) (after : Work) (n b : ℕ) (code : Listing) (heartbeat : ℕ) (allowed : Bool) → code ≡ terms.code → heartbeat ≡ terms.heartbeat → allowed ≡ nat_lt c.beats terms.forks
+    → HadMemory t (n ≡ (turn_of 4096 code heartbeat allowed task).steps) → HadMemory t (b ≡ (turn_of 4096 code heartbeat allowed task).beats) → WhereWanting t (after ≡ work.Lost) → d.beats ≡ c.beats + b → d.instructions ≡ min (c.instructions + n) (2 ^ 64 - 1) → UnlessLost after (CountsTask terms task c d)
+counts_turn terms task c d t after n b code heartbeat allowed same pace may steps beats lost all sum = by_turn t steps beats lost
+  where
+    turned : turn_of 4096 code heartbeat allowed task ≡ turn_in terms c task
+    turned i = turn_of 4096 (same i) (pace i) (may i) task
+
+    counted : n ≡ (turn_of 4096 code heartbeat allowed task).steps → b ≡ (turn_of 4096 code heartbeat allowed task).beats → UnlessLost after (CountsTask terms task c d)
+    counted steps beats = unless after record {
+      beats = all ∙ ap (λ (x : ℕ). c.beats + x) (beats ∙ ap (λ (x : Turned). x.beats) turned);
+      instructions = sum ∙ ap (λ (x : ℕ). min (c.instructions + x) (2 ^ 64 - 1)) (steps ∙ ap (λ (x : Turned). x.steps) turned);
+    }
+
+    by_turn : (t : Turn) → HadMemory t (n ≡ (turn_of 4096 code heartbeat allowed task).steps) → HadMemory t (b ≡ (turn_of 4096 code heartbeat allowed task).beats) → WhereWanting t (after ≡ work.Lost) → UnlessLost after (CountsTask terms task c d)
+    by_turn (turn.Pause after) steps beats lost = counted steps beats
+    by_turn (turn.NeedRecord after) steps beats lost = counted steps beats
+    by_turn (turn.Forked left rest child rec) steps beats lost = counted steps beats
+    by_turn (turn.Arrived rec side out) steps beats lost = counted steps beats
+    by_turn (turn.Halted outcome) steps beats lost = counted steps beats
+    by_turn (turn.Stuck fault block at) steps beats lost = counted steps beats
+    by_turn turn.NoMemory steps beats lost = subst (λ (w : Work). UnlessLost w (CountsTask terms task c d)) (sym lost) tt
+
+-- a question is skipped where no record was taken
+pub asked_fairly : (records : ℕ) (v w : Knows) (c d : Counts) (taken : Option Taken) → d.skipped + count_in taken ≡ c.skipped + 1 → IfNone taken (NoneFree 0 records v w) → SkipsFairly records v c w d
+asked_fairly records v w c d None sum none = inr (omega arith, none)
+asked_fairly records v w c d (Some taken) sum none = inl (omega arith)

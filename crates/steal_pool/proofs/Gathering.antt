@@ -1,8 +1,8 @@
 -- What workers that have ended come to together.
 use Rattle.std.proofs.Common.{◌≡◌, ◌⊎◌, ℕ, ◌+◌, ◌*◌, ◌-◌, ◌^◌, ◌<◌, ◌≤◌, List, [], ◌∷◌, ◌++◌}
-use Rattle.std.proofs.Common.{length, Option, None, Some, inl, inr, sym, ap, ◌∙◌, subst, ⊎_elim}
+use Rattle.std.proofs.Common.{length, Option, None, Some, inl, inr, refl, sym, ap, ◌∙◌, subst, ⊎_elim}
 use Rattle.std.proofs.Common.{arith}
-use Rattle.std.specs.Prelude.{min, Result, Ok, Err, IfOk}
+use Rattle.std.specs.Prelude.{min, Result, Ok, Err, IfErr, IfOk}
 use Rattle.std.proofs.Math.Nat.{min-eq_left, min-eq_right}
 use Rattle.tp_value.specs.declared.values.NoMemory.{NoMemory}
 use Rattle.tp_value.specs.declared.values.Outcome.{Outcome}
@@ -14,7 +14,7 @@ use Rattle.join_records.specs.declared.load.Load.{Ghosts}
 use Rattle.join_records.specs.declared.table.Pass.{Pass}
 use Rattle.join_records.specs.declared.table.Taken.{Taken}
 use Rattle.join_records.specs.Passes.{view, made_in, opens_in, parts_in, saw_in}
-use Rattle.join_records.specs.Views.{saw_finish}
+use Rattle.join_records.specs.Views.{saw_finish, total}
 use Rattle.join_records.specs.Words.{bit}
 use Rattle.join_records.proofs.Calls.{last_total}
 use Rattle.join_records.proofs.Functions.{length_more}
@@ -24,7 +24,7 @@ use Rattle.steal_pool.specs.declared.seat.Work.TheVariants as work
 use Rattle.steal_pool.specs.Facts.{Owed, owed_one}
 use Rattle.steal_pool.specs.Has.{Has, HasFinished, HasSeen, IsRooted, Rests}
 use Rattle.steal_pool.specs.Terms.{Terms}
-use Rattle.steal_pool.specs.Together.{Adds, Gathered, IsOutcomeWith}
+use Rattle.steal_pool.specs.Together.{Adds, AreSums, Gathered, IsOutcomeWith}
 
 -- a product with one more
 times_more : (n k : ℕ) → n * (k + 1) ≡ n * k + n
@@ -37,6 +37,49 @@ shared a b h = grind arith
 -- a product grows with both its factors
 both_grow : (a b x y : ℕ) → a ≤ x → b ≤ y → a * b ≤ x * y
 both_grow a b x y p q = grind arith
+
+-- a sum that stays at its type's end, and gets one more of all that are left to it
+pub capped_on : (i one left all j more top : ℕ) → j ≡ min (i + one) top → more ≡ left + one → min (i + more) top ≡ min all top → min (j + left) top ≡ min all top
+capped_on i one left all j more top is last before = ap (λ (n : ℕ). min (n + left) top) is ∙ (by_size (le_or (i + one) top) ∙ (ap (λ (n : ℕ). min n top) (let z : i + one + left ≡ i + more = omega arith in z) ∙ before))
+  where
+    le_or : (x y : ℕ) → (x ≤ y) ⊎ (y ≤ x)
+    le_or x y = grind arith
+
+    by_size : (i + one ≤ top) ⊎ (top ≤ i + one) → min (min (i + one) top + left) top ≡ min (i + one + left) top
+    by_size (inl small) = ap (λ (n : ℕ). min (n + left) top) (min-eq_left {n = i + one} {m = top} small)
+    by_size (inr big) = ap (λ (n : ℕ). min (n + left) top) (min-eq_right {n = top} {m = i + one} big) ∙ (min-eq_right {n = top} {m = top + left} (omega arith) ∙ sym (min-eq_right {n = top} {m = i + one + left} (omega arith)))
+
+-- a sum that stays at its type's end is at most there
+pub capped : (j x top : ℕ) → j ≡ min x top → j ≤ top
+capped j x top is = by_size (le_or x top)
+  where
+    le_or : (x y : ℕ) → (x ≤ y) ⊎ (y ≤ x)
+    le_or x y = grind arith
+
+    by_size : (x ≤ top) ⊎ (top ≤ x) → j ≤ top
+    by_size (inl small) = let e : j ≡ x = is ∙ min-eq_left {n = x} {m = top} small in omega arith
+    by_size (inr big) = let e : j ≡ top = is ∙ min-eq_right {n = top} {m = x} big in omega arith
+
+-- a sum with nothing left to it
+alone : (b x y : ℕ) → x ≡ 0 → b + x ≡ y → b ≡ y
+alone b x y none all = omega arith
+
+-- the sums when no worker is left
+pub all_sums : {A : Type 0} (counts : A → Counts) (left all : List A) (b s i : ℕ) → left ≡ [] → b + total (λ w. (counts w).beats) left ≡ total (λ w. (counts w).beats) all → s + total (λ w. (counts w).skipped) left ≡ total (λ w. (counts w).skipped) all
+    → min (i + total (λ w. (counts w).instructions) left) (2 ^ 64 - 1) ≡ min (total (λ w. (counts w).instructions) all) (2 ^ 64 - 1) → i ≤ 2 ^ 64 - 1 → AreSums counts all b s i
+all_sums {A} counts left all b s i none beats skipped instructions small = record {
+  beats_is = alone b (total (λ w. (counts w).beats) left) _ (zero_of (λ w. (counts w).beats)) beats;
+  skipped_is = alone s (total (λ w. (counts w).skipped) left) _ (zero_of (λ w. (counts w).skipped)) skipped;
+  instructions_is = sym (min-eq_left {n = i} {m = 2 ^ 64 - 1} small) ∙ (ap (λ (n : ℕ). min n (2 ^ 64 - 1)) (alone i (total (λ w. (counts w).instructions) left) (i + total (λ w. (counts w).instructions) left) (zero_of (λ w. (counts w).instructions)) refl) ∙ instructions);
+}
+  where
+    zero_of : (f : A → ℕ) → total f left ≡ 0
+    zero_of f = ap (λ (l : List A). total f l) none
+
+-- what holds anyway holds with any error
+pub any_err : {A E : Type 0} (P : Type 0) (r : Result A E) → P → IfErr r (λ _. P)
+any_err P (Ok a) p = tt
+any_err P (Err e) p = p
 
 -- one thing is not two
 some_one : {A : Type 0} {a b : A} → Some a ≡ Some b → a ≡ b

@@ -14,3 +14,5 @@ pub mod Beginning
 pub mod Gathering
 -- lists of workers and of passes
 pub mod Lists
+-- whose deques a source reaches, and a worker
+pub mod Tying

@@ -1,5 +1,6 @@
 -- What is said of what a look for a number came to.
-use Rattle.std.specs.Prelude.{◌≡◌, ◌⊎◌, ℕ, ◌<◌, List, All, length, slice_index_or}
+use Rattle.std.specs.Prelude.{◌≡◌, ◌⊎◌, ℕ, ◌<◌, true, List, All, length}
+use Rattle.std.specs.Prelude.{slice_index_or}
 use Rattle.crossbeam_deque.specs.Handles.{stealer_deque, taken}
 use Rattle.crossbeam_deque.specs.Tasks.{Finds}
 use Rattle.steal_pool.specs.declared.load.Setting.{Ghosts}
@@ -30,8 +31,8 @@ module _ {S : Type 0} {G : Ghosts S} where
   FindsAll holds empty others =
       All (λ o. Finds holds o.pass.id tt (empty (stealer_deque o.thief))) others
 
-  -- a steal lost to another taker: from one deque others have taken more than this end knew of, or
-  -- it was found empty
+  -- a steal answered that it lost to another taker: others have taken more from that deque than this
+  -- end knew of, or it was found empty
   pub record HasLost (empty : DequeName → Type 0) (before after : List (Other S G)) : Type 0 where
     pub place : ℕ
     pub near : place < length before
@@ -39,4 +40,5 @@ module _ {S : Type 0} {G : Ghosts S} where
     pub new : Other S G
     pub was : (d : Other S G) → slice_index_or before place d ≡ old
     pub is : (d : Other S G) → slice_index_or after place d ≡ new
+    pub answered : new.is_lost ≡ true
     pub taken : (taken old.pass < taken new.pass) ⊎ empty (stealer_deque old.thief)

@@ -9,6 +9,8 @@ pub mod Deques
 pub mod Numbers
 -- what a look for a number came to
 pub mod Found
+-- whose deques a worker can steal from
+pub mod Tied
 -- what a worker has between two turns
 pub mod Has
 -- what is said of what a turn came to

@@ -1,5 +1,6 @@
 -- What the workers of a run come to together.
-use Rattle.std.specs.Prelude.{◌≡◌, ℕ, ◌+◌, ◌*◌, ◌<◌, ◌≤◌, List, length, Option, None, Some}
+use Rattle.std.specs.Prelude.{◌≡◌, ℕ, ◌+◌, ◌-◌, ◌*◌, ◌^◌, ◌<◌, ◌≤◌, min, List, length, Option}
+use Rattle.std.specs.Prelude.{None, Some}
 use Rattle.tp_value.specs.declared.values.Outcome.{Outcome}
 use Rattle.tpal_machine.specs.declared.ends.Ending.{Ending}
 use Rattle.tpal_machine.specs.declared.ends.Ending.TheVariants as ending
@@ -7,6 +8,7 @@ use Rattle.tpal_machine.specs.State.{State}
 use Rattle.join_records.specs.declared.load.Load.{Ghosts}
 use Rattle.join_records.specs.declared.table.Pass.{Pass}
 use Rattle.join_records.specs.Passes.{made_in, opens_in, saw_in}
+use Rattle.join_records.specs.Views.{total}
 use Rattle.steal_pool.specs.declared.seat.Counts.{Counts}
 use Rattle.steal_pool.specs.declared.seat.Work.{Work}
 use Rattle.steal_pool.specs.declared.seat.Work.TheVariants as work
@@ -16,6 +18,23 @@ use Rattle.steal_pool.specs.Terms.{Terms}
 -- the counts of a worker that has yet to begin
 abbrev pub no_counts : Counts
 no_counts = record { beats = 0; skipped = 0; instructions = 0 }
+
+-- a worker has ended: it made the finish, or saw it made
+abbrev pub IsOver : Work → Type 0
+IsOver work.Nothing = ⊥
+IsOver (work.Runs task) = ⊥
+IsOver (work.Ended e) = ⊥
+IsOver (work.Finished outcome) = Unit {0}
+IsOver work.Saw = Unit {0}
+IsOver work.Lost = ⊥
+
+-- the counts of all workers added up. The instructions stay at their type's end
+pub record AreSums {A : Type 0} (counts : A → Counts) (workers : List A)
+    (beats skipped instructions : ℕ) : Type 0 where
+  pub beats_is : beats ≡ total (λ w. (counts w).beats) workers
+  pub skipped_is : skipped ≡ total (λ w. (counts w).skipped) workers
+  pub instructions_is : instructions
+      ≡ min (total (λ w. (counts w).instructions) workers) (2 ^ 64 - 1)
 
 -- the outcome of those before and of one worker that has ended
 abbrev pub IsOutcomeWith : Work → Option Outcome → Option Outcome → Type 0

@@ -1,19 +1,19 @@
 // The workers of a run, as they are made.
 
-ghost use Rattle.std.specs.Prelude.{◌≡◌, ◌<◌, ◌≤◌, All, IfOk, None, length};
+ghost use Rattle.std.specs.Prelude.{◌≡◌, ◌⊎◌, ◌+◌, ◌<◌, ◌≤◌, All, IfOk, None, length};
 ghost use Rattle.tpal_machine.specs.declared.ends.End.TheVariants.{Root};
-ghost use Rattle.crossbeam_deque.specs.Handles.{worker_flavor};
 ghost use Rattle.join_records.specs.Passes.{AreNew, IsPassOf, view};
 ghost use Rattle.join_records.specs.Views.{total};
 ghost use Rattle.steal_pool.specs.Facts.{HasEnd, Owed};
 ghost use Rattle.steal_pool.specs.Has.{Has, IsRooted};
+ghost use Rattle.steal_pool.specs.Tied.{AreTied, AreTiedWorkers, ReachesAllBut};
 ghost use Rattle.steal_pool.specs.Together.{no_counts};
 
 use crate::deques::{Numbers, Owner};
 use crate::load::{Machine, Setting};
 use crate::other::Other;
 use crate::plan::Plan;
-use crate::seat::{Counts, Patience, Seat, Work};
+use crate::seat::{Counts, Seat, Work};
 use crate::source::Source;
 use crate::turn::Worker;
 use join_records::Pass;
@@ -24,7 +24,8 @@ use tpal_machine::Task;
 // The place that comes so many after one, going round.
 fn next_of(number: usize, step: usize, count: usize) -> usize
     requires { (number < count) × (step < count) }
-    ensures { result < count }
+    ensures below { result < count }
+    ensures round { (result ≡ number + step) ⊎ (result + count ≡ number + step) }
 {
     if step < count - number {
         number + step
@@ -33,75 +34,74 @@ fn next_of(number: usize, step: usize, count: usize) -> usize
     }
 }
 
-// An end of each deque but the one of this number, from the next one round to the one before it.
+// A source without an end of another's deque. Its own list has room for every record.
+fn lone_source<S: Setting>(alloc: Global, room: u32) -> Result<Source<S>, NoMemory> {
+    let owner = Owner::<S>::fifo_as(alloc, room as usize)?;
+    let list = Vec::with_capacity(alloc, room as usize)?;
+    Ok(Source {
+        owner,
+        list,
+        others: Vec::new(alloc),
+    })
+}
+
+fn lone_sources<S: Setting>(alloc: Global, workers: u32) -> Result<Vec<Source<S>>, NoMemory>
+    requires { workers ≤ 16 }
+    ensures { IfOk result (λ sources. length sources.items ≡ workers) }
+{
+    let mut sources = Vec::with_capacity(alloc, workers as usize)?;
+    for _number in 0..workers {
+        let source = lone_source::<S>(alloc, RECORDS_PER_WORKER * workers)?;
+        sources.push(source)?;
+    }
+    Ok(sources)
+}
+
+// An end of the deque of each source but the one of this number, from the next one round to the one
+// before it.
 fn others_of<S: Setting>(
     alloc: Global,
-    owners: &[Owner<S>],
+    sources: &[Source<S>],
     number: usize,
 ) -> Result<Vec<Other<S>>, NoMemory>
-    requires number { number < length owners.now }
-    requires fifo { All (λ owner. worker_flavor owner ≡ 0) owners.now }
+    requires number { number < length sources.now }
+    ensures all { IfOk result (λ others. ReachesAllBut number sources.now others.items) }
 {
-    let mut others = Vec::new(alloc);
-    for step in 1..owners.len() {
-        let at = next_of(number, step, owners.len());
-        let thief = owners[at].stealer()?;
+    let mut others = Vec::with_capacity(alloc, sources.len())?;
+    for step in 1..sources.len() {
+        let at = next_of(number, step, sources.len());
+        let thief = sources[at].owner.stealer()?;
         let pass = thief.pass();
-        others.push(Other { thief, pass })?;
+        others.push(Other {
+            thief,
+            pass,
+            is_lost: false,
+        })?;
     }
     Ok(others)
 }
 
-fn make_owners<S: Setting>(alloc: Global, workers: u32) -> Result<Vec<Owner<S>>, NoMemory>
-    requires { workers ≤ 16 }
-    ensures count { IfOk result (λ owners. length owners.items ≡ workers) }
-    ensures fifo { IfOk result (λ owners. All (λ owner. worker_flavor owner ≡ 0) owners.items) }
+// Gives each source an end of each other one's deque.
+fn tie<S: Setting>(alloc: Global, sources: &mut [Source<S>]) -> Result<(), NoMemory>
+    ensures count { length sources.new ≡ length sources.old }
+    ensures tied { IfOk result (λ _. AreTied sources.new) }
 {
-    let mut owners = Vec::new(alloc);
-    for _number in 0..workers {
-        let owner = Owner::<S>::fifo_as(alloc, (RECORDS_PER_WORKER * workers) as usize)?;
-        owners.push(owner)?;
+    for number in 0..sources.len() {
+        let others = others_of::<S>(alloc, sources, number)?;
+        let source = &mut sources[number];
+        source.others = others;
     }
-    Ok(owners)
+    Ok(())
 }
 
-fn make_others<S: Setting>(
-    alloc: Global,
-    owners: &[Owner<S>],
-) -> Result<Vec<Vec<Other<S>>>, NoMemory>
-    requires { All (λ owner. worker_flavor owner ≡ 0) owners.now }
-    ensures { IfOk result (λ all. length all.items ≡ length owners.now) }
-{
-    let mut all = Vec::new(alloc);
-    for number in 0..owners.len() {
-        let others = others_of::<S>(alloc, owners, number)?;
-        all.push(others)?;
-    }
-    Ok(all)
-}
-
-// A source for each worker. The own lists have room for every record.
+// A source for each worker.
 fn make_sources<S: Setting>(alloc: Global, workers: u32) -> Result<Vec<Source<S>>, NoMemory>
     requires { workers ≤ 16 }
-    ensures { IfOk result (λ sources. length sources.items ≡ workers) }
+    ensures count { IfOk result (λ sources. length sources.items ≡ workers) }
+    ensures tied { IfOk result (λ sources. AreTied sources.items) }
 {
-    let mut owners = make_owners::<S>(alloc, workers)?;
-    let mut all = make_others::<S>(alloc, owners.as_slice())?;
-    let mut sources = Vec::new(alloc);
-    while let Some(owner) = owners.pop() {
-        let Some(others) = all.pop() else {
-            unreachable!()
-        };
-        let list = Vec::with_capacity(alloc, (RECORDS_PER_WORKER * workers) as usize)?;
-        sources.insert(
-            0,
-            Source {
-                owner,
-                list,
-                others,
-            },
-        )?;
-    }
+    let mut sources = lone_sources::<S>(alloc, workers)?;
+    tie::<S>(alloc, sources.as_mut_slice())?;
     Ok(sources)
 }
 
@@ -112,6 +112,7 @@ fn make_worker<S: Setting>(
     work: Work,
     source: Source<S>,
 ) -> Worker<S>
+    ensures source { result.source ≡ source }
     ensures pass { result.seat.pass ≡ pass }
     ensures work { result.seat.work ≡ work }
     ensures taken { result.seat.taken ≡ None }
@@ -124,14 +125,14 @@ fn make_worker<S: Setting>(
             work,
             taken: None,
             counts: Counts::new(),
-            patience: Patience::new(),
         },
         source,
     }
 }
 
-/// The workers of a run, the last of which has the first task. Where no thread can be made, the
-/// last of a list runs first, and the others wait for what it does.
+/// The workers of a run, each with an end of each other one's deque. The last one has the first
+/// task: where no thread can be made, the last of a list runs first, and the others wait for what it
+/// does.
 pub(crate) fn make_workers<S: Setting>(
     alloc: Global,
     plan: &Plan<S>,
@@ -152,6 +153,7 @@ pub(crate) fn make_workers<S: Setting>(
     ensures parts { IfOk result
         (λ workers. total (λ w. (view w.seat.pass).parts) workers.items ≡ 16) }
     ensures count { IfOk result (λ workers. length workers.items ≡ length passes.items) }
+    ensures tied { IfOk result (λ workers. AreTiedWorkers (λ w. w.source) workers.items) }
 {
     let _ = plan;
     let mut sources = make_sources::<S>(alloc, passes.len() as u32)?;

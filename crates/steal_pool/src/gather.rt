@@ -1,12 +1,13 @@
 // What the workers did, put together.
 
-ghost use Rattle.std.specs.Prelude.{◌≡◌, ◌+◌, ◌*◌, ◌≤◌, [], ◌∷◌, ◌++◌, All, true, IfOk, length};
+ghost use Rattle.std.specs.Prelude.{◌≡◌, ◌+◌, ◌-◌, ◌*◌, ◌^◌, ◌<◌, ◌≤◌, min, [], ◌∷◌, ◌++◌, All};
+ghost use Rattle.std.specs.Prelude.{true, IfErr, IfOk, length, vec_capacity, vec_len};
 ghost use Rattle.tpal_machine.specs.declared.ends.Ending.TheVariants as ending;
 ghost use Rattle.join_records.specs.Passes.{ArePassesOf, IsPassOf, parts_in, view};
 ghost use Rattle.join_records.specs.Views.{total};
 ghost use Rattle.steal_pool.specs.Facts.{Owed};
 ghost use Rattle.steal_pool.specs.Has.{Has, IsRooted};
-ghost use Rattle.steal_pool.specs.Together.{Adds, Gathered, IsOutcomeWith};
+ghost use Rattle.steal_pool.specs.Together.{Adds, AreSums, Gathered, IsOutcomeWith, IsOver};
 
 use crate::load::{Machine, Setting};
 use crate::plan::Plan;
@@ -14,7 +15,6 @@ use crate::seat::{Seat, Work};
 use crate::turn::Worker;
 use join_records::{Closed, Load, Pass, Records};
 use schedule_core::Report;
-use std::alloc::Global;
 use tp_value::{NoMemory, Outcome};
 
 /// What the workers did together, with their passes.
@@ -32,7 +32,8 @@ where
 
 // The outcome, where this worker made the finish. Memory was wanting where it hasn't ended.
 fn outcome_with(work: Work, before: Option<Outcome>) -> Result<Option<Outcome>, NoMemory>
-    ensures { IfOk result (λ out. IsOutcomeWith work before out) }
+    ensures outcome { IfOk result (λ out. IsOutcomeWith work before out) }
+    ensures wanting { IfErr result (λ _. IsOver work → ⊥) }
 {
     match work {
         Work::Finished(outcome) => Ok(Some(outcome)),
@@ -45,6 +46,7 @@ impl<S: Setting> Sum<S> {
     // Adds what one worker did.
     fn add(self, plan: &Plan<S>, seat: Seat<S>) -> Result<Sum<S>, NoMemory>
         requires short { length self.passes.items ≤ 15 }
+        requires room { vec_len self.passes < vec_capacity self.passes }
         requires seat { IsPassOf plan.now.records.now seat.pass
             × Has S.terms (view seat.pass) seat.taken seat.counts seat.work
             × IsRooted S.terms (view seat.pass) }
@@ -52,6 +54,15 @@ impl<S: Setting> Sum<S> {
         requires adds { Adds S.terms self.beats self.skipped self.instructions self.passes.items }
         ensures passes { IfOk result (λ sum.
             sum.passes.items ≡ self.passes.items ++ seat.pass ∷ []) }
+        ensures room { IfOk result (λ sum.
+            (vec_capacity sum.passes ≡ vec_capacity self.passes)
+            × (vec_len sum.passes ≡ vec_len self.passes + 1)) }
+        ensures sums { IfOk result (λ sum.
+            (sum.beats ≡ self.beats + seat.counts.beats)
+            × (sum.skipped ≡ self.skipped + seat.counts.skipped)
+            × (sum.instructions
+            ≡ min (self.instructions + seat.counts.instructions) (2 ^ 64 - 1))) }
+        ensures wanting { IfErr result (λ _. IsOver seat.work → ⊥) }
         ensures outcome { IfOk result (λ sum. Gathered S.terms sum.outcome sum.passes.items) }
         ensures adds { IfOk result
             (λ sum. Adds S.terms sum.beats sum.skipped sum.instructions sum.passes.items) }
@@ -62,7 +73,6 @@ impl<S: Setting> Sum<S> {
             work,
             taken: _,
             counts,
-            patience: _,
         } = seat;
         let Sum {
             mut passes,
@@ -71,7 +81,7 @@ impl<S: Setting> Sum<S> {
             skipped,
             instructions,
         } = self;
-        passes.push(pass)?;
+        passes.push_reserved(pass);
         Ok(Sum {
             passes,
             outcome: outcome_with(work, outcome)?,
@@ -82,13 +92,16 @@ impl<S: Setting> Sum<S> {
     }
 }
 
-/// Puts together what the workers did. Memory was wanting where one of them hasn't ended.
+/// Puts together what the workers did, with their passes in a list that has room for them. Memory
+/// was wanting where one of them hasn't ended, and only there.
 pub(crate) fn gather<S: Setting>(
-    alloc: Global,
     plan: &Plan<S>,
     mut workers: Vec<Worker<S>>,
+    passes: Vec<Pass<Machine<S>>>,
 ) -> Result<Sum<S>, NoMemory>
     requires count { length workers.items ≤ 16 }
+    requires empty { passes.items ≡ [] }
+    requires room { length workers.items ≤ vec_capacity passes }
     requires each { All
         (λ w. IsPassOf plan.now.records.now w.seat.pass
         × Has S.terms (view w.seat.pass) w.seat.taken w.seat.counts w.seat.work
@@ -101,9 +114,12 @@ pub(crate) fn gather<S: Setting>(
     ensures outcome { IfOk result (λ sum. Gathered S.terms sum.outcome sum.passes.items) }
     ensures adds { IfOk result
         (λ sum. Adds S.terms sum.beats sum.skipped sum.instructions sum.passes.items) }
+    ensures sums { IfOk result (λ sum.
+        AreSums (λ w. w.seat.counts) workers.items sum.beats sum.skipped sum.instructions) }
+    ensures wanting { IfErr result (λ _. All (λ w. IsOver w.seat.work) workers.items → ⊥) }
 {
     let mut sum = Sum {
-        passes: Vec::new(alloc),
+        passes,
         outcome: None,
         beats: 0,
         skipped: 0,
@@ -115,7 +131,8 @@ pub(crate) fn gather<S: Setting>(
     Ok(sum)
 }
 
-/// Closes the table of a run whose workers have ended, and tells what it came to.
+/// Closes the table of a run whose workers have ended, and tells what it came to, with the counts
+/// of all of them.
 pub(crate) fn close_run<S: Setting>(records: Records<Machine<S>>, sum: Sum<S>) -> (Report, Closed)
     requires table { ArePassesOf records sum.passes.items }
     requires all { parts_in sum.passes.items ≡ 16 }
@@ -127,6 +144,9 @@ pub(crate) fn close_run<S: Setting>(records: Records<Machine<S>>, sum: Sum<S>) -
     ensures beats { result.0.tasks + result.0.skipped ≡ result.0.beats }
     ensures paid { result.0.tasks * S.terms.heartbeat ≤ result.0.instructions }
     ensures closed { (result.1.finished ≡ true) × (result.1.opens ≡ result.0.tasks) }
+    ensures sums { (result.0.beats ≡ sum.beats)
+        × (result.0.skipped ≡ sum.skipped)
+        × (result.0.instructions ≡ sum.instructions) }
 {
     let Sum {
         passes,

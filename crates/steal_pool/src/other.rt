@@ -2,7 +2,7 @@
 
 ghost use Rattle.std.specs.Prelude.{◌≡◌, ◌⊎◌, ◌<◌};
 ghost use Rattle.crossbeam_deque.specs.Handles.{IsPassOf, stealer_deque, stealer_flavor, taken};
-ghost use Rattle.crossbeam_deque.specs.Steals.{MatchSteal};
+ghost use Rattle.crossbeam_deque.specs.Steals.{MatchSteal, is_retry};
 ghost use Rattle.crossbeam_deque.specs.Tasks.{Finds};
 
 use crate::deques::{Emptied, Look, Numbers, Thief, ThiefPass};
@@ -18,6 +18,8 @@ where
 {
     pub(crate) thief: Thief<S>,
     pub(crate) pass: ThiefPass,
+    /// Whether the last steal from here lost to another taker.
+    pub(crate) is_lost: bool,
     pub ghost fits: { IsPassOf (stealer_deque thief) pass },
     pub ghost fifo: { stealer_flavor thief ≡ 0 },
 }
@@ -30,8 +32,11 @@ impl<S: Setting> Other<S> {
         ensures told { MatchSteal result E.empty
             ((taken self.old.pass < taken self.new.pass) ⊎ E.empty)
             (λ x. x < S.terms.records) }
-        ensures pass { self.new.pass.id ≡ self.old.pass.id }
+        ensures lost { self.new.is_lost ≡ is_retry result }
+        ensures deque { stealer_deque self.new.thief ≡ stealer_deque self.old.thief }
     {
-        self.thief.steal_as::<Look<S, E>>(&mut self.pass)
+        let found = self.thief.steal_as::<Look<S, E>>(&mut self.pass);
+        self.is_lost = found.is_retry();
+        found
     }
 }

@@ -8,6 +8,7 @@ ghost use Rattle.join_records.specs.Views.{total};
 ghost use Rattle.steal_pool.specs.Facts.{HasEnd, Owed};
 ghost use Rattle.steal_pool.specs.Has.{Has, IsRooted, Stays};
 ghost use Rattle.steal_pool.specs.Terms.{IsStart};
+ghost use Rattle.steal_pool.specs.Tied.{SameDeques};
 ghost use Rattle.tp_value.specs.declared.values.Outcome.{Outcome};
 ghost use Rattle.tpal_machine.specs.declared.ends.Ending.{Ending};
 ghost use Rattle.tpal_machine.specs.declared.ends.Ending.TheVariants as ending;
@@ -18,9 +19,9 @@ ghost use Rattle.schedule_core.specs.Apply.{IsJob};
 use crate::crew::make_workers;
 use crate::gate::{Gate, GateEvent};
 use crate::gather::{close_run, gather};
+use crate::idling::Idling;
 use crate::load::{Machine, Setting};
 use crate::plan::Plan;
-use crate::rest::Rest;
 use crate::seat::Work;
 use crate::turn::{Step, Worker};
 use crossbeam_utils::sync::EventCount;
@@ -51,17 +52,18 @@ fn work<S: Setting, R: Wait, G: Gate>(
         × Stays (view worker.old.seat.pass) (view worker.new.seat.pass) }
     ensures has { Has S.terms (view worker.new.seat.pass) worker.new.seat.taken
         worker.new.seat.counts worker.new.seat.work }
+    ensures deques { SameDeques worker.old.source worker.new.source }
 {
-    let mut rest = Rest::new();
+    let mut idling = Idling::new();
     for _ in rt.forever() {
         if is_wanting.load(Ordering::SeqCst) {
             break;
         }
         gate.at(worker.number, GateEvent::Turn);
         match worker.turn::<Brand, G>(plan, gate) {
-            Step::Worked => rest.end(),
-            Step::Again => rest.retry(),
-            Step::Idle => rest.go_on(rt, plan.sleepers),
+            Step::Worked => idling.end(),
+            Step::Again => idling.retry(),
+            Step::Idle => idling.go_on(rt, plan.sleepers),
             Step::Over => break,
         }
         if matches!(worker.seat.work, Work::Lost) {
@@ -159,8 +161,9 @@ fn run_from<S: Setting + Send + Sync, R: Threads + Wait + Sync, G: Gate + Sync>(
         sleepers: &sleepers,
     };
     let mut workers = make_workers(alloc, &plan, passes, task)?;
+    let gathered = Vec::with_capacity(alloc, workers.len())?;
     work_all(rt, workers.as_mut_slice(), &plan, gate);
-    let sum = gather(alloc, &plan, workers)?;
+    let sum = gather(&plan, workers, gathered)?;
     Ok(close_run(records, sum))
 }
 

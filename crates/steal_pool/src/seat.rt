@@ -2,11 +2,13 @@
 
 ghost use Rattle.std.specs.Prelude.{◌≡◌, ◌+◌, ◌<◌, ◌-◌, ◌^◌, ⊤, min, IfSome, IfNone, MatchBool};
 ghost use Rattle.tpal_machine.specs.Owes.{Owes};
-ghost use Rattle.join_records.specs.Passes.{IsPassOf, IsSamePass, taken_number, view};
-ghost use Rattle.join_records.specs.Answers.{FoundFree, HoldsNoSide, reads_more, Unclaimable};
-ghost use Rattle.steal_pool.specs.declared.seat.Work.TheVariants.{Nothing};
+ghost use Rattle.tpal_machine.specs.Memory.{WhereWanting};
+ghost use Rattle.join_records.specs.Passes.{IsPassOf, view};
+ghost use Rattle.join_records.specs.Answers.{NoneFree, Unclaimable};
+ghost use Rattle.steal_pool.specs.declared.seat.Work.TheVariants.{Lost, Nothing};
 ghost use Rattle.steal_pool.specs.Has.{Asks, Forks, Has, HasNothing, Runs, Stays, TurnFits};
-ghost use Rattle.steal_pool.specs.Stepped.{SeesUnset};
+ghost use Rattle.steal_pool.specs.Has.{count_in};
+ghost use Rattle.steal_pool.specs.Stepped.{CountsTask, goes_on, SeesUnset, SkipsFairly, UnlessLost};
 ghost use Rattle.steal_pool.specs.Together.{no_counts};
 
 use crate::load::{Machine, Setting};
@@ -17,10 +19,6 @@ use tpal_machine::{Ending, Pace, Rest, Task, Turn, answer, run_task};
 
 /// The instructions of a turn, at most.
 const TURN_STEPS: u32 = 4096;
-
-/// The most questions for a record that are answered with none and no search, after a search that
-/// found every record taken.
-const MOST_UNSEARCHED: u32 = 31;
 
 /// What a worker has between two turns.
 #[derive(Drop)]
@@ -44,7 +42,7 @@ pub(crate) enum Work {
 pub(crate) struct Counts {
     /// The diversions of its tasks.
     pub(crate) beats: u64,
-    /// The questions for a record that it answered with none.
+    /// The questions for a record that it answered with none, since none was free.
     pub(crate) skipped: u64,
     /// The instructions that it executed. It stays at its type's end.
     pub(crate) instructions: u64,
@@ -61,42 +59,6 @@ where
     /// The record that its task was given and has yet to open.
     pub(crate) taken: Option<Taken>,
     pub(crate) counts: Counts,
-    pub(crate) patience: Patience,
-}
-
-/// How often a worker searches while records are short: a search of a full table reads every word,
-/// so the more searches found nothing, the more questions are answered without one.
-#[derive(Clone, Copy)]
-pub(crate) struct Patience {
-    left: u32,
-    most: u32,
-}
-
-impl Patience {
-    pub(crate) fn new() -> Patience {
-        Patience { left: 0, most: 0 }
-    }
-
-    // Whether the next question is worth a search.
-    fn is_over(&mut self) -> bool {
-        if self.left == 0 {
-            return true;
-        }
-        self.left -= 1;
-        false
-    }
-
-    // What the last search came to.
-    fn learn(&mut self, found: bool) {
-        self.most = if found {
-            0
-        } else if self.most < MOST_UNSEARCHED {
-            self.most.saturating_mul(2).saturating_add(1)
-        } else {
-            self.most
-        };
-        self.left = self.most;
-    }
 }
 
 impl Counts {
@@ -124,29 +86,8 @@ impl Counts {
 }
 
 impl<S: Setting> Seat<S> {
-    // A free record, where one is found.
-    fn search(&mut self, plan: &Plan<S>) -> Option<Taken>
-        requires table { IsPassOf plan.now.records.now self.old.pass }
-        ensures found { IfSome result
-            (λ taken. FoundFree (view self.old.pass) (taken_number taken) (view self.new.pass)
-            × HoldsNoSide (view self.old.pass) (taken_number taken)
-            × (taken_number taken < S.terms.records)) }
-        ensures none { IfNone result
-            ((rs : _) × (view self.new.pass ≡ reads_more (view self.old.pass) rs)) }
-        ensures pass { IsSamePass self.old.pass self.new.pass }
-        ensures rest { (self.new.work ≡ self.old.work)
-            × (self.new.taken ≡ self.old.taken)
-            × (self.new.counts ≡ self.old.counts) }
-    {
-        if !self.patience.is_over() {
-            return None;
-        }
-        let found = plan.records.find_free(&mut self.pass);
-        self.patience.learn(found.is_some());
-        found
-    }
-
-    // Answers a task that asked for a record.
+    // Answers a task that asked for a record: with a free one, or with none where each record was
+    // read as not free. Each question is a search, which begins where the last one found a record.
     fn ask(&mut self, plan: &Plan<S>, task: Task)
         requires table { IsPassOf plan.now.records.now self.old.pass }
         requires asks { Asks S.terms (view self.old.pass) self.old.taken self.old.counts task }
@@ -154,8 +95,15 @@ impl<S: Setting> Seat<S> {
             × Stays (view self.old.pass) (view self.new.pass) }
         ensures has { Has S.terms (view self.new.pass) self.new.taken self.new.counts
             self.new.work }
+        ensures answer { self.new.work ≡ goes_on self.new.taken task }
+        ensures none { IfNone self.new.taken
+            (NoneFree 0 S.terms.records (view self.old.pass) (view self.new.pass)) }
+        ensures skipped { self.new.counts.skipped + count_in self.new.taken
+            ≡ self.old.counts.skipped + 1 }
+        ensures counts { (self.new.counts.beats ≡ self.old.counts.beats)
+            × (self.new.counts.instructions ≡ self.old.counts.instructions) }
     {
-        match self.search(plan) {
+        match plan.records.find_free(&mut self.pass) {
             Some(taken) => {
                 let number = taken.number();
                 self.taken = Some(taken);
@@ -179,6 +127,7 @@ impl<S: Setting> Seat<S> {
         ensures has { Has S.terms (view self.new.pass) self.new.taken self.new.counts
             self.new.work }
         ensures number { result < S.terms.records }
+        ensures counts { self.new.counts ≡ self.old.counts }
     {
         let Some(taken) = self.taken.take() else {
             unreachable!()
@@ -200,6 +149,11 @@ impl<S: Setting> Seat<S> {
         ensures has { Has S.terms (view self.new.pass) self.new.taken self.new.counts
             self.new.work }
         ensures number { IfSome result (λ k. k < S.terms.records) }
+        ensures skipped { SkipsFairly S.terms.records (view self.old.pass) self.old.counts
+            (view self.new.pass) self.new.counts }
+        ensures counts { (self.new.counts.beats ≡ self.old.counts.beats)
+            × (self.new.counts.instructions ≡ self.old.counts.instructions) }
+        ensures wanting { WhereWanting turn (self.new.work ≡ Lost) }
     {
         match turn {
             Turn::Pause(task) => {
@@ -233,7 +187,7 @@ impl<S: Setting> Seat<S> {
     }
 
     /// Runs a task for one turn, and does what the turn asks. Answers the number of a record that
-    /// was opened.
+    /// was opened. Its counts are those of the machine's turn, unless memory was wanting.
     pub(crate) fn run(&mut self, plan: &Plan<S>, task: Task) -> Option<u32>
         requires table { IsPassOf plan.now.records.now self.old.pass }
         requires runs { Runs S.terms (view self.old.pass) self.old.taken self.old.counts task }
@@ -242,6 +196,10 @@ impl<S: Setting> Seat<S> {
         ensures has { Has S.terms (view self.new.pass) self.new.taken self.new.counts
             self.new.work }
         ensures number { IfSome result (λ k. k < S.terms.records) }
+        ensures skipped { SkipsFairly S.terms.records (view self.old.pass) self.old.counts
+            (view self.new.pass) self.new.counts }
+        ensures counts { UnlessLost self.new.work
+            (CountsTask S.terms task self.old.counts self.new.counts) }
     {
         let pace = Pace {
             heartbeat: plan.heartbeat,
@@ -264,6 +222,7 @@ impl<S: Setting> Seat<S> {
             self.new.work }
         ensures none { MatchBool result ⊤
             (Unclaimable (view self.old.pass) number (view self.new.pass)) }
+        ensures counts { self.new.counts ≡ self.old.counts }
     {
         match plan.records.claim(&mut self.pass, number) {
             Some(child) => {
@@ -285,6 +244,7 @@ impl<S: Setting> Seat<S> {
         ensures has { Has S.terms (view self.new.pass) self.new.taken self.new.counts
             self.new.work }
         ensures unset { MatchBool result ⊤ (SeesUnset (view self.old.pass) (view self.new.pass)) }
+        ensures counts { self.new.counts ≡ self.old.counts }
     {
         let is_made = plan.records.finished(&mut self.pass);
         if is_made {

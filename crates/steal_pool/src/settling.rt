@@ -23,6 +23,7 @@ impl<S: Setting> Seat<S> {
             × Stays (view self.old.pass) (view self.new.pass) }
         ensures has { Has S.terms (view self.new.pass) self.new.taken self.new.counts
             self.new.work }
+        ensures counts { self.new.counts ≡ self.old.counts }
     {
         match plan.records.arrive(&mut self.pass, rec, side, out) {
             Arrival::First => self.work = Work::Nothing,
@@ -48,6 +49,7 @@ impl<S: Setting> Seat<S> {
             × Stays (view self.old.pass) (view self.new.pass) }
         ensures has { Has S.terms (view self.new.pass) self.new.taken self.new.counts
             self.new.work }
+        ensures counts { self.new.counts ≡ self.old.counts }
     {
         plan.records.finish(&mut self.pass);
         self.work = Work::Finished(outcome);
@@ -62,6 +64,7 @@ impl<S: Setting> Seat<S> {
             × Stays (view self.old.pass) (view self.new.pass) }
         ensures has { Has S.terms (view self.new.pass) self.new.taken self.new.counts
             self.new.work }
+        ensures counts { self.new.counts ≡ self.old.counts }
     {
         match ending {
             Ending::At { rec, side, out } => self.arrive(plan, rec, side, out),

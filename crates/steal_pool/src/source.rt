@@ -17,7 +17,7 @@ use std::marker::Brand;
 pub(crate) enum Found {
     /// The number of a record that was open.
     Number(u32),
-    /// Another worker took from a deque at the same moment.
+    /// A steal lost to another taker.
     Lost,
     /// The own list, the own deque and each other deque were found empty.
     Nothing,
@@ -41,11 +41,13 @@ where
 impl<S: Setting> Source<S> {
     ghost use Rattle.steal_pool.specs.Found.{FindsAll, HasLost, IsNumber, WhereLost};
     ghost use Rattle.steal_pool.specs.Found.{WhereNothing};
+    ghost use Rattle.steal_pool.specs.Tied.{SameDeques};
 
     /// Puts a number where others can steal it, or into the own list where the deque refuses it or
     /// the list isn't empty. Answers whether there was room.
     pub(crate) fn put(&mut self, number: u32) -> bool
         requires { number < S.terms.records }
+        ensures deques { SameDeques self.old self.new }
     {
         if self.list.is_empty() && self.owner.push_as::<Numbers<S>>(number).is_ok() {
             return true;
@@ -57,6 +59,7 @@ impl<S: Setting> Source<S> {
     fn pop<E: Emptied>(&mut self) -> Option<u32>
         requires finds { Finds S.deque (worker_port self.old.owner) tt E.empty }
         ensures told { MatchOption result E.empty (λ x. x < S.terms.records) }
+        ensures own { worker_deque self.new.owner ≡ worker_deque self.old.owner }
         ensures others { self.new.others ≡ self.old.others }
     {
         self.owner.pop_as::<Look<S, E>>()
@@ -70,6 +73,7 @@ impl<S: Setting> Source<S> {
             (All (λ o. E.each (stealer_deque o.thief)) self.old.others.items) }
         ensures lost { WhereLost result
             (HasLost E.each self.old.others.items self.new.others.items) }
+        ensures deques { SameDeques self.old self.new }
     {
         for k in 0..self.others.len() {
             match self.others[k].steal::<Brand>() {
@@ -84,7 +88,7 @@ impl<S: Setting> Source<S> {
     /// Takes a number from the first place that gives one: the last of the own list, the first of
     /// the own deque, and then a steal from each other deque. Nothing comes only where the list was
     /// empty and each deque was found empty, each at a moment of this call; `Lost` only where a
-    /// steal lost to another taker.
+    /// steal of this call answered that it lost to another taker.
     pub(crate) fn find<E: EachEmptied>(&mut self) -> Found
         requires own { Finds S.deque (worker_port self.old.owner) tt
             (E.each (worker_deque self.old.owner)) }
@@ -96,6 +100,7 @@ impl<S: Setting> Source<S> {
             (All (λ o. E.each (stealer_deque o.thief)) self.old.others.items) }
         ensures lost { WhereLost result
             (HasLost E.each self.old.others.items self.new.others.items) }
+        ensures deques { SameDeques self.old self.new }
     {
         if let Some(number) = self.list.pop() {
             return Found::Number(number);

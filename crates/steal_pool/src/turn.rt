@@ -5,9 +5,11 @@ ghost use Rattle.crossbeam_deque.specs.Handles.{stealer_deque, worker_deque, wor
 ghost use Rattle.crossbeam_deque.specs.Tasks.{Finds};
 ghost use Rattle.join_records.specs.Passes.{IsPassOf, view};
 ghost use Rattle.steal_pool.specs.declared.seat.Work.TheVariants.{Nothing};
-ghost use Rattle.steal_pool.specs.Stepped.{ClaimsNone, SeesUnset, WhereAgain, WhereIdle};
+ghost use Rattle.steal_pool.specs.Stepped.{ClaimsNone, CountsTask, CountsTurn, SeesUnset};
+ghost use Rattle.steal_pool.specs.Stepped.{SkipsFairly, UnlessLost, WhereAgain, WhereIdle};
 ghost use Rattle.steal_pool.specs.Found.{FindsAll, HasLost};
 ghost use Rattle.steal_pool.specs.Has.{Has, HasNothing, Runs, Stays};
+ghost use Rattle.steal_pool.specs.Tied.{SameDeques};
 
 use crate::deques::{EachEmptied, Numbers};
 use crate::gate::{Gate, GateEvent};
@@ -54,6 +56,10 @@ impl<S: Setting> Worker<S> {
         ensures pass { self.new.seat.pass ≡ self.old.seat.pass }
         ensures has { Has S.terms (view self.new.seat.pass) self.new.seat.taken
             self.new.seat.counts self.new.seat.work }
+        ensures counts { self.new.seat.counts ≡ self.old.seat.counts }
+        ensures work { UnlessLost self.new.seat.work
+            (self.new.seat.work ≡ self.old.seat.work) }
+        ensures deques { SameDeques self.old.source self.new.source }
     {
         if !self.source.put(number) {
             self.seat.work = Work::Lost;
@@ -69,6 +75,11 @@ impl<S: Setting> Worker<S> {
             × Stays (view self.old.seat.pass) (view self.new.seat.pass) }
         ensures has { Has S.terms (view self.new.seat.pass) self.new.seat.taken
             self.new.seat.counts self.new.seat.work }
+        ensures skipped { SkipsFairly S.terms.records (view self.old.seat.pass)
+            self.old.seat.counts (view self.new.seat.pass) self.new.seat.counts }
+        ensures counts { UnlessLost self.new.seat.work
+            (CountsTask S.terms task self.old.seat.counts self.new.seat.counts) }
+        ensures deques { SameDeques self.old.source self.new.source }
     {
         if let Some(number) = self.seat.run(plan, task) {
             self.hand_on(number);
@@ -99,6 +110,8 @@ impl<S: Setting> Worker<S> {
         ensures again { WhereAgain result
             (HasLost E.each self.old.source.others.items self.new.source.others.items
             ⊎ ClaimsNone (view self.old.seat.pass) (view self.new.seat.pass)) }
+        ensures counts { self.new.seat.counts ≡ self.old.seat.counts }
+        ensures deques { SameDeques self.old.source self.new.source }
     {
         match self.source.find::<E>() {
             Found::Number(number) => {
@@ -122,7 +135,8 @@ impl<S: Setting> Worker<S> {
     /// One turn: runs the task that the worker has, or settles what it ended with, or looks for
     /// another. `Idle` comes only where its list was empty, its own deque and each other one was
     /// found empty at a moment of this turn, and the finish word was read unset. `Again` comes only
-    /// where a steal lost to another taker, or a claim found its child gone.
+    /// where a steal lost to another taker, or a claim found its child gone. A question for a record
+    /// is skipped only where each record was read as not free in this turn.
     pub(crate) fn turn<E: EachEmptied, G: Gate>(&mut self, plan: &Plan<S>, gate: &G) -> Step
         requires table { IsPassOf plan.now.records.now self.old.seat.pass }
         requires has { Has S.terms (view self.old.seat.pass) self.old.seat.taken
@@ -143,6 +157,11 @@ impl<S: Setting> Worker<S> {
         ensures again { WhereAgain result
             (HasLost E.each self.old.source.others.items self.new.source.others.items
             ⊎ ClaimsNone (view self.old.seat.pass) (view self.new.seat.pass)) }
+        ensures skipped { SkipsFairly S.terms.records (view self.old.seat.pass)
+            self.old.seat.counts (view self.new.seat.pass) self.new.seat.counts }
+        ensures counts { CountsTurn S.terms self.old.seat.work self.old.seat.counts
+            self.new.seat.work self.new.seat.counts }
+        ensures deques { SameDeques self.old.source self.new.source }
     {
         match replace(&mut self.seat.work, Work::Nothing) {
             Work::Runs(task) => {

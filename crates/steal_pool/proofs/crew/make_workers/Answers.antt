@@ -1,13 +1,13 @@
 use Rattle.std.proofs.Common.{rules, arith, ap, sym, subst, ◌≡◌, ◌∙◌, ◌∷◌, ◌++◌, [], All, length, ℕ}
 use Rattle.std.proofs.lemmas.List.Elements.{All-append, All-cons, All-nil}
 use Rattle.join_records.specs.Passes.{IsPassOf, NewView, view}
-use Rattle.join_records.specs.Views.{total}
 use Rattle.join_records.proofs.Calls.{last_before, last_here, last_total}
 use Rattle.join_records.proofs.Functions.{length_more}
 use Rattle.steal_pool.specs.declared.seat.Work.TheVariants as work
 use Rattle.steal_pool.specs.Facts.{Owed}
 use Rattle.steal_pool.specs.Has.{Has, IsRooted}
 use Rattle.steal_pool.proofs.Beginning.{first_begins, idle_begins, idle_view, starts}
+use Rattle.steal_pool.proofs.Tying.{left_meet, left_tied, more_tied}
 use Rattle.steal_pool.proofs.crew.make_workers.Goals as goal
 
 -- a worker that begins with nothing
@@ -46,13 +46,18 @@ loop-passes-preserved g c =
     let all_parts = kept.2 in
     let all_count = kept.3 in
     let sources = kept.4 in
-    let taken = ap length c.in-Some-Some.ensures'.items ∙ length_more _ _ in (
+    let from = c.in-Some-Some.ensures'.items in
+    let source = c.in-Some-Some.source in
+    let taken = ap length from ∙ length_more _ _ in (
       (e, kept.0.1, λ j y at. kept.0.2 j y (last_before _ xs p last j y at)),
       subst (All fits) (sym new) (All-append fits others (worker ∷ []) kept.1 (All-cons fits worker [] mine (All-nil fits))),
       omega arith,
       omega arith,
       omega arith,
       omega arith,
+      left_tied (λ w. w.source) others c.push.new.self.items worker c.loop-passes.sources.items _ source new from made.source kept.6 kept.7 kept.8,
+      left_meet (λ w. w.source) others c.push.new.self.items worker c.loop-passes.sources.items _ source new from made.source kept.6 kept.7 kept.8,
+      more_tied (λ w. w.source) others c.push.new.self.items worker c.loop-passes.sources.items _ source new from made.source kept.6 kept.7 kept.8,
     )
 
 -- the worker with the first task
@@ -88,6 +93,17 @@ returns-clause-each g c =
     (first_begins terms e count (view p) c.args.first root kept.0.1 c.requires.end)
     record { ending = e; root = root.2.1; owed = owed } in
     subst (All fits) (sym new) (All-append fits others (worker ∷ []) kept.1 (All-cons fits worker [] mine (All-nil fits)))
+
+-- the last source is that of the worker with the first task
+pub returns-clause-tied : goal.returns-clause-tied
+returns-clause-tied g c =
+    let kept = c.loop-passes.invariant in
+    let others = c.loop-passes.workers.items in
+    let worker = c.make_worker-2.result in
+    let new : c.push-2.new.self.items ≡ others ++ worker ∷ [] = search rules in
+    more_tied (λ w. w.source) others c.push-2.new.self.items worker c.loop-passes.sources.items _
+    c.in-Some-Some-2.source new c.in-Some-Some-2.ensures'.items c.make_worker-2.ensures.source
+    kept.6 kept.7 kept.8
 
 pub returns-clause-parts : goal.returns-clause-parts
 returns-clause-parts g c =

@@ -6,6 +6,8 @@ use Rattle.join_records.specs.Passes.{view, IsPassOf, NewView}
 use Rattle.join_records.specs.Views.{total}
 use Rattle.steal_pool.specs.Facts.{Owed}
 use Rattle.steal_pool.specs.Has.{Has, IsRooted}
+use Rattle.steal_pool.specs.Tied.{AreTied, AreTiedWorkers}
+use Rattle.steal_pool.proofs.Tying.{Meet}
 use Rattle.steal_pool.proofs.crew.make_workers.Given as goal
 
 abbrev pub invariant-loop-passes : goal.invariant-loop-passes
@@ -22,6 +24,9 @@ invariant-loop-passes g l =
     × (length l.passes.items + length l.workers.items ≡ length l.fn.passes.items)
     × (length l.sources.items ≡ length l.passes.items)
     × (1 ≤ length l.passes.items)
+    × AreTied l.sources.items
+    × Meet (λ w. w.source) l.workers.items l.sources.items
+    × AreTiedWorkers (λ w. w.source) l.workers.items
 
 abbrev pub decreases-loop-passes : goal.decreases-loop-passes
 decreases-loop-passes g l = vec_len l.passes

@@ -1,8 +1,10 @@
-use Rattle.std.proofs.Common.{arith, ap, length, ◌∙◌}
+use Rattle.std.proofs.Common.{arith, rules, [], ap, length, ◌∙◌, ◌≡◌, ◌-◌, ◌^◌, All}
 use Rattle.join_records.specs.Passes.{IsPassOf, view}
 use Rattle.join_records.proofs.Calls.{last_total}
 use Rattle.join_records.proofs.Functions.{length_more}
 use Rattle.steal_pool.specs.Has.{Has, IsRooted}
+use Rattle.steal_pool.specs.Together.{IsOver}
+use Rattle.steal_pool.proofs.Gathering.{all_sums, any_err, capped, capped_on}
 use Rattle.steal_pool.proofs.Lists.{all_last, all_left, passes_more}
 use Rattle.steal_pool.proofs.gather.gather.Goals as goal
 
@@ -14,7 +16,7 @@ add-requires-clause-seat g c =
     × IsRooted g.S.Setting.terms (view w.seat.pass)) _ c.pop.new.self.items c.in-Some.worker
     c.in-Some.ensures.items c.loop-worker.invariant.0
 
--- the pass of the worker that was popped goes to the others
+-- the pass of the worker that was popped goes to the others, and its counts to theirs
 pub loop-worker-preserved : goal.loop-worker-preserved
 loop-worker-preserved g c =
     let worker = c.in-Some.worker in
@@ -31,14 +33,49 @@ loop-worker-preserved g c =
     let mine = all_last fits _ left worker last kept.0 in
     let parts = last_total (λ p. p.seat.me.0.parts) _ _ worker.seat.pass more in
     let workers = last_total (λ w. (view w.seat.pass).parts) _ left worker last in
+    let beats = last_total (λ w. w.seat.counts.beats) _ left worker last in
+    let skipped = last_total (λ w. w.seat.counts.skipped) _ left worker last in
+    let instructions = last_total (λ w. w.seat.counts.instructions) _ left worker last in
     let long = ap length more ∙ length_more _ _ in
     let short = ap length last ∙ length_more _ _ in
     let all_parts = kept.2 in
-    let all_count = kept.3 in (
+    let all_count = kept.3 in
+    let room = kept.6 in
+    let all_beats = kept.7 in
+    let all_skipped = kept.8 in
+    let same = added.room in
+    let sums = added.sums in
+    let one_beats = sums.0 in
+    let one_skipped = sums.1 in
+    let fits_room = same.0 in
+    let one_room = same.1 in (
       all_left fits _ left worker last kept.0,
       passes_more table _ _ worker.seat.pass more kept.1 mine.0,
       omega arith,
       omega arith,
       added.outcome,
       added.adds,
+      omega arith,
+      omega arith,
+      omega arith,
+      capped_on _ worker.seat.counts.instructions _ _ _ _ (2 ^ 64 - 1) sums.2 instructions kept.9,
+      capped _ _ (2 ^ 64 - 1) sums.2,
+      λ over. all_left (λ w. IsOver w.seat.work) _ left worker last (kept.11 over),
     )
+
+-- of workers that have all ended none wants memory
+pub returns-in_err-sum-clause-wanting : goal.returns-in_err-sum-clause-wanting
+returns-in_err-sum-clause-wanting g c =
+    any_err (All (λ w. IsOver w.seat.work) c.args.workers.items → ⊥) c.from_residual.result
+    (λ over.
+    c.in_err-sum.ensures.wanting
+    (all_last (λ w. IsOver w.seat.work) _ c.pop.new.self.items c.in-Some.worker
+    c.in-Some.ensures.items (c.loop-worker.invariant.11 over)))
+
+-- no worker is left
+pub returns-clause-sums : goal.returns-clause-sums
+returns-clause-sums g c =
+    let kept = c.loop-worker.invariant in
+    let none : c.loop-worker.workers.items ≡ [] = search rules in
+    all_sums (λ w. w.seat.counts) c.loop-worker.workers.items c.args.workers.items _ _ _ none
+    kept.7 kept.8 kept.9 kept.10

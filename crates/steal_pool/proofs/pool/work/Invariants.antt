@@ -1,5 +1,6 @@
 use Rattle.join_records.specs.Passes.{view, IsPassOf}
 use Rattle.steal_pool.specs.Has.{Has, Stays}
+use Rattle.steal_pool.specs.Tied.{SameDeques}
 use Rattle.steal_pool.proofs.pool.work.Given as goal
 
 abbrev pub invariant-loop : goal.invariant-loop
@@ -8,3 +9,4 @@ invariant-loop g l =
     × Stays (view l.initial.worker.seat.pass) (view l.worker.seat.pass)
     × Has g.S.Setting.terms (view l.worker.seat.pass) l.worker.seat.taken l.worker.seat.counts
     l.worker.seat.work
+    × SameDeques l.initial.worker.source l.worker.source

@@ -1,4 +1,4 @@
-use Rattle.std.proofs.Common.{◌≤◌, ℕ, subst}
+use Rattle.std.proofs.Common.{◌≤◌, ℕ, refl, subst}
 use Rattle.steal_pool.proofs.Gathering.{one_more}
 use Rattle.steal_pool.proofs.gather.Sum.add.Goals as goal
 
@@ -8,10 +8,10 @@ returns-clause-outcome g c =
     let sum = c.args.self in
     let seat = c.args.seat in
     let plan = c.args.plan.now in
-    (one_more g.S.Setting.terms sum.passes.items c.push.new.self.items seat.pass
-    c.in_ok-push.ensures.items seat.taken seat.counts seat.work sum.outcome
+    (one_more g.S.Setting.terms sum.passes.items c.push_reserved.new.self.items seat.pass
+    c.push_reserved.ensures.items seat.taken seat.counts seat.work sum.outcome
     c.in_ok-outcome_with.field-0 sum.beats sum.skipped sum.instructions c.saturating_add.result
-    c.requires.seat.1 c.requires.seat.2 c.in_ok-outcome_with.ensures c.requires.outcome
+    c.requires.seat.1 c.requires.seat.2 c.in_ok-outcome_with.ensures.outcome c.requires.outcome
     c.requires.adds (subst (λ (n : ℕ). n ≤ 1000000) plan.forks_is.0 plan.forks_is.1)
     (subst (λ (n : ℕ). n ≤ 1000000000) plan.beat_is.0 plan.beat_is.2) c.requires.short
     c.saturating_add.ensures).0
@@ -21,10 +21,13 @@ returns-clause-adds g c =
     let sum = c.args.self in
     let seat = c.args.seat in
     let plan = c.args.plan.now in
-    (one_more g.S.Setting.terms sum.passes.items c.push.new.self.items seat.pass
-    c.in_ok-push.ensures.items seat.taken seat.counts seat.work sum.outcome
+    (one_more g.S.Setting.terms sum.passes.items c.push_reserved.new.self.items seat.pass
+    c.push_reserved.ensures.items seat.taken seat.counts seat.work sum.outcome
     c.in_ok-outcome_with.field-0 sum.beats sum.skipped sum.instructions c.saturating_add.result
-    c.requires.seat.1 c.requires.seat.2 c.in_ok-outcome_with.ensures c.requires.outcome
+    c.requires.seat.1 c.requires.seat.2 c.in_ok-outcome_with.ensures.outcome c.requires.outcome
     c.requires.adds (subst (λ (n : ℕ). n ≤ 1000000) plan.forks_is.0 plan.forks_is.1)
     (subst (λ (n : ℕ). n ≤ 1000000000) plan.beat_is.0 plan.beat_is.2) c.requires.short
     c.saturating_add.ensures).1
+
+pub returns-clause-sums : goal.returns-clause-sums
+returns-clause-sums g c = (refl, refl, c.saturating_add.ensures)

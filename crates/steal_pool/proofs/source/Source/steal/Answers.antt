@@ -16,5 +16,6 @@ returns-in-Retry-clause-lost g c =
           ∙ (get_or_default others c.loop-k.k d other (search rules)
           ∙ sym c.index_mut.ensures.value);
       is = λ d. search rules;
+      answered = search rules;
       taken = search rules;
     }

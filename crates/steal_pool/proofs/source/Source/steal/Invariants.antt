@@ -1,5 +1,6 @@
-use Rattle.std.proofs.Common.{◌≡◌, ℕ, ◌<◌, ◌≤◌, length, slice_index_or}
+use Rattle.std.proofs.Common.{◌≡◌, ℕ, ◌<◌, ◌≤◌, slice_index_or}
 use Rattle.crossbeam_deque.specs.Handles.{stealer_deque}
+use Rattle.steal_pool.specs.Tied.{SameDeques}
 use Rattle.steal_pool.proofs.source.Source.steal.Given as goal
 
 abbrev pub invariant-loop-k : goal.invariant-loop-k
@@ -10,7 +11,7 @@ invariant-loop-k g l =
     × ((j : ℕ) (d : _)
     → l.k ≤ j
     → slice_index_or l.self.others.items j d ≡ slice_index_or l.initial.self.others.items j d)
-    × (length l.self.others.items ≡ length l.initial.self.others.items)
+    × SameDeques l.initial.self l.self
 
 abbrev pub ghosts-steal : goal.ghosts-steal
 ghosts-steal g a = record { empty = g.E.EachEmptied.each (stealer_deque a.self.now.thief) }

@@ -1,4 +1,4 @@
-// How an idle worker rests: it looks again and again, and then sleeps until there may be something.
+// How an idle worker waits: it looks again and again, and then sleeps until there may be something.
 
 use crossbeam_utils::Backoff;
 use crossbeam_utils::sync::{EventCount, Key};
@@ -8,18 +8,18 @@ use std::sync::Wait;
 /// awake where work comes soon again.
 const MOST_LOOKS: u32 = 4000;
 
-/// The rest of a worker between two turns that do something.
+/// The waiting of a worker between two turns that do something.
 #[derive(Drop)]
-pub(crate) struct Rest<'a> {
+pub(crate) struct Idling<'a> {
     backoff: Backoff,
     looks: u32,
     /// The sleep that was announced before the last turn.
     key: Option<Key<'a>>,
 }
 
-impl<'a> Rest<'a> {
-    pub(crate) fn new() -> Rest<'a> {
-        Rest {
+impl<'a> Idling<'a> {
+    pub(crate) fn new() -> Idling<'a> {
+        Idling {
             backoff: Backoff::new(),
             looks: 0,
             key: None,
