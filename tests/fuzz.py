@@ -296,7 +296,7 @@ class Call:
         return output_fault(self.status, self.out, source)
 
 
-def counts_fault(shown, code, output, heartbeat):
+def counts_fault(shown, code, output, heartbeat, most_beats):
     """What is wrong with a shown run, whose code and output are known."""
     if not shown.startswith(code + output):
         return 'other code or output where shown'
@@ -304,7 +304,8 @@ def counts_fault(shown, code, output, heartbeat):
     if not counts:
         return 'no counts'
     tasks, beats, skipped, instructions, ticks = (int(count) for count in counts.groups())
-    good = tasks + skipped == beats and tasks * heartbeat <= instructions and ticks <= FUEL + 1
+    good = (tasks + skipped == beats <= most_beats and tasks * heartbeat <= instructions
+            and ticks <= FUEL + 1)
     return None if good else 'counts that do not fit'
 
 
@@ -325,8 +326,8 @@ def try_text(job):
     calls = 2
     if not faults and run.status != 3:
         beat, workers = rng.choice([1, 2, 7, 50, 300]), rng.choice([1, 1, 2, 4])
-        words = ['run'] + paths + fuel + ['--beat', str(beat), '--workers', str(workers),
-                                          '--forks', rng.choice(['10', '10', '0', '3'])]
+        forks = rng.choice([10, 10, 0, 3])
+        words = ['run'] + paths + fuel + ['--beat', str(beat), '--workers', str(workers), '--forks', str(forks)]
         again = Call(program, words, seconds)
         shown = Call(program, words + ['--show'], seconds)
         calls += 2
@@ -335,7 +336,7 @@ def try_text(job):
         if shown.status != run.status:
             faults.append(f'status {shown.status} for {run.status} where shown')
         else:
-            wrong = counts_fault(shown.out, compiled.out, run.out, beat)
+            wrong = counts_fault(shown.out, compiled.out, run.out, beat, forks * workers)
             faults += [wrong] if wrong else []
     if not faults:
         for path in paths:

@@ -101,6 +101,12 @@ ends 'an option that is no UTF-8' 7 'bad words\n' run five $'--fuel=\xff'
 cp five 'fünf'
 ends 'a name that is UTF-8' 0 '5\n' run 'fünf'
 ends 'an absent name with a line break' 5 '' run $'no\nfile'
+# The name of the program itself is none of its words.
+mkdir $'f\xf6lder'
+cp -L "$program" $'f\xf6lder/tp\xe4l'
+status=0
+timeout 60 $'./f\xf6lder/tp\xe4l' run five >out 2>errors || status=$?
+judge 'a program whose own name and folder are no UTF-8' "$status" 0 '5\n'
 
 # --- outputs that take nothing, or not all ---
 printf 'table t[1][0]; main { emit t; }' >one_byte
@@ -199,6 +205,8 @@ main { let x = 0; call x = f(9999); print x; }' >deep_pairs
 { printf 'main {'; for i in 1 2 3 4 5 6 7 8; do printf ' par i%s in 0..1 {' $i; done; repeat ' }' 9; } >loops
 { printf 'main { print '; repeat '(' 1000000; } >open_brackets
 { printf 'main {'; repeat ' if 1 {' 31; printf ' print '; repeat '(' 1000000; } >open_in_blocks
+{ printf 'main {'; repeat ' if 1 {' 31; printf ' print '; repeat '(' 500000; printf 7; repeat ')' 500000
+  printf ';'; repeat ' }' 32; } >brackets_in_blocks
 { printf 'main { print '; repeat '-' 1000000; } >signs
 { printf 'main {'; repeat ' if 1 {' 140000; } >open_blocks
 { repeat '{' 1000000; } >braces
@@ -227,6 +235,7 @@ small 'a sample by 4 workers' 2 'out of fuel\n' sample 1 --fuel 100000 --beat 1 
 for command in run compile; do
   small "open brackets to $command" 3 'refused E14 at 1:270\n' $command open_brackets
   small "open brackets in blocks to $command" 3 'refused E14 at 1:487\n' $command open_in_blocks
+  small "a million brackets in blocks to $command" 3 'refused E14 at 1:487\n' $command brackets_in_blocks
   small "signs to $command" 3 'refused E14 at 1:270\n' $command signs
   small "open blocks to $command" 3 'refused E14 at 1:230\n' $command open_blocks
   small "braces to $command" 3 'refused E3 at 1:1\n' $command braces

@@ -1,7 +1,8 @@
 // From a source text to a program and its code, and what the code's first task holds.
 
 ghost use Rattle.std.specs.Prelude.{◌≡◌, ◌≤◌, length, IfOk, IfSome};
-ghost use Rattle.code_laws.specs.Owing.{AreHeld, AreNamed, OwesMeaning};
+ghost use Rattle.scene_laws.specs.Tables.{AreHeld, AreNamed};
+ghost use Rattle.code_laws.specs.Owing.{OwesMeaning};
 ghost use Rattle.tests_code.specs.Owed.{given_to};
 
 use block_lower::lower;

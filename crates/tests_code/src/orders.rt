@@ -16,9 +16,11 @@ use tp_value::{Items, MAX_FORKS, NoMemory, Place, RECORDS_PER_WORKER, Stop, Trap
 
 /// How a run is shared out.
 #[derive(Clone, Copy)]
-struct Plan {
-    heartbeat: u64,
-    workers: u32,
+pub struct Plan {
+    /// The heartbeat, in instructions.
+    pub heartbeat: u64,
+    /// The workers.
+    pub workers: u32,
 }
 
 /// The first configuration of a program's code, over what it is given.
@@ -171,7 +173,7 @@ fn is_right(end: &Config, plan: Plan, wanted: Wanted, output: &[u8]) -> bool {
 }
 
 /// The end of a run of a program in an order that a seed picks.
-fn end_of(alloc: Global, on: &Compiled, plan: Plan, seed: u32) -> Result<Config, Fail>
+pub fn end_of(alloc: Global, on: &Compiled, plan: Plan, seed: u32) -> Result<Config, Fail>
     requires owes { OwesMeaning on.now.program on.now.code }
     requires heartbeat { (1 ≤ plan.heartbeat) × (plan.heartbeat ≤ MAX_BEAT) }
     requires workers { (1 ≤ plan.workers) × (plan.workers ≤ MAX_WORKERS) }

@@ -12,7 +12,7 @@ use Rattle.loop_syntax.specs.declared.expression.Expr.{Expr}
 use Rattle.loop_syntax.specs.declared.program.TableDecl.{TableDecl}
 use Rattle.loop_syntax.specs.declared.program.TableDecl.TheVariants.{Input, Made}
 use Rattle.loop_meaning.specs.State.{table_of}
-use Rattle.code_laws.specs.Owing.{AreDeclared, AreHeld, AreNamed, IsTable, IsWholeOf}
+use Rattle.scene_laws.specs.Tables.{AreDeclared, AreHeld, AreNamed, IsTable, IsWholeOf}
 use Rattle.tpal_syntax.specs.declared.blocks.CodeTable.{CodeTable}
 use Rattle.tpal_tool.specs.Inputs.{first_missing, is_given, without}
 use Rattle.tpal_tool.proofs.TakenTables.{table_left, given_left, tables_left}

@@ -1,8 +1,7 @@
--- From a run that is ready to what is owed.
+-- From a run that is prepared to what is owed.
 use Rattle.std.proofs.Common.{◌≡◌, ℕ, List, refl, ap, subst, ◌∙◌}
-use Rattle.std.specs.Prelude.{Bool, true, false, None, Result, Ok, Err, IfOk}
+use Rattle.std.specs.Prelude.{Bool, true, false, None}
 use Rattle.slices.specs.Holding.{Holding}
-use Rattle.tp_value.specs.declared.values.NoMemory.{NoMemory}
 use Rattle.tp_value.specs.declared.values.Outcome.{Outcome}
 use Rattle.tp_value.specs.declared.values.Table.{Table}
 use Rattle.loop_syntax.specs.declared.program.Program.{Program}
@@ -10,20 +9,22 @@ use Rattle.loop_meaning.specs.Answers.{status_of, text_of}
 use Rattle.loop_meaning.specs.Meaning.{meaning}
 use Rattle.table_text.specs.TablesText.{TablesOf}
 use Rattle.tpal_syntax.specs.Listing.{Listing}
-use Rattle.schedule_core.specs.declared.lanes.Tally.{Tally}
+use Rattle.schedule_core.specs.Counting.{tally_of}
 use Rattle.tpal_machine.specs.declared.ends.Ending.{Ending}
 use Rattle.tpal_machine.specs.declared.ends.Ending.TheVariants.{At, Root}
 use Rattle.tpal_machine.specs.Owes.{Owes}
 use Rattle.tpal_machine.specs.State.{State, first_state}
 use Rattle.tpal_machine.proofs.Owing.{no_least}
 use Rattle.tpal_tool.specs.declared.answer.Answer.{Answer}
+use Rattle.tpal_tool.specs.declared.running.EndedRun.{EndedRun}
 use Rattle.tpal_tool.specs.declared.status.Status.{Status}
 use Rattle.tpal_tool.specs.declared.status.Status.TheVariants.{Done, Trap, OutOfFuel}
 use Rattle.tpal_tool.specs.Answering.{whole_of}
 use Rattle.tpal_tool.specs.Inputs.{first_missing}
 use Rattle.tpal_tool.specs.Owed.{Ran, RunOwes, ShowsRun}
 use Rattle.tpal_tool.specs.Owed as owed
-use Rattle.tpal_tool.specs.Preparing.{IsReady, RunText, plain, shown}
+use Rattle.tpal_tool.specs.Preparing.{IsFirstTask, IsPreparedFor, RunText, plain, shown}
+use Rattle.tpal_tool.specs.Running.{IsEndOf}
 use Rattle.tpal_tool.specs.Words.{Options}
 
 by_show : {P : Type 0} (show : Bool) → (show ≡ false → P) → (show ≡ true → P) → P
@@ -31,14 +32,11 @@ by_show false hidden shows = hidden refl
 by_show true hidden shows = shows refl
 
 -- what is owed of one thing is owed of another
-pub ready_more : {O P : Status → List ℕ → Type 0} (code : Listing) (held : List Holding) (options : Options) → ((status : Status) (text : List ℕ) → O status text → P status text) → IsReady O code held options → IsReady P code held options
-ready_more code held options more r = record {
+pub prepared_more : {O P : Status → List ℕ → Type 0} (code : Listing) (held : List Holding) (options : Options) → ((status : Status) (text : List ℕ) → O status text → P status text) → IsPreparedFor O code held options → IsPreparedFor P code held options
+prepared_more code held options more r = record {
   program = r.program;
   inputs = r.inputs;
-  owes = r.owes;
-  tables = r.tables;
-  named = r.named;
-  are_held = r.are_held;
+  first = r.first;
   done = λ status text is run. more status text (r.done status text is run);
 }
 
@@ -47,20 +45,19 @@ pub run_owes : (program : Program) (tables : List ℕ) (options : Options) (inpu
 run_owes program tables options inputs are complete status text is (plain hidden text_is) = owed.ran inputs are complete is hidden text_is
 run_owes program tables options inputs are complete status text is (shown show shows) = owed.shown inputs are complete is show shows
 
--- a run that came to its end answers what is owed
-pub finished-owed : {O : Status → List ℕ → Type 0} (code : Listing) (held : List Holding) (options : Options) (r : IsReady O code held options) (outcome : Outcome) (tally : Tally) → outcome ≡ meaning r.program r.inputs options.fuel → Ran r.program code r.inputs options outcome tally → (result : Result Answer NoMemory) → IfOk result (λ answer. answer.status ≡ status_of Done Trap OutOfFuel outcome) → (options.show ≡ false → IfOk result (λ answer. whole_of answer.texts ≡ text_of outcome)) → (options.show ≡ true → IfOk result (λ answer. ShowsRun code outcome tally (whole_of answer.texts))) → IfOk result (λ answer. O answer.status (whole_of answer.texts))
-finished-owed code held options r outcome tally is came (Ok answer) status hides shows =
-    r.done answer.status (whole_of answer.texts) (status ∙ ap (status_of Done Trap OutOfFuel) is)
+-- the answer of a run that came to its end is what is owed
+pub ended-owed : {O : Status → List ℕ → Type 0} (code : Listing) (held : List Holding) (options : Options) (r : IsPreparedFor O code held options) (run : EndedRun) → IsEndOf r.program r.inputs options run → (answer : Answer) → answer.status ≡ status_of Done Trap OutOfFuel run.report.outcome → (run.show ≡ false → whole_of answer.texts ≡ text_of run.report.outcome) → (run.show ≡ true → ShowsRun run.code run.report.outcome (tally_of run.report) (whole_of answer.texts)) → O answer.status (whole_of answer.texts)
+ended-owed code held options r run is answer status hides shows =
+    r.done answer.status (whole_of answer.texts) (status ∙ ap (status_of Done Trap OutOfFuel) is.outcome)
     (by_show options.show
-    (λ hidden. plain hidden (hides hidden ∙ ap text_of is))
+    (λ hidden. plain hidden (hides (is.show ∙ hidden) ∙ ap text_of is.outcome))
     (λ show. shown show (record {
-      code = code;
-      owes = r.owes;
-      tally = tally;
-      ran = subst (λ (o : Outcome). Ran r.program code r.inputs options o tally) is came;
-      shows = subst (λ (o : Outcome). ShowsRun code o tally (whole_of answer.texts)) is (shows show);
+      code = run.code;
+      owes = is.owes;
+      tally = tally_of run.report;
+      ran = subst (λ (o : Outcome). Ran r.program run.code r.inputs options o (tally_of run.report)) is.outcome is.ran;
+      shows = subst (λ (o : Outcome). ShowsRun run.code o (tally_of run.report) (whole_of answer.texts)) is.outcome (shows (is.show ∙ show));
     })))
-finished-owed code held options r outcome tally is came (Err e) status hides shows = tt
 
 -- ---- the first task of a run
 
@@ -76,9 +73,9 @@ whatever_least code heartbeat n state e owes = record {
   bound = no_least code heartbeat false n state e owes.bound;
 }
 
--- the first task of a run that is ready owes the meaning
-pub first_owes : {O : Status → List ℕ → Type 0} (code : Listing) (held task_held : List Holding) (options : Options) (r : IsReady O code held options) → held ≡ task_held → Owes code options.beat false 0 (first_state task_held options.fuel) (Root (meaning r.program r.inputs options.fuel))
-first_owes code held task_held options r same =
-    subst (λ (hs : List Holding). Owes code options.beat false 0 (first_state hs options.fuel) (Root (meaning r.program r.inputs options.fuel))) same
-    (whatever_least code options.beat _ (first_state held options.fuel) (Root (meaning r.program r.inputs options.fuel))
-    (r.owes.promoted r.inputs held options.beat options.fuel r.tables r.named r.are_held))
+-- the first task of a program owes the program's meaning
+pub first_owes : (program : Program) (inputs : List Table) (code : Listing) (held task_held : List Holding) (options : Options) → IsFirstTask program inputs code held → held ≡ task_held → Owes code options.beat false 0 (first_state task_held options.fuel) (Root (meaning program inputs options.fuel))
+first_owes program inputs code held task_held options first same =
+    subst (λ (hs : List Holding). Owes code options.beat false 0 (first_state hs options.fuel) (Root (meaning program inputs options.fuel))) same
+    (whatever_least code options.beat _ (first_state held options.fuel) (Root (meaning program inputs options.fuel))
+    (first.owes.promoted inputs held options.beat options.fuel first.tables first.named first.are_held))

@@ -16,7 +16,7 @@ use Rattle.table_text.specs.Wanted.{size_misfit, cells_of}
 use Rattle.table_text.specs.TablesText as text
 use Rattle.table_text.specs.TablesText.{AreTables, no_table, table_more, TablesOf}
 use Rattle.loop_meaning.specs.InRange.{InRange}
-use Rattle.code_laws.specs.Owing.{IsTable}
+use Rattle.scene_laws.specs.Tables.{IsTable}
 
 both : (a b : Bool) → (a && b) ≡ true → (a ≡ true) × (b ≡ true)
 both true b h = (refl, h)

@@ -10,10 +10,10 @@ pub mod Endings
 pub mod Answered
 -- the promises of the top call, from how it ends
 pub mod Promised
--- from a run that is ready to what is owed
+-- from a run that is prepared to what is owed
 pub mod Finishing
--- why a part of a call halts, and why the whole does
-pub mod Halting
+-- why a part of a call is_fault, and why the whole does
+pub mod CallFaults
 -- the inputs that a program misses, by its tree alone
 pub mod TreeInputs
 -- the tables of a text have as many cells as they should, and numbers in range
@@ -28,3 +28,5 @@ pub mod DistinctNames
 pub mod Soles
 -- numbers that digits spell
 pub mod Spelling
+-- a solo run is diverted at most so often as it may be
+pub mod SoloBeats

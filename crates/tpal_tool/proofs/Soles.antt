@@ -13,7 +13,7 @@ use Rattle.loop_parse.specs.Text.{Reads, TextFault, Byte, Range, Form, Deep, Fir
 use Rattle.loop_parse.specs.Text.{range, form, deep, IsOnlyFault}
 use Rattle.tpal_tool.specs.declared.refusal.SourceFault.{SourceFault}
 use Rattle.tpal_tool.specs.Lines.{blocks_line, fault_line, fault_of, parallel_line, rule_line}
-use Rattle.tpal_tool.specs.Reading.{ReadsAs}
+use Rattle.tpal_tool.specs.Parsing.{ParsesAs}
 use Rattle.tpal_tool.specs.Verdict.{Refuses, faulty, broken, broken_parallel, too_many_blocks}
 use Rattle.tpal_tool.specs.Verdict.{RefusesOnly, AcceptsOnly}
 use Rattle.loop_rules.specs.Resolving.{IsFirstBroken}
@@ -22,8 +22,8 @@ use Rattle.loop_rules.proofs.Firsts.{first-tree, resolved-tree, firsts_agree, no
 use Rattle.loop_check.specs.Checking as parallel
 use Rattle.loop_check.specs.Unbroken.{NoneBroken}
 use Rattle.loop_check.proofs.Firsts as parallels
-use Rattle.code_laws.specs.Count.{blocks_of_program}
-use Rattle.code_laws.proofs.Counts.TreeBlocks.{blocks_of_tree}
+use Rattle.scene_laws.specs.Count.{blocks_of_program}
+use Rattle.scene_laws.proofs.Counts.TreeBlocks.{blocks_of_tree}
 
 -- ---- faults of the lexer
 
@@ -80,74 +80,74 @@ resolved_of : (p : Program) → NoneBroken p → IsResolved p
 resolved_of p none = record { unbroken = λ r place u h. none.unbroken r place h }
 
 -- a program that breaks no rule, and whose code has few enough blocks
-pub accepted-only : (source : List ℕ) (p : Program) → ReadsAs source p → NoneBroken p → blocks_of_program p ≤ MAX_BLOCKS → AcceptsOnly source p
-accepted-only source p reads_as none few = record {
-  accepts = record { reads = reads_as.0; unbroken = none; fits = few };
-  one_program = λ other a. reads_as.1 (program_of other) a.reads;
+pub accepted-only : (source : List ℕ) (p : Program) → ParsesAs source p → NoneBroken p → blocks_of_program p ≤ MAX_BLOCKS → AcceptsOnly source p
+accepted-only source p parses_as none few = record {
+  accepts = record { reads = parses_as.0; unbroken = none; fits = few };
+  one_program = λ other a. parses_as.1 (program_of other) a.reads;
   not_refused = unrefused;
 }
   where
     unrefused : (line : List ℕ) → Refuses source line → ⊥
-    unrefused line (faulty fault first t) = reads_as.2 fault first
+    unrefused line (faulty fault first t) = parses_as.2 fault first
     unrefused line (broken program rule place reads first t) =
-        not_both p rule place (resolved_of p none) (first-tree program p rule place (reads_as.1 (program_of program) reads) first)
+        not_both p rule place (resolved_of p none) (first-tree program p rule place (parses_as.1 (program_of program) reads) first)
     unrefused line (broken_parallel program rule place reads resolved first t) =
-        parallels.not_both p rule place none (parallels.first-tree program p (reads_as.1 (program_of program) reads) rule place first)
+        parallels.not_both p rule place none (parallels.first-tree program p (parses_as.1 (program_of program) reads) rule place first)
     unrefused line (too_many_blocks program reads unbroken many t) =
-        omega (arith, few, many, blocks_of_tree program p (reads_as.1 (program_of program) reads))
+        omega (arith, few, many, blocks_of_tree program p (parses_as.1 (program_of program) reads))
 
 -- a program that breaks no rule, and whose code has too many blocks
-pub too_many-only : (source : List ℕ) (p : Program) (line : List ℕ) → ReadsAs source p → NoneBroken p → MAX_BLOCKS < blocks_of_program p → line ≡ blocks_line (blocks_of_program p) → RefusesOnly source line
-too_many-only source p line reads_as none many is = record {
-  refuses = too_many_blocks p reads_as.0 none many is;
+pub too_many-only : (source : List ℕ) (p : Program) (line : List ℕ) → ParsesAs source p → NoneBroken p → MAX_BLOCKS < blocks_of_program p → line ≡ blocks_line (blocks_of_program p) → RefusesOnly source line
+too_many-only source p line parses_as none many is = record {
+  refuses = too_many_blocks p parses_as.0 none many is;
   one_line = one;
-  not_accepted = λ program a. omega (arith, many, a.fits, blocks_of_tree program p (reads_as.1 (program_of program) a.reads));
+  not_accepted = λ program a. omega (arith, many, a.fits, blocks_of_tree program p (parses_as.1 (program_of program) a.reads));
 }
   where
     one : (other : List ℕ) → Refuses source other → other ≡ line
-    one other (faulty fault first t) = absurd (reads_as.2 fault first)
+    one other (faulty fault first t) = absurd (parses_as.2 fault first)
     one other (broken program rule place reads first t) =
-        absurd (not_both p rule place (resolved_of p none) (first-tree program p rule place (reads_as.1 (program_of program) reads) first))
+        absurd (not_both p rule place (resolved_of p none) (first-tree program p rule place (parses_as.1 (program_of program) reads) first))
     one other (broken_parallel program rule place reads resolved first t) =
-        absurd (parallels.not_both p rule place none (parallels.first-tree program p (reads_as.1 (program_of program) reads) rule place first))
+        absurd (parallels.not_both p rule place none (parallels.first-tree program p (parses_as.1 (program_of program) reads) rule place first))
     one other (too_many_blocks program reads unbroken more t) =
-        t ∙ ap blocks_line (blocks_of_tree program p (reads_as.1 (program_of program) reads)) ∙ sym is
+        t ∙ ap blocks_line (blocks_of_tree program p (parses_as.1 (program_of program) reads)) ∙ sym is
 
 -- a program that breaks a rule on names, limits, output or variables of loops
-pub broken-only : (source : List ℕ) (p : Program) (rule : ℕ) (place : Place) (line : List ℕ) → ReadsAs source p → IsFirstBroken p rule place → line ≡ rule_line rule place → RefusesOnly source line
-broken-only source p rule place line reads_as first is = record {
-  refuses = broken p rule place reads_as.0 first is;
+pub broken-only : (source : List ℕ) (p : Program) (rule : ℕ) (place : Place) (line : List ℕ) → ParsesAs source p → IsFirstBroken p rule place → line ≡ rule_line rule place → RefusesOnly source line
+broken-only source p rule place line parses_as first is = record {
+  refuses = broken p rule place parses_as.0 first is;
   one_line = one;
-  not_accepted = λ program a. not_both p rule place (resolved-tree program p (reads_as.1 (program_of program) a.reads) (resolved_of program a.unbroken)) first;
+  not_accepted = λ program a. not_both p rule place (resolved-tree program p (parses_as.1 (program_of program) a.reads) (resolved_of program a.unbroken)) first;
 }
   where
     one : (other : List ℕ) → Refuses source other → other ≡ line
-    one other (faulty fault found t) = absurd (reads_as.2 fault found)
+    one other (faulty fault found t) = absurd (parses_as.2 fault found)
     one other (broken program rule' place' reads first' t) =
-        let same : (rule' ≡ rule) × (place' ≡ place) = firsts_agree p rule' rule place' place (first-tree program p rule' place' (reads_as.1 (program_of program) reads) first') first in
+        let same : (rule' ≡ rule) × (place' ≡ place) = firsts_agree p rule' rule place' place (first-tree program p rule' place' (parses_as.1 (program_of program) reads) first') first in
         t ∙ ap (λ n. rule_line n place') same.0 ∙ ap (rule_line rule) same.1 ∙ sym is
     one other (broken_parallel program rule' place' reads resolved first' t) =
-        absurd (not_both p rule place (resolved-tree program p (reads_as.1 (program_of program) reads) resolved) first)
+        absurd (not_both p rule place (resolved-tree program p (parses_as.1 (program_of program) reads) resolved) first)
     one other (too_many_blocks program reads none many t) =
-        absurd (not_both p rule place (resolved-tree program p (reads_as.1 (program_of program) reads) (resolved_of program none)) first)
+        absurd (not_both p rule place (resolved-tree program p (parses_as.1 (program_of program) reads) (resolved_of program none)) first)
 
 -- a program that breaks a rule on parallel loops, and none of those
-pub parallel-only : (source : List ℕ) (p : Program) (rule : ℕ) (place : Place) (line : List ℕ) → ReadsAs source p → IsResolved p → parallel.IsFirstBroken p rule place → line ≡ parallel_line rule place → RefusesOnly source line
-parallel-only source p rule place line reads_as resolved first is = record {
-  refuses = broken_parallel p rule place reads_as.0 resolved first is;
+pub parallel-only : (source : List ℕ) (p : Program) (rule : ℕ) (place : Place) (line : List ℕ) → ParsesAs source p → IsResolved p → parallel.IsFirstBroken p rule place → line ≡ parallel_line rule place → RefusesOnly source line
+parallel-only source p rule place line parses_as resolved first is = record {
+  refuses = broken_parallel p rule place parses_as.0 resolved first is;
   one_line = one;
-  not_accepted = λ program a. parallels.not_both p rule place (parallels.none-tree program p (reads_as.1 (program_of program) a.reads) a.unbroken) first;
+  not_accepted = λ program a. parallels.not_both p rule place (parallels.none-tree program p (parses_as.1 (program_of program) a.reads) a.unbroken) first;
 }
   where
     one : (other : List ℕ) → Refuses source other → other ≡ line
-    one other (faulty fault found t) = absurd (reads_as.2 fault found)
+    one other (faulty fault found t) = absurd (parses_as.2 fault found)
     one other (broken program rule' place' reads first' t) =
-        absurd (not_both p rule' place' resolved (first-tree program p rule' place' (reads_as.1 (program_of program) reads) first'))
+        absurd (not_both p rule' place' resolved (first-tree program p rule' place' (parses_as.1 (program_of program) reads) first'))
     one other (broken_parallel program rule' place' reads resolved' first' t) =
-        let same : (rule' ≡ rule) × (place' ≡ place) = parallels.firsts_agree p rule' rule place' place (parallels.first-tree program p (reads_as.1 (program_of program) reads) rule' place' first') first in
+        let same : (rule' ≡ rule) × (place' ≡ place) = parallels.firsts_agree p rule' rule place' place (parallels.first-tree program p (parses_as.1 (program_of program) reads) rule' place' first') first in
         t ∙ ap (λ n. parallel_line n place') same.0 ∙ ap (parallel_line rule) same.1 ∙ sym is
     one other (too_many_blocks program reads none many t) =
-        absurd (parallels.not_both p rule place (parallels.none-tree program p (reads_as.1 (program_of program) reads) none) first)
+        absurd (parallels.not_both p rule place (parallels.none-tree program p (parses_as.1 (program_of program) reads) none) first)
 
 -- a text with a fault
 pub faulty-only : (source : List ℕ) (fault : SourceFault) (line : List ℕ) → FirstTextFault source (fault_of fault) → IsOnlyFault source (fault_of fault) → line ≡ fault_line (fault_of fault) → RefusesOnly source line

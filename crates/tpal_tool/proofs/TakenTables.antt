@@ -7,7 +7,7 @@ use Rattle.std.proofs.lemmas.List.Elements.{All-head, All-tail, All-cons, All-ni
 use Rattle.std.proofs.lemmas.Slice.Eq.{bytes_eq-Decides}
 use Rattle.tp_value.specs.declared.values.Table.{Table}
 use Rattle.loop_meaning.specs.State.{table_of}
-use Rattle.code_laws.specs.Owing.{IsTable}
+use Rattle.scene_laws.specs.Tables.{IsTable}
 use Rattle.tpal_tool.specs.Inputs.{is_given, without}
 
 -- whether a table has a name

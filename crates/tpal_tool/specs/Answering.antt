@@ -7,8 +7,8 @@ use Rattle.table_text.specs.declared.fault.TableFault.{TableFault}
 use Rattle.table_text.specs.TablesText.{FirstTableFault}
 use Rattle.tpal_tool.specs.declared.answer.Texts.{Texts}
 use Rattle.tpal_tool.specs.declared.answer.Texts.TheVariants.{One, Shown}
-use Rattle.tpal_tool.specs.declared.refusal.Halt.{Halt}
-use Rattle.tpal_tool.specs.declared.refusal.Halt.TheVariants.{Refused, ReadFailed, NoMemory}
+use Rattle.tpal_tool.specs.declared.refusal.CallFault.{CallFault}
+use Rattle.tpal_tool.specs.declared.refusal.CallFault.TheVariants.{Refused, ReadFailed, NoMemory}
 use Rattle.tpal_tool.specs.declared.refusal.Refusal.{Refusal}
 use Rattle.tpal_tool.specs.declared.refusal.Refusal.TheVariants as refusals
 use Rattle.tpal_tool.specs.declared.status.Status.{Status}
@@ -33,13 +33,13 @@ status_with (refusals.Blocks blocks) = statuses.Refused
 status_with (refusals.Tables fault) = statuses.Refused
 status_with (refusals.Missing name) = statuses.Refused
 
--- ---- why a part halts
+-- ---- why a part is_fault
 
 -- a refusal is such a one, a fault of reading has this cause, and want of memory has none
-abbrev pub Halts : (Refusal → Type 0) → Type 0 → Halt → Type 0
-Halts Refuses Cause (Refused refusal) = Refuses refusal
-Halts Refuses Cause ReadFailed = Cause
-Halts Refuses Cause NoMemory = Unit {0}
+abbrev pub IsFaultOf : (Refusal → Type 0) → Type 0 → CallFault → Type 0
+IsFaultOf Refuses Cause (Refused refusal) = Refuses refusal
+IsFaultOf Refuses Cause ReadFailed = Cause
+IsFaultOf Refuses Cause NoMemory = Unit {0}
 
 -- what is owed is a refusal's status and its line
 abbrev pub OwesRefusal : (Status → List ℕ → Type 0) → Refusal → Type 0

@@ -19,11 +19,13 @@ pub mod Told
 pub mod Owed
 -- what the top call promises: why it ends without what it owes, and which answer comes where
 pub mod Promises
--- what a source text reads as
-pub mod Reading
--- what the parts of a call answer: texts, a status, or why they halt
+-- what a source text parses as
+pub mod Parsing
+-- what the parts of a call answer: texts, a status, or a fault
 pub mod Answering
 -- what a call comes to before anything runs
 pub mod Preparing
+-- what a run comes to
+pub mod Running
 -- the numbers of statuses
 pub mod Statuses

@@ -15,7 +15,8 @@ use Rattle.tpal_syntax.specs.Text.{CodeText}
 use Rattle.tpal_machine.specs.State.{first_state}
 use Rattle.schedule_core.specs.declared.lanes.Tally.{Tally}
 use Rattle.schedule_core.specs.Solo.{SoloRun}
-use Rattle.code_laws.specs.Owing.{AreHeld, OwesMeaning}
+use Rattle.scene_laws.specs.Tables.{AreHeld}
+use Rattle.code_laws.specs.Owing.{OwesMeaning}
 use Rattle.tpal_tool.specs.declared.status.Status.{Status}
 use Rattle.tpal_tool.specs.declared.status.Status.TheVariants.{Done, Trap, OutOfFuel, Refused}
 use Rattle.tpal_tool.specs.declared.status.Status.TheVariants.{NoMemory, ReadFault, WriteFault}
@@ -32,13 +33,16 @@ use Rattle.tpal_tool.specs.Words.{run_options}
 
 -- ---- what a program owes
 
--- Workers ran a code from its first task, over these inputs, and came to this outcome with these
--- counts. Each diversion made a task or was skipped, and so many instructions as the heartbeat were
--- executed for each task. Of one worker the run is the solo run.
+-- These counts go with a run of a code from its first task, over these inputs, that came to this
+-- outcome. There are at most as many beats as the options allow a worker, times the workers; each
+-- made a task or was skipped; and so many instructions as the heartbeat were executed for each task.
+-- With one worker they are those of the solo run. With several nothing else is said of them: not
+-- that they come of a run, nor by how many workers.
 pub record Ran (program : Program) (code : Listing) (inputs : List Table) (options : Options)
     (outcome : Outcome) (tally : Tally) : Type 0 where
   pub holdings : List Holding
   pub are_held : AreHeld program.tables.items inputs holdings
+  pub forks : tally.beats ≤ options.forks * options.workers
   pub beats : tally.tasks + tally.skipped ≡ tally.beats
   pub paid : tally.tasks * options.beat ≤ tally.instructions
   pub alone : options.workers ≡ 1

@@ -6,12 +6,13 @@ use Rattle.loop_syntax.specs.declared.program.Program.{Program}
 use Rattle.loop_meaning.specs.Answers.{status_of, text_of}
 use Rattle.loop_meaning.specs.Meaning.{meaning}
 use Rattle.tpal_syntax.specs.Listing.{Listing}
-use Rattle.code_laws.specs.Owing.{AreHeld, AreNamed, IsTable, OwesMeaning}
+use Rattle.tpal_syntax.specs.Text.{CodeText}
+use Rattle.scene_laws.specs.Tables.{AreHeld, AreNamed, IsTable}
+use Rattle.code_laws.specs.Owing.{OwesMeaning}
 use Rattle.tpal_tool.specs.declared.prepared.Prepared.{Prepared}
-use Rattle.tpal_tool.specs.declared.prepared.Prepared.TheVariants.{Answered, Ready}
+use Rattle.tpal_tool.specs.declared.prepared.Prepared.TheVariants as prepared
 use Rattle.tpal_tool.specs.declared.status.Status.{Status}
 use Rattle.tpal_tool.specs.declared.status.Status.TheVariants.{Done, Trap, OutOfFuel}
-use Rattle.tpal_tool.specs.Answering.{whole_of}
 use Rattle.tpal_tool.specs.Asking.{options_seen}
 use Rattle.tpal_tool.specs.Owed.{Shows}
 use Rattle.tpal_tool.specs.Words.{Options}
@@ -26,27 +27,34 @@ pub data RunText (program : Program) (inputs : List Table) (options : Options) (
       → Shows program inputs options text
       → RunText program inputs options text
 
--- A run is about to begin: the first task of the code owes the meaning of a program over inputs,
--- which it holds; and who answers the status and the text of that answers what is owed.
-pub record IsReady (Owes : Status → List ℕ → Type 0) (code : Listing) (held : List Holding)
-    (options : Options) : Type 0 where
-  pub program : Program
-  pub inputs : List Table
+-- the first task of a code, which holds this, owes the meaning of a program over inputs
+pub record IsFirstTask (program : Program) (inputs : List Table) (code : Listing)
+    (held : List Holding) : Type 0 where
   pub owes : OwesMeaning program code
   pub tables : All IsTable inputs
   pub named : AreNamed program.tables.items inputs
   pub are_held : AreHeld program.tables.items inputs held
+
+-- a run is about to begin from the first task of a program; and who answers the status and the text
+-- of that program's meaning answers what is owed
+pub record IsPreparedFor (Owes : Status → List ℕ → Type 0) (code : Listing) (held : List Holding)
+    (options : Options) : Type 0 where
+  pub program : Program
+  pub inputs : List Table
+  pub first : IsFirstTask program inputs code held
   pub done : (status : Status) (text : List ℕ)
       → status ≡ status_of Done Trap OutOfFuel (meaning program inputs options.fuel)
       → RunText program inputs options text
       → Owes status text
 
--- an answer is what is owed, and a run will be
+-- the text of a code is what is owed, and that of a run will be
 abbrev pub Prepares : (Status → List ℕ → Type 0) → Prepared → Type 0
-Prepares Owes (Answered answer) = Owes answer.status (whole_of answer.texts)
-Prepares Owes (Ready run) = IsReady Owes run.code run.held.items (options_seen run.options)
+Prepares Owes (prepared.Compiled code) =
+    (text : List ℕ) → CodeText text code.tables code.blocks → Owes Done text
+Prepares Owes (prepared.Run run) =
+    IsPreparedFor Owes run.code run.held.items (options_seen run.options)
 
 -- a run has so many workers
 abbrev pub HasWorkers : ℕ → Prepared → Type 0
-HasWorkers workers (Answered answer) = Unit {0}
-HasWorkers workers (Ready run) = run.options.workers ≡ workers
+HasWorkers workers (prepared.Compiled code) = Unit {0}
+HasWorkers workers (prepared.Run run) = run.options.workers ≡ workers

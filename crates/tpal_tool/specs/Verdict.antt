@@ -9,7 +9,7 @@ use Rattle.loop_rules.specs.Resolving.{IsFirstBroken}
 use Rattle.loop_rules.specs.Unbroken.{IsResolved}
 use Rattle.loop_check.specs.Checking as parallel
 use Rattle.loop_check.specs.Unbroken.{NoneBroken}
-use Rattle.code_laws.specs.Count.{blocks_of_program}
+use Rattle.scene_laws.specs.Count.{blocks_of_program}
 use Rattle.tpal_tool.specs.Lines.{blocks_line, fault_line, parallel_line, rule_line}
 
 -- a source text of at most the greatest length is refused with this line

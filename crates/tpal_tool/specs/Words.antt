@@ -1,8 +1,8 @@
 -- The words of a call.
 use Rattle.std.specs.Prelude.{ℕ, ◌-◌, ◌^◌, Bool, true, false, not, ◌&&◌, ◌==◌, nat_le, is_some}
 use Rattle.std.specs.Prelude.{is_none, List, [], ◌∷◌, length, take, drop, Option, Some, None}
-use Rattle.std.specs.Prelude.{option_map, option_and_then, unwrap_or, bytes_eq, codes}
-use Rattle.std.specs.Prelude.{if◌then◌else◌}
+use Rattle.std.specs.Prelude.{map, option_map, option_and_then, unwrap_or, bytes_eq, codes, String}
+use Rattle.std.specs.Prelude.{if◌then◌else◌, string_bytes}
 use Rattle.std.specs.Str.{all_ascii_digits}
 use Rattle.std.specs.Str.Parse.{digits_value_after}
 use Rattle.tp_value.specs.declared.limits.TheConstants.{MAX_BEAT, MAX_FORKS, MAX_FUEL, MAX_WORKERS}
@@ -277,3 +277,7 @@ asked (command ∷ words) =
     else (if bytes_eq command (codes "sample") then on_given
     (with_rest AnyWord words nothing_given) sample_run_of
     else None))
+
+-- what the words of a call ask for
+abbrev pub asked_by : {Z : Type 0} → List (String Z) → Option Command
+asked_by words = asked (map string_bytes words)

@@ -1,14 +1,6 @@
 // What a call writes, and the status with which it ends.
 
-ghost use Rattle.std.specs.Prelude.{◌≡◌, IfOk};
-ghost use Rattle.tpal_tool.specs.Answering.{status_with, whole_of};
-ghost use Rattle.tpal_tool.specs.Lines.{line_of};
-
-use crate::lines::refusal_line;
-use crate::refusal::Refusal;
 use crate::status::Status;
-use std::alloc::Global;
-use tp_value::NoMemory;
 
 /// The texts that a call writes, each on its own.
 #[derive(Drop)]
@@ -33,23 +25,4 @@ pub struct Answer {
     pub status: Status,
     /// The texts.
     pub texts: Texts,
-}
-
-fn status_with(refusal: &Refusal) -> Status
-    ensures { result ≡ status_with refusal.now }
-{
-    match refusal {
-        Refusal::Words => Status::BadWords,
-        _ => Status::Refused,
-    }
-}
-
-/// The answer of what is refused: its line.
-pub fn refused(alloc: Global, refusal: Refusal) -> Result<Answer, NoMemory>
-    ensures status { IfOk result (λ answer. answer.status ≡ status_with refusal) }
-    ensures text { IfOk result (λ answer. whole_of answer.texts ≡ line_of refusal) }
-{
-    let status = status_with(&refusal);
-    let texts = Texts::One(refusal_line(alloc, refusal)?);
-    Ok(Answer { status, texts })
 }

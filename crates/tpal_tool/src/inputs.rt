@@ -4,14 +4,14 @@ ghost use Rattle.std.specs.Prelude.{◌≡◌, ◌≤◌, List, None, Some, All,
 ghost use Rattle.std.specs.Prelude.{length, option_map, true};
 ghost use Rattle.std.specs.List.{position};
 ghost use Rattle.std.specs.Prelude.{bytes_eq};
-ghost use Rattle.code_laws.specs.Owing.{AreHeld, IsTable, IsWholeOf};
+ghost use Rattle.scene_laws.specs.Tables.{AreHeld, IsTable, IsWholeOf};
 ghost use Rattle.tp_value.specs.declared.limits.TheConstants.{MAX_TABLES_BYTES};
 ghost use Rattle.loop_meaning.specs.State.{table_of};
 ghost use Rattle.table_text.specs.TablesText.{TablesOf};
-ghost use Rattle.tpal_tool.specs.Answering.{Halts, RefusesMissing, RefusesTables};
+ghost use Rattle.tpal_tool.specs.Answering.{IsFaultOf, RefusesMissing, RefusesTables};
 ghost use Rattle.tpal_tool.specs.Inputs.{first_missing, is_given, without};
 
-use crate::refusal::{Halt, Refusal};
+use crate::refusal::{CallFault, Refusal};
 use loop_check::Checked;
 use loop_syntax::TableDecl;
 use slices::Held;
@@ -20,16 +20,16 @@ use table_text::{TableFault, read_tables};
 use tp_value::{NoMemory, Table};
 
 /// The tables of a tables text.
-pub fn tables_of(alloc: Global, text: &[u8]) -> Result<Vec<Table>, Halt>
+pub fn tables_of(alloc: Global, text: &[u8]) -> Result<Vec<Table>, CallFault>
     requires { length text.now ≤ MAX_TABLES_BYTES }
     ensures are { IfOk result (λ given. TablesOf text.now given.items) }
     ensures tables { IfOk result (λ given. All IsTable given.items) }
-    ensures halt { IfErr result (Halts (RefusesTables text.now) ⊥) }
+    ensures fault { IfErr result (IsFaultOf (RefusesTables text.now) ⊥) }
 {
     match read_tables(alloc, text) {
         Ok(given) => Ok(given),
-        Err(TableFault::NoMemory) => Err(Halt::NoMemory),
-        Err(fault) => Err(Halt::Refused(Refusal::Tables(fault))),
+        Err(TableFault::NoMemory) => Err(CallFault::NoMemory),
+        Err(fault) => Err(CallFault::Refused(Refusal::Tables(fault))),
     }
 }
 
@@ -57,15 +57,15 @@ fn first_missing<'a>(declared: &'a [TableDecl], given: &[Table]) -> Option<&'a [
 }
 
 /// Refuses tables that lack one of a declared input.
-pub fn have_all(alloc: Global, declared: &[TableDecl], given: &[Table]) -> Result<(), Halt>
+pub fn have_all(alloc: Global, declared: &[TableDecl], given: &[Table]) -> Result<(), CallFault>
     ensures complete { OnOk result (first_missing declared.now given.now ≡ None) }
-    ensures halt { IfErr result (Halts (RefusesMissing declared.now given.now) ⊥) }
+    ensures fault { IfErr result (IsFaultOf (RefusesMissing declared.now given.now) ⊥) }
 {
     match first_missing(declared, given) {
         None => Ok(()),
         Some(name) => {
             let name = Vec::from_slice(alloc, name)?;
-            Err(Halt::Refused(Refusal::Missing(name)))
+            Err(CallFault::Refused(Refusal::Missing(name)))
         }
     }
 }

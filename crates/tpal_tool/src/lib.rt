@@ -4,6 +4,11 @@
 //! a count of faults, without which neither may fail. It stands on the front of the compiler, the
 //! machine and the meaning. Start with `tool`, whose contract says what a call writes and answers;
 //! `specs/Owed.antt` has the definitions that it cites.
+//!
+//! `tool` leads a call down one road, and each of its modules names only those before it: `words`,
+//! `fetching`, `parsing`, `judging`, `inputs`, `preparing`, which calls these, `running`, `texts`
+//! and `writing`. What they hand on stands in modules of types alone: `request`, `refusal`,
+//! `prepared`, `answer` and `status`.
 #![tactic(auto)]
 
 mod answer;
@@ -13,8 +18,9 @@ mod inputs;
 mod judging;
 mod lines;
 mod outcome_text;
+mod parsing;
 mod prepared;
-mod reading;
+mod preparing;
 mod refusal;
 mod request;
 mod running;
@@ -24,6 +30,7 @@ mod sink;
 mod sinks;
 mod standard_output;
 mod status;
+mod texts;
 mod tool;
 mod words;
 mod writing;

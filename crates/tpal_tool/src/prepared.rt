@@ -1,13 +1,12 @@
 // A call before anything has run.
 
-use crate::answer::Answer;
 use crate::request::RunOptions;
 use slices::Held;
 use tpal_syntax::Code;
 
 /// A run that is about to begin.
 #[derive(Drop)]
-pub struct Ready {
+pub struct PreparedRun {
     /// The code.
     pub code: Code,
     /// What its first task holds of each table.
@@ -19,8 +18,8 @@ pub struct Ready {
 /// What a call comes to before anything runs.
 #[derive(Drop)]
 pub enum Prepared {
-    /// An answer: nothing has to run.
-    Answered(Answer),
+    /// The code of a program, of which the text was asked for.
+    Compiled(Code),
     /// A run.
-    Ready(Ready),
+    Run(PreparedRun),
 }

@@ -52,7 +52,7 @@ pub enum Refusal {
 
 /// Why a call doesn't come to what its words ask for.
 #[derive(Drop)]
-pub enum Halt {
+pub enum CallFault {
     /// Something is refused.
     Refused(Refusal),
     /// A text could not be read, and the count of its name's faults rose.
@@ -61,24 +61,24 @@ pub enum Halt {
     NoMemory,
 }
 
-impl From<NoMemory> for Halt {
+impl From<NoMemory> for CallFault {
     ghost use Rattle.std.specs.Prelude.{◌≡◌};
-    ghost use Rattle.tpal_tool.specs.declared.refusal.Halt.TheVariants.{NoMemory};
+    ghost use Rattle.tpal_tool.specs.declared.refusal.CallFault.TheVariants.{NoMemory};
 
-    ghost from_gives = { λ _ halt. halt ≡ NoMemory };
+    ghost from_gives = { λ _ fault. fault ≡ NoMemory };
 
     fn from(_error: NoMemory) -> Self {
-        Halt::NoMemory
+        CallFault::NoMemory
     }
 }
 
-impl From<AllocError> for Halt {
+impl From<AllocError> for CallFault {
     ghost use Rattle.std.specs.Prelude.{◌≡◌};
-    ghost use Rattle.tpal_tool.specs.declared.refusal.Halt.TheVariants.{NoMemory};
+    ghost use Rattle.tpal_tool.specs.declared.refusal.CallFault.TheVariants.{NoMemory};
 
-    ghost from_gives = { λ _ halt. halt ≡ NoMemory };
+    ghost from_gives = { λ _ fault. fault ≡ NoMemory };
 
     fn from(_error: AllocError) -> Self {
-        Halt::NoMemory
+        CallFault::NoMemory
     }
 }

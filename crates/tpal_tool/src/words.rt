@@ -2,7 +2,7 @@
 
 ghost use Rattle.std.specs.Prelude.{◌≡◌, ◌≤◌, IfSome, map, option_map, string_bytes};
 ghost use Rattle.tp_value.specs.declared.limits.TheConstants.{MAX_FUEL};
-ghost use Rattle.tpal_tool.specs.Words.{asked, compile_of, is_dashed, is_plain, kind_of, least_of};
+ghost use Rattle.tpal_tool.specs.Words.{asked_by, compile_of, is_dashed, is_plain, kind_of, least_of};
 ghost use Rattle.tpal_tool.specs.Words.{most_of, number_up_to, options_of, run_of, sample_run_of};
 ghost use Rattle.tpal_tool.specs.Words.{seed_of, spelled, value_of, with_number, with_rest};
 ghost use Rattle.tpal_tool.specs.Words.{with_show, with_value, with_word, with_words};
@@ -362,7 +362,7 @@ fn sample_run_of(given: Gathered) -> Option<Request>
 
 /// What the words of a call ask for, or None where they are not of the form.
 pub fn asked(words: &[String]) -> Option<Request<'_>>
-    ensures { option_map command_of result ≡ asked (map string_bytes words.now) }
+    ensures { option_map command_of result ≡ asked_by words.now }
 {
     let (command, rest) = words.split_first()?;
     let given = Gathered {

@@ -4,7 +4,7 @@ use Rattle.tp_value.specs.declared.values.Table.{Table}
 use Rattle.loop_syntax.specs.declared.program.Program.{Program}
 use Rattle.loop_syntax.specs.declared.program.TableDecl.{TableDecl}
 use Rattle.loop_meaning.specs.State.{table_of}
-use Rattle.code_laws.specs.Owing.{AreHeld, IsWholeOf}
+use Rattle.scene_laws.specs.Tables.{AreHeld, IsWholeOf}
 use Rattle.tpal_tool.specs.Inputs.{is_given, without}
 use Rattle.tpal_tool.proofs.Declarations.{SoFar, at_first, input_left, behind_input, behind_made}
 use Rattle.tpal_tool.proofs.Declarations.{at_last}

@@ -4,7 +4,7 @@ use Rattle.std.specs.List.{position, remove}
 use Rattle.slices.specs.Cells.{listed}
 use Rattle.tp_value.specs.declared.values.Table.{Table}
 use Rattle.loop_meaning.specs.State.{table_of}
-use Rattle.code_laws.specs.Owing.{IsTable, IsWholeOf}
+use Rattle.scene_laws.specs.Tables.{IsTable, IsWholeOf}
 use Rattle.block_lower.proofs.HeldTables.{whole_of}
 use Rattle.tpal_tool.proofs.TakenTables.{has_name, place, place_found, place_has, place_taken}
 use Rattle.tpal_tool.proofs.TakenTables.{table_of_all}

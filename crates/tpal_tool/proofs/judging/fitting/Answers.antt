@@ -1,19 +1,19 @@
 use Rattle.std.proofs.Common.{◌≡◌, ap, refl, arith}
-use Rattle.code_laws.specs.Count.{blocks_of_program}
+use Rattle.scene_laws.specs.Count.{blocks_of_program}
 use Rattle.tpal_tool.specs.Lines.{blocks_line}
 use Rattle.tpal_tool.proofs.Soles.{accepted-only, too_many-only}
 use Rattle.tpal_tool.proofs.judging.fitting.Goals as goal
 
 pub returns-then-blocks-clause-accepted : goal.returns-then-blocks-clause-accepted
-returns-then-blocks-clause-accepted c source reads_as =
-    accepted-only source c.args.program reads_as c.requires.unbroken
+returns-then-blocks-clause-accepted c source parses_as =
+    accepted-only source c.args.program parses_as c.requires.unbroken
     (omega (arith, c.if-blocks.true, c.block_count-blocks.ensures))
 
-pub returns-clause-halt : goal.returns-clause-halt
-returns-clause-halt c source reads_as =
+pub returns-clause-fault : goal.returns-clause-fault
+returns-clause-fault c source parses_as =
     let counted : c.block_count-blocks.result ≡ blocks_of_program c.args.program =
     omega (arith, c.block_count-blocks.ensures, c.requires.few) in (
       refl,
-      too_many-only source c.args.program (blocks_line c.block_count-blocks.result) reads_as
+      too_many-only source c.args.program (blocks_line c.block_count-blocks.result) parses_as
           c.requires.unbroken (omega (arith, c.if-blocks.false, counted)) (ap blocks_line counted),
     )

@@ -3,7 +3,7 @@ use Rattle.tpal_tool.specs.Lines.{rule_line}
 use Rattle.tpal_tool.proofs.Soles.{broken-only}
 use Rattle.tpal_tool.proofs.judging.resolved.Goals as goal
 
-pub returns-in-Err-Broken-clause-halt : goal.returns-in-Err-Broken-clause-halt
-returns-in-Err-Broken-clause-halt c source reads_as =
+pub returns-in-Err-Broken-clause-fault : goal.returns-in-Err-Broken-clause-fault
+returns-in-Err-Broken-clause-fault c source parses_as =
     let first = rw c.in-Err-Broken.field-0-is at c.in-Err-Broken.ensures.cause in
-    (refl, broken-only source c.args.program c.in-Err-Broken.rule c.in-Err-Broken.place (rule_line c.in-Err-Broken.rule c.in-Err-Broken.place) reads_as first refl)
+    (refl, broken-only source c.args.program c.in-Err-Broken.rule c.in-Err-Broken.place (rule_line c.in-Err-Broken.rule c.in-Err-Broken.place) parses_as first refl)

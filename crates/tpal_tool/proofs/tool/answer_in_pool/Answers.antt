@@ -1,24 +1,38 @@
-use Rattle.std.proofs.Common.{◌≤◌, ℕ, map, sym, subst}
-use Rattle.std.specs.Prelude.{string_bytes}
-use Rattle.std.specs.Global.{Global}
+use Rattle.std.proofs.Common.{◌≤◌, ℕ, sym, subst}
+use Rattle.tpal_tool.specs.declared.answer.Answer.{Answer}
 use Rattle.tpal_tool.specs.declared.prepared.Prepared.{Prepared}
+use Rattle.tpal_tool.specs.declared.prepared.Prepared.TheVariants.{Compiled}
+use Rattle.tpal_tool.specs.declared.status.Status.{Status}
+use Rattle.tpal_tool.specs.Answering.{whole_of}
+use Rattle.tpal_tool.specs.Asking.{options_seen}
 use Rattle.tpal_tool.specs.Owed.{Owed}
-use Rattle.tpal_tool.specs.Preparing.{HasWorkers, Prepares}
-use Rattle.tpal_tool.specs.Words.{asked, workers_asked}
+use Rattle.tpal_tool.specs.Preparing.{HasWorkers, IsPreparedFor, Prepares}
+use Rattle.tpal_tool.specs.Words.{asked_by, workers_asked}
+use Rattle.tpal_tool.proofs.Finishing.{ended-owed}
 use Rattle.tpal_tool.proofs.tool.answer_in_pool.Goals as goal
 
-pub returns-in-Answered-clause-answer : goal.returns-in-Answered-clause-answer
-returns-in-Answered-clause-answer g c =
-    subst (λ (p : Prepared). Prepares (Owed (asked (map (string_bytes {Z = Global}) c.args.words.now)) (g.S.Shelf.text c.args.shelf.now)) p) c.in-Answered.is c.in_ok-answer.ensures.prepared
+pub returns-in_ok-compiled-in-Compiled-clause-answer : goal.returns-in_ok-compiled-in-Compiled-clause-answer
+returns-in_ok-compiled-in-Compiled-clause-answer g c =
+    let answer : Answer = c.in_ok-compiled-in-Compiled.field-0 in
+    let owed : Prepares (Owed (asked_by c.args.words.now) (g.S.Shelf.text c.args.shelf.now)) (Compiled c.in-Compiled.code) =
+    subst (λ (p : Prepared). Prepares (Owed (asked_by c.args.words.now) (g.S.Shelf.text c.args.shelf.now)) p) c.in-Compiled.is c.in_ok-code.ensures.prepared in
+    subst (λ (s : Status). Owed (asked_by c.args.words.now) (g.S.Shelf.text c.args.shelf.now) s (whole_of answer.texts)) (sym c.in_ok-compiled-in-Compiled.ensures.status)
+    (owed (whole_of answer.texts) c.in_ok-compiled-in-Compiled.ensures.text)
 
 pub run_in_pool-requires-clause-many : goal.run_in_pool-requires-clause-many
 run_in_pool-requires-clause-many g c = λ lifetimes outlive.
-    subst (λ (n : ℕ). 2 ≤ n) (sym (subst (λ (p : Prepared). HasWorkers (workers_asked (asked (map (string_bytes {Z = Global}) c.args.words.now))) p) c.in-Ready.is c.in_ok-answer.ensures.workers)) c.requires
+    subst (λ (n : ℕ). 2 ≤ n) (sym (subst (λ (p : Prepared). HasWorkers (workers_asked (asked_by c.args.words.now)) p) c.in-Run.is c.in_ok-code.ensures.workers)) c.requires
 
-pub run_in_pool-requires-clause-ready : goal.run_in_pool-requires-clause-ready
-run_in_pool-requires-clause-ready g c = λ lifetimes outlive.
-    (asked (map (string_bytes {Z = Global}) c.args.words.now), g.S.Shelf.text c.args.shelf.now, subst (λ (p : Prepared). Prepares (Owed (asked (map (string_bytes {Z = Global}) c.args.words.now)) (g.S.Shelf.text c.args.shelf.now)) p) c.in-Ready.is c.in_ok-answer.ensures.prepared)
+pub run_in_pool-requires-clause-first : goal.run_in_pool-requires-clause-first
+run_in_pool-requires-clause-first g c = λ lifetimes outlive.
+    let prepared : IsPreparedFor (Owed (asked_by c.args.words.now) (g.S.Shelf.text c.args.shelf.now)) c.in-Run.prepared.code c.in-Run.prepared.held.items (options_seen c.in-Run.prepared.options) =
+    subst (λ (p : Prepared). Prepares (Owed (asked_by c.args.words.now) (g.S.Shelf.text c.args.shelf.now)) p) c.in-Run.is c.in_ok-code.ensures.prepared in
+    (prepared.program, prepared.inputs, prepared.first)
 
-pub returns-in_ok-run_in_pool-in-Ready-clause-answer : goal.returns-in_ok-run_in_pool-in-Ready-clause-answer
-returns-in_ok-run_in_pool-in-Ready-clause-answer g c =
-    c.in_ok-run_in_pool-in-Ready.ensures (asked (map (string_bytes {Z = Global}) c.args.words.now)) (g.S.Shelf.text c.args.shelf.now) (subst (λ (p : Prepared). Prepares (Owed (asked (map (string_bytes {Z = Global}) c.args.words.now)) (g.S.Shelf.text c.args.shelf.now)) p) c.in-Ready.is c.in_ok-answer.ensures.prepared)
+pub returns-in_ok-ran-in-Run-clause-answer : goal.returns-in_ok-ran-in-Run-clause-answer
+returns-in_ok-ran-in-Run-clause-answer g c =
+    let prepared : IsPreparedFor (Owed (asked_by c.args.words.now) (g.S.Shelf.text c.args.shelf.now)) c.in-Run.prepared.code c.in-Run.prepared.held.items (options_seen c.in-Run.prepared.options) =
+    subst (λ (p : Prepared). Prepares (Owed (asked_by c.args.words.now) (g.S.Shelf.text c.args.shelf.now)) p) c.in-Run.is c.in_ok-code.ensures.prepared in
+    ended-owed c.in-Run.prepared.code c.in-Run.prepared.held.items (options_seen c.in-Run.prepared.options) prepared c.in_ok-ended-in-Run.ended
+    (c.in_ok-ended-in-Run.ensures prepared.program prepared.inputs prepared.first) c.in_ok-ran-in-Run.field-0
+    c.in_ok-ran-in-Run.ensures.status c.in_ok-ran-in-Run.ensures.plain c.in_ok-ran-in-Run.ensures.shown

@@ -1,15 +1,15 @@
--- Why a part of a call halts, and why the whole does.
+-- Why a part of a call is_fault, and why the whole does.
 use Rattle.std.proofs.Common.{◌≡◌, ◌≤◌, ℕ, List, length, refl, sym, subst}
 use Rattle.std.specs.Prelude.{Option, Some, None, Result, Ok, Err, IfErr, IfSome}
 use Rattle.tp_value.specs.declared.limits.TheConstants.{MAX_SOURCE_BYTES}
 use Rattle.tp_value.specs.declared.values.Table.{Table}
 use Rattle.loop_syntax.specs.declared.program.Program.{Program}
 use Rattle.table_text.specs.TablesText.{TablesOf}
-use Rattle.tpal_tool.specs.declared.refusal.Halt.{Halt}
-use Rattle.tpal_tool.specs.declared.refusal.Halt.TheVariants.{Refused, ReadFailed, NoMemory}
+use Rattle.tpal_tool.specs.declared.refusal.CallFault.{CallFault}
+use Rattle.tpal_tool.specs.declared.refusal.CallFault.TheVariants.{Refused, ReadFailed, NoMemory}
 use Rattle.tpal_tool.specs.declared.refusal.Refusal.{Refusal}
 use Rattle.tpal_tool.specs.declared.status.Status.{Status}
-use Rattle.tpal_tool.specs.Answering.{Halts, OwesRefusal, RefusesLength, RefusesMissing}
+use Rattle.tpal_tool.specs.Answering.{IsFaultOf, OwesRefusal, RefusesLength, RefusesMissing}
 use Rattle.tpal_tool.specs.Answering.{RefusesSource, RefusesTables, RefusesTablesLength}
 use Rattle.tpal_tool.specs.Answering.{status_with}
 use Rattle.tpal_tool.specs.Lines.{line_of}
@@ -18,11 +18,11 @@ use Rattle.tpal_tool.specs.Told.{told_source}
 use Rattle.tpal_tool.specs.Words.{Command, Options, program_name}
 use Rattle.tpal_tool.proofs.Endings.{refused-owed, too_long-owed}
 
--- what halts a part halts the whole
-pub halts_more : {R S : Refusal → Type 0} {C D : Type 0} (h : Halt) → ((r : Refusal) → R r → S r) → (C → D) → Halts R C h → Halts S D h
-halts_more (Refused r) more cause halts = more r halts
-halts_more ReadFailed more cause halts = cause halts
-halts_more NoMemory more cause halts = tt
+-- what is_fault a part is_fault the whole
+pub fault_more : {R S : Refusal → Type 0} {C D : Type 0} (h : CallFault) → ((r : Refusal) → R r → S r) → (C → D) → IsFaultOf R C h → IsFaultOf S D h
+fault_more (Refused r) more cause is_fault = more r is_fault
+fault_more ReadFailed more cause is_fault = cause is_fault
+fault_more NoMemory more cause is_fault = tt
 
 -- what an error gives gives more
 pub err_map : {A E : Type 0} (r : Result A E) {P Q : E → Type 0} → ((e : E) → P e → Q e) → IfErr r P → IfErr r Q
