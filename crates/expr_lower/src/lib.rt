@@ -20,6 +20,3 @@ pub use registers::{BASE, LAST_LEFT, VALUES};
 pub use scope::{Scope, home_of, offset_of, register_of, table_number};
 pub use sizes::trap_count;
 pub use traps::{name_of, push_trap};
-
-#[cfg(test)]
-mod tests;

@@ -28,6 +28,3 @@ pub use registers::{
     BACK, CUT, LEAF_BOUND, LEAF_CURSOR, LEAF_FIRST_ACC, MIDDLE, NEXT, OTHER_RECORD, RECORD, SPLIT,
     TEST,
 };
-
-#[cfg(test)]
-mod tests;

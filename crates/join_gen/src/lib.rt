@@ -11,6 +11,3 @@ mod loops;
 pub use calls::call_join;
 pub use leaves::leaf_join;
 pub use loops::{alu_of, loop_join};
-
-#[cfg(test)]
-mod tests;

@@ -1,11 +1,10 @@
-// Codes that are made, and codes that are refused.
+// Codes that are made, with their ops: which instructions stand together in one, and which only look
+// so. Which lists are a code is told by cases of `tests_conformance`.
 
 use std::alloc::Global;
 use std::test::Fail;
-use tp_value::{Items, NoMemory, Place};
-use tpal_syntax::{
-    Alu, Block, CarryAt, Code, CodeTable, CutKind, Instr, Note, Op, Span, Target, Term, Value,
-};
+use tp_value::{Items, NoMemory};
+use tpal_syntax::{Alu, Block, Code, CodeTable, Instr, Note, Op, OpRange, Term, Value};
 
 fn block(
     alloc: Global,
@@ -20,136 +19,6 @@ fn block(
         body: Items::new(Vec::from_slice(alloc, body)?),
         term,
     })
-}
-
-// Whether one block, beside a plain block `last` at label 1, makes a code.
-fn makes(
-    alloc: Global,
-    name: &[u8],
-    note: Note,
-    body: &[Instr],
-    term: Term,
-) -> Result<bool, NoMemory> {
-    let mut blocks = Vec::new(alloc);
-    blocks.push(block(alloc, name, note, body, term)?)?;
-    blocks.push(block(alloc, b"last", Note::Plain, &[], Term::Halt)?)?;
-    let mut tables = Vec::new(alloc);
-    tables.push(CodeTable::Made)?;
-    Ok(Code::new(alloc, tables, blocks)?.is_some())
-}
-
-#[test]
-fn names_are_words(rt: HostRuntime) -> Result<(), Fail> {
-    let cases: [(&[u8], bool); 6] = [
-        (b"main", true),
-        (b"_9", true),
-        (b"", false),
-        (b"9a", false),
-        (b"a-b", false),
-        (b"last", false),
-    ];
-    for (name, good) in cases {
-        let made = makes(rt.alloc(), name, Note::Plain, &[], Term::Halt)?;
-        assert_eq!(rt; made, good);
-    }
-    Ok(())
-}
-
-#[test]
-fn parts_are_in_range(rt: HostRuntime) -> Result<(), Fail> {
-    let cases = [
-        (Instr::Print(31), true),
-        (Instr::Print(32), false),
-        (Instr::Emit(0), true),
-        (Instr::Emit(1), false),
-        (Instr::Salloc(512), true),
-        (Instr::Salloc(513), false),
-        (Instr::PrmPop { base: 0, off: 511 }, true),
-        (Instr::PrmPop { base: 0, off: 512 }, false),
-        (Instr::Fork { rec: 0, child: 1 }, true),
-        (Instr::Fork { rec: 0, child: 2 }, false),
-        (
-            Instr::Move {
-                to: 0,
-                value: Value::Label(2),
-            },
-            false,
-        ),
-    ];
-    for (instr, good) in cases {
-        let made = makes(rt.alloc(), b"main", Note::Plain, &[instr], Term::Halt)?;
-        assert_eq!(rt; made, good);
-    }
-    Ok(())
-}
-
-#[test]
-fn places_count_from_one(rt: HostRuntime) -> Result<(), Fail> {
-    let place = Place { line: 0, col: 1 };
-    let body = [Instr::Make {
-        table: 0,
-        rows: 0,
-        cols: 0,
-        place,
-    }];
-    assert_eq!(rt;
-        makes(rt.alloc(), b"main", Note::Plain, &body, Term::Halt)?,
-        false
-    );
-    Ok(())
-}
-
-#[test]
-fn handlers_are_not_ready(rt: HostRuntime) -> Result<(), Fail> {
-    let cases = [(0, false), (1, true), (2, false)];
-    for (handler, good) in cases {
-        let made = makes(rt.alloc(), b"main", Note::Ready(handler), &[], Term::Halt)?;
-        assert_eq!(rt; made, good);
-    }
-    Ok(())
-}
-
-fn target(alloc: Global, renames: &[(u8, u8)], carries: &[CarryAt]) -> Result<Note, NoMemory> {
-    Ok(Note::Target(Target {
-        comm: false,
-        renames: Items::new(Vec::from_slice(alloc, renames)?),
-        comb: 1,
-        kind: CutKind::Loop,
-        carries: Items::new(Vec::from_slice(alloc, carries)?),
-    }))
-}
-
-#[test]
-fn renamings_stand_once(rt: HostRuntime) -> Result<(), Fail> {
-    let cases = [
-        ([(0, 1), (2, 3)], true),
-        ([(0, 1), (0, 3)], false),
-        ([(0, 1), (2, 1)], false),
-        ([(0, 1), (1, 3)], false),
-        ([(0, 1), (2, 30)], false),
-        ([(0, 1), (31, 2)], false),
-        ([(0, 1), (2, 2)], false),
-    ];
-    for (renames, good) in cases {
-        let note = target(rt.alloc(), &renames, &[])?;
-        assert_eq!(rt; makes(rt.alloc(), b"main", note, &[], Term::Halt)?, good);
-    }
-    Ok(())
-}
-
-#[test]
-fn carried_tables_stand_once(rt: HostRuntime) -> Result<(), Fail> {
-    let row = CarryAt::Rows { table: 0, at: 1 };
-    let cell = CarryAt::Cells {
-        table: 0,
-        row: 2,
-        at: 1,
-    };
-    let once = target(rt.alloc(), &[], &[cell])?;
-    assert_eq!(rt; makes(rt.alloc(), b"main", once, &[], Term::Halt)?, true);
-    let twice = target(rt.alloc(), &[], &[row, cell])?;
-    assert_eq!(rt; makes(rt.alloc(), b"main", twice, &[], Term::Halt)?, false);
-    Ok(())
 }
 
 #[test]
@@ -185,8 +54,8 @@ fn blocks_are_ops(rt: HostRuntime) -> Result<(), Fail> {
     let flat = code.flat();
     let ops = [Op::SubInt(1, 2, -5), Op::Leave, Op::Jump(1), Op::Leave];
     assert_eq!(rt; flat.ops.as_slice(), ops.as_slice());
-    let spans = [Span { start: 0, end: 3 }, Span { start: 3, end: 4 }];
-    assert_eq!(rt; flat.spans.as_slice(), spans.as_slice());
+    let ranges = [OpRange { start: 0, end: 3 }, OpRange { start: 3, end: 4 }];
+    assert_eq!(rt; flat.ranges.as_slice(), ranges.as_slice());
     assert_eq!(rt; flat.doors[1].end, usize::MAX);
     Ok(())
 }
@@ -254,7 +123,8 @@ fn numbers_and_stores_are_one_op(rt: HostRuntime) -> Result<(), Fail> {
     let other = store(31, 7, Value::Reg(0));
     let down = calc(31, 31, Alu::Sub, Value::Int(6));
     let own = store(31, 7, Value::Reg(31));
-    let cases: [(&[Instr], Op); 12] = [
+    let (zero, far) = (Value::Int(0), Value::Int(128));
+    let cases: [(&[Instr], Op); 23] = [
         (&[sum, kept], Op::AddRegStore(2, 0, 1, 7)),
         (&[sum, other], Op::AddReg(2, 0, 1)),
         (&[more, kept], Op::AddIntStore(2, 0, -9, 7)),
@@ -267,34 +137,36 @@ fn numbers_and_stores_are_one_op(rt: HostRuntime) -> Result<(), Fail> {
         (&[Instr::Sfree(6), down, own], Op::FreeSub(6)),
         (&[Instr::Sfree(7), down], Op::Sfree(7)),
         (&[Instr::Sfree(6), kept], Op::Sfree(6)),
-    ];
-    for (body, op) in cases {
-        assert_eq!(rt; first_op(rt.alloc(), body, Term::Halt)?, Some(op));
-    }
-    Ok(())
-}
-
-#[test]
-fn a_kept_sum_is_one_op(rt: HostRuntime) -> Result<(), Fail> {
-    let sum = calc(2, 0, Alu::Add, Value::Reg(1));
-    let kept = store(31, 7, Value::Reg(2));
-    let cases = [
-        ([sum, kept, load(2, 31, 7)], Op::AddRegKeep(2, 0, 1, 7)),
-        ([sum, kept, load(2, 31, 8)], Op::AddRegStore(2, 0, 1, 7)),
-        ([sum, kept, load(3, 31, 7)], Op::AddRegStore(2, 0, 1, 7)),
-        ([sum, kept, load(2, 30, 7)], Op::AddRegStore(2, 0, 1, 7)),
-        ([sum, load(2, 31, 7), kept], Op::AddReg(2, 0, 1)),
+        (&[sum, kept, load(2, 31, 7)], Op::AddRegKeep(2, 0, 1, 7)),
+        (&[sum, kept, load(2, 31, 8)], Op::AddRegStore(2, 0, 1, 7)),
+        (&[sum, kept, load(3, 31, 7)], Op::AddRegStore(2, 0, 1, 7)),
+        (&[sum, kept, load(2, 30, 7)], Op::AddRegStore(2, 0, 1, 7)),
+        (&[sum, load(2, 31, 7), kept], Op::AddReg(2, 0, 1)),
         (
-            [
+            &[
                 calc(31, 0, Alu::Add, Value::Reg(1)),
                 store(31, 7, Value::Reg(31)),
                 load(31, 31, 7),
             ],
             Op::AddRegStore(31, 0, 1, 7),
         ),
+        (
+            &[store(31, 7, zero), store(31, 9, Value::Int(-128))],
+            Op::StoreInts(0, -128, 7, 9),
+        ),
+        (&[store(31, 7, zero), store(31, 9, far)], Op::StoreInt(7, 0)),
+        (
+            &[store(31, 7, far), store(31, 9, zero)],
+            Op::StoreInt(7, 128),
+        ),
+        (
+            &[store(31, 7, zero), store(30, 9, zero)],
+            Op::StoreInt(7, 0),
+        ),
+        (&[store(30, 7, zero), store(31, 9, zero)], Op::Leave),
     ];
     for (body, op) in cases {
-        assert_eq!(rt; first_op(rt.alloc(), &body, Term::Halt)?, Some(op));
+        assert_eq!(rt; first_op(rt.alloc(), body, Term::Halt)?, Some(op));
     }
     Ok(())
 }
@@ -462,44 +334,29 @@ fn ends_are_joined(rt: HostRuntime) -> Result<(), Fail> {
 }
 
 #[test]
-fn two_numbers_are_stored_by_one_op(rt: HostRuntime) -> Result<(), Fail> {
-    let (zero, far) = (Value::Int(0), Value::Int(128));
-    let cases: [(&[Instr], Op); 5] = [
-        (
-            &[store(31, 7, zero), store(31, 9, Value::Int(-128))],
-            Op::StoreInts(0, -128, 7, 9),
-        ),
-        (&[store(31, 7, zero), store(31, 9, far)], Op::StoreInt(7, 0)),
-        (
-            &[store(31, 7, far), store(31, 9, zero)],
-            Op::StoreInt(7, 128),
-        ),
-        (
-            &[store(31, 7, zero), store(30, 9, zero)],
-            Op::StoreInt(7, 0),
-        ),
-        (&[store(30, 7, zero), store(31, 9, zero)], Op::Leave),
-    ];
-    for (body, op) in cases {
-        assert_eq!(rt; first_op(rt.alloc(), body, Term::Halt)?, Some(op));
-    }
-    Ok(())
-}
-
-#[test]
-fn a_way_back_and_its_store_are_one_op(rt: HostRuntime) -> Result<(), Fail> {
+fn marks_are_ops_with_ways_back(rt: HostRuntime) -> Result<(), Fail> {
     let down = calc(31, 31, Alu::Sub, Value::Int(40));
     let up = calc(31, 31, Alu::Sub, Value::Int(-1));
     let mark = Instr::PrmPop { base: 31, off: 3 };
     let other = Instr::PrmPop { base: 30, off: 3 };
     let kept = store(31, 5, Value::Reg(2));
     let own = store(31, 5, Value::Reg(31));
-    let cases: [(&[Instr], Op); 5] = [
+    let push = Instr::PrmPush {
+        base: 31,
+        off: 2,
+        cells: 6,
+        split: 1,
+    };
+    let cases: [(&[Instr], Op); 9] = [
         (&[down, mark, kept], Op::BackStore(2, 40, 3, 5)),
         (&[down, mark, own], Op::SubInt(31, 31, 40)),
         (&[down, other, kept], Op::SubInt(31, 31, 40)),
         (&[down, kept, mark], Op::SubInt(31, 31, 40)),
         (&[up, mark, kept], Op::SubInt(31, 31, -1)),
+        (&[push], Op::PrmPush(2, 6, 1)),
+        (&[Instr::PrmPop { base: 31, off: 2 }], Op::PrmPop(2)),
+        (&[Instr::PrmPop { base: 30, off: 2 }], Op::Leave),
+        (&[Instr::PrmDrop], Op::Leave),
     ];
     for (body, op) in cases {
         assert_eq!(rt; first_op(rt.alloc(), body, Term::Halt)?, Some(op));
@@ -508,23 +365,7 @@ fn a_way_back_and_its_store_are_one_op(rt: HostRuntime) -> Result<(), Fail> {
 }
 
 #[test]
-fn a_tick_and_its_test_are_one_op(rt: HostRuntime) -> Result<(), Fail> {
-    let tick = Instr::Tick;
-    let levels = load(2, 31, 7);
-    let cases: [(&[Instr], Op); 4] = [
-        (&[tick, levels, if_jump(2, 1)], Op::TickTest(2, 7, 1)),
-        (&[tick, levels, if_jump(3, 1)], Op::TickLoad(2, 7)),
-        (&[tick, load(2, 30, 7), if_jump(2, 1)], Op::Tick),
-        (&[tick, if_jump(2, 1)], Op::Tick),
-    ];
-    for (body, op) in cases {
-        assert_eq!(rt; first_op(rt.alloc(), body, Term::Halt)?, Some(op));
-    }
-    Ok(())
-}
-
-#[test]
-fn ticks_and_loads_are_one_op(rt: HostRuntime) -> Result<(), Fail> {
+fn ticks_are_one_op_with_loads_and_tests(rt: HostRuntime) -> Result<(), Fail> {
     let tick = Instr::Tick;
     let cell = load(2, 31, 7);
     let own = load(31, 31, 7);
@@ -532,7 +373,7 @@ fn ticks_and_loads_are_one_op(rt: HostRuntime) -> Result<(), Fail> {
     let more = calc(2, 2, Alu::Add, Value::Int(1));
     let kept = store(31, 7, Value::Reg(2));
     let halt = Term::Halt;
-    let cases: [(&[Instr], Term, Op); 9] = [
+    let cases: [(&[Instr], Term, Op); 13] = [
         (&[tick, cell], halt, Op::TickLoad(2, 7)),
         (&[tick, cell, more], halt, Op::TickLoad(2, 7)),
         (&[tick, cell, load(3, 30, 8)], halt, Op::TickLoad(2, 7)),
@@ -542,6 +383,10 @@ fn ticks_and_loads_are_one_op(rt: HostRuntime) -> Result<(), Fail> {
         (&[tick, cell, more, kept], halt, Op::Tick),
         (&[tick, cell, second], Term::Jump(Value::Reg(3)), Op::Tick),
         (&[tick, load(2, 30, 7), second], halt, Op::Tick),
+        (&[tick, cell, if_jump(2, 1)], halt, Op::TickTest(2, 7, 1)),
+        (&[tick, cell, if_jump(3, 1)], halt, Op::TickLoad(2, 7)),
+        (&[tick, load(2, 30, 7), if_jump(2, 1)], halt, Op::Tick),
+        (&[tick, if_jump(2, 1)], halt, Op::Tick),
     ];
     for (body, term, op) in cases {
         assert_eq!(rt; first_op(rt.alloc(), body, term)?, Some(op));
@@ -707,11 +552,21 @@ fn op_before(alloc: Global, first: &[Instr], access: [Instr; 10]) -> Result<Opti
     first_op(alloc, body.as_slice(), Term::Halt)
 }
 
+const fn set(to: u8, number: i64) -> Instr {
+    Instr::Move {
+        to,
+        value: Value::Int(number),
+    }
+}
+
+// A read with its column loaded or the number 0 as its row before it; a write is joined with neither.
 #[test]
-fn a_column_and_its_read_are_one_op(rt: HostRuntime) -> Result<(), Fail> {
+fn accesses_are_one_op_with_what_they_need(rt: HostRuntime) -> Result<(), Fail> {
     let (tick, cell, col) = (Instr::Tick, load(5, 31, 7), load(1, 31, 8));
     let near = read(0, 1, 2);
-    let cases: [(&[Instr], [Instr; 10], Op); 12] = [
+    let mut write = near;
+    write[9] = put(1, 0, 1, 3);
+    let cases: [(&[Instr], [Instr; 10], Op); 20] = [
         (&[col], near, Op::LoadRead(3, 1, 0, 1, 8, 1)),
         (&[col], read(1, 1, 2), Op::LoadRead(3, 1, 1, 1, 8, 1)),
         (&[load(1, 31, 255)], near, Op::LoadRead(3, 1, 0, 1, 255, 1)),
@@ -728,64 +583,17 @@ fn a_column_and_its_read_are_one_op(rt: HostRuntime) -> Result<(), Fail> {
         (&[cell, col], near, Op::Load(5, 7)),
         (&[tick, cell, col], near, Op::TickLoad(5, 7)),
         (&[tick, col], near, Op::Tick),
+        (&[set(0, 0)], read(0, 1, 4), Op::ZeroRead(3, 1, 0, 1, 4, 1)),
+        (&[set(0, 0)], read(0, 1, 2), Op::ZeroRead(3, 1, 0, 1, 2, 1)),
+        (&[set(0, 0)], read(0, 0, 4), Op::ZeroRead(3, 1, 0, 0, 4, 1)),
+        (&[set(0, 1)], read(0, 1, 4), Op::MoveInt(0, 1)),
+        (&[set(1, 0)], read(0, 1, 4), Op::MoveInt(1, 0)),
+        (&[set(4, 0)], read(4, 1, 4), Op::MoveInt(4, 0)),
+        (&[col], write, Op::Load(1, 8)),
+        (&[set(0, 0)], write, Op::MoveInt(0, 0)),
     ];
     for (first, access, op) in cases {
         assert_eq!(rt; op_before(rt.alloc(), first, access)?, Some(op));
-    }
-    Ok(())
-}
-
-#[test]
-fn a_row_of_zero_and_its_read_are_one_op(rt: HostRuntime) -> Result<(), Fail> {
-    let cases = [
-        (0, 0, read(0, 1, 4), Op::ZeroRead(3, 1, 0, 1, 4, 1)),
-        (0, 0, read(0, 1, 2), Op::ZeroRead(3, 1, 0, 1, 2, 1)),
-        (0, 0, read(0, 0, 4), Op::ZeroRead(3, 1, 0, 0, 4, 1)),
-        (0, 1, read(0, 1, 4), Op::MoveInt(0, 1)),
-        (1, 0, read(0, 1, 4), Op::MoveInt(1, 0)),
-        (4, 0, read(4, 1, 4), Op::MoveInt(4, 0)),
-    ];
-    for (to, number, access, op) in cases {
-        let row = Instr::Move {
-            to,
-            value: Value::Int(number),
-        };
-        assert_eq!(rt; op_before(rt.alloc(), &[row], access)?, Some(op));
-    }
-    Ok(())
-}
-
-#[test]
-fn a_write_is_joined_with_nothing_before_it(rt: HostRuntime) -> Result<(), Fail> {
-    let mut write = read(0, 1, 2);
-    write[9] = put(1, 0, 1, 3);
-    let row = Instr::Move {
-        to: 0,
-        value: Value::Int(0),
-    };
-    let cases = [(load(1, 31, 8), Op::Load(1, 8)), (row, Op::MoveInt(0, 0))];
-    for (first, op) in cases {
-        assert_eq!(rt; op_before(rt.alloc(), &[first], write)?, Some(op));
-    }
-    Ok(())
-}
-
-#[test]
-fn marks_are_ops(rt: HostRuntime) -> Result<(), Fail> {
-    let mark = Instr::PrmPush {
-        base: 31,
-        off: 2,
-        cells: 6,
-        split: 1,
-    };
-    let cases = [
-        (mark, Op::PrmPush(2, 6, 1)),
-        (Instr::PrmPop { base: 31, off: 2 }, Op::PrmPop(2)),
-        (Instr::PrmPop { base: 30, off: 2 }, Op::Leave),
-        (Instr::PrmDrop, Op::Leave),
-    ];
-    for (instr, op) in cases {
-        assert_eq!(rt; first_op(rt.alloc(), &[instr], Term::Halt)?, Some(op));
     }
     Ok(())
 }

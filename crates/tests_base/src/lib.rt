@@ -1,7 +1,7 @@
-//! Tests of what the machine stands on, by public calls alone: codes that are made or refused, the
-//! ops that instructions become, tables that are cut and put together again, and stacks with marks.
-//! It stands on the crates that it tests and has no code of its own, so that proving a test proves
-//! none of their laws again.
+//! Tests of what the machine stands on, by public calls alone: the ops that instructions become,
+//! tables that are cut and put together again, and stacks with marks. It stands on the crates that
+//! it tests and has no code of its own, so that proving a test proves none of their laws again.
+//! Which lists are a code is told by cases of `tests_conformance`.
 #![tactic(auto)]
 
 #[cfg(test)]

@@ -146,6 +146,7 @@ const fn turn(cursor: u16) -> [Instr; 8] {
 
 #[test]
 fn a_next_iteration_is_one_op(rt: HostRuntime) -> Result<(), Fail> {
+    // What stands there where it calculates otherwise.
     let start = Op::LoadTwo(1, 0, 5, 6);
     let cases = [
         (0, load(1, 31, 4), Op::LoadTwo(1, 0, 4, 6)),
@@ -165,6 +166,20 @@ fn a_next_iteration_is_one_op(rt: HostRuntime) -> Result<(), Fail> {
         (7, if_jump(2, 0), Op::NextTurn(5, 6, 7, 0)),
         (7, if_jump(3, 1), start),
         (7, Instr::Tick, start),
+        (2, calc(3, 0, Alu::Sub, Value::Reg(1)), start),
+        (2, calc(3, 1, Alu::Sub, Value::Reg(2)), start),
+        (2, calc(3, 1, Alu::Sub, Value::Int(0)), start),
+        (2, calc(3, 1, Alu::Add, Value::Reg(0)), start),
+        (2, calc(4, 1, Alu::Sub, Value::Reg(0)), start),
+        (4, calc(1, 1, Alu::Add, Value::Int(2)), start),
+        (4, calc(1, 1, Alu::Sub, Value::Int(1)), start),
+        (4, calc(1, 1, Alu::Add, Value::Reg(1)), start),
+        (4, calc(1, 0, Alu::Add, Value::Int(1)), start),
+        (4, calc(0, 0, Alu::Add, Value::Int(1)), start),
+        (6, calc(2, 3, Alu::Lt, Value::Int(0)), start),
+        (6, calc(2, 3, Alu::Le, Value::Int(-1)), start),
+        (6, calc(2, 1, Alu::Lt, Value::Int(-1)), start),
+        (6, calc(4, 3, Alu::Lt, Value::Int(-1)), start),
     ];
     for (at, other, op) in cases {
         let mut body = turn(5);
@@ -172,37 +187,6 @@ fn a_next_iteration_is_one_op(rt: HostRuntime) -> Result<(), Fail> {
             *changed = other;
         }
         assert_eq!(rt; op_of(rt.alloc(), &body)?, Some(op));
-    }
-    Ok(())
-}
-
-// A next iteration begins with two loads: these are what stands there where it calculates
-// otherwise.
-#[test]
-fn another_calculation_is_no_next_iteration(rt: HostRuntime) -> Result<(), Fail> {
-    let cases = [
-        (2, calc(3, 0, Alu::Sub, Value::Reg(1))),
-        (2, calc(3, 1, Alu::Sub, Value::Reg(2))),
-        (2, calc(3, 1, Alu::Sub, Value::Int(0))),
-        (2, calc(3, 1, Alu::Add, Value::Reg(0))),
-        (2, calc(4, 1, Alu::Sub, Value::Reg(0))),
-        (4, calc(1, 1, Alu::Add, Value::Int(2))),
-        (4, calc(1, 1, Alu::Sub, Value::Int(1))),
-        (4, calc(1, 1, Alu::Add, Value::Reg(1))),
-        (4, calc(1, 0, Alu::Add, Value::Int(1))),
-        (4, calc(0, 0, Alu::Add, Value::Int(1))),
-        (6, calc(2, 3, Alu::Lt, Value::Int(0))),
-        (6, calc(2, 3, Alu::Le, Value::Int(-1))),
-        (6, calc(2, 1, Alu::Lt, Value::Int(-1))),
-        (6, calc(4, 3, Alu::Lt, Value::Int(-1))),
-    ];
-    for (at, other) in cases {
-        let mut body = turn(5);
-        if let Some(changed) = body.get_mut(at) {
-            *changed = other;
-        }
-        let loads = Op::LoadTwo(1, 0, 5, 6);
-        assert_eq!(rt; op_of(rt.alloc(), &body)?, Some(loads));
     }
     Ok(())
 }

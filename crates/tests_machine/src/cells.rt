@@ -1,36 +1,12 @@
 // What compiled code does with cells: ops do what their instructions do one at a time, where
 // numbers wrap too, and end at the same faults.
 
-ghost use Rattle.std.specs.Prelude.{◌≤◌};
-
 use crate::codes::set;
 use crate::loops::{fault_in, nil};
-use crate::ops::{TO_BOTH, TO_SIDE, calc, ended, load, number_at, store, test};
-use std::alloc::Global;
+use crate::ops::{TO_BOTH, TO_SIDE, calc, load, number_at, output_of, store};
 use std::test::Fail;
-use tp_value::{Items, NoMemory};
 use tpal_machine::Fault;
-use tpal_syntax::{Alu, Instr, Term, Value};
-
-// The output of a code with this main and side, where that is the same in turns of 100
-// instructions and of one, after as many.
-fn output_of(
-    alloc: Global,
-    main: &[Instr],
-    end: Term,
-    side: &[Instr],
-) -> Result<Option<Items<u8>>, NoMemory> {
-    let Some((steps, outcome)) = ended(alloc, main, end, side, 100)? else {
-        return Ok(None);
-    };
-    let Some((alone, slowly)) = ended(alloc, main, end, side, 1)? else {
-        return Ok(None);
-    };
-    if alone != steps || slowly.output.items() != outcome.output.items() {
-        return Ok(None);
-    }
-    Ok(Some(outcome.output))
-}
+use tpal_syntax::{Alu, Instr, Value};
 
 // Two cells and their sum in another, so far from where register 31 points.
 const fn sum(first: Instr, second: Instr, off: u16) -> [Instr; 8] {

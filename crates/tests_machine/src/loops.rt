@@ -4,7 +4,7 @@
 ghost use Rattle.std.specs.Prelude.{◌≤◌};
 
 use crate::codes::{ROWS, code_of, fault_from, set, tables_of};
-use crate::ops::{TO_BOTH, TO_SIDE, calc, ended, load, number_at, store, test};
+use crate::ops::{TO_BOTH, TO_SIDE, calc, load, number_at, output_of, store, test};
 use std::alloc::Global;
 use std::test::Fail;
 use tp_value::NoMemory;
@@ -48,11 +48,8 @@ fn a_sum_gets_a_product(rt: HostRuntime) -> Result<(), Fail> {
         ),
     ];
     for (main, wanted) in cases {
-        let (steps, outcome) = ended(alloc, &main, TO_BOTH, &[], 100)?.expect(&rt, "an end");
-        assert_eq!(rt; outcome.output.items(), wanted);
-        let (alone, slowly) = ended(alloc, &main, TO_BOTH, &[], 1)?.expect(&rt, "an end");
-        assert_eq!(rt; slowly.output.items(), wanted);
-        assert_eq!(rt; alone, steps);
+        let output = output_of(alloc, &main, TO_BOTH, &[])?.expect(&rt, "an output");
+        assert_eq!(rt; output.items(), wanted);
     }
     Ok(())
 }
@@ -84,11 +81,8 @@ fn nil_alone_is_nil(rt: HostRuntime) -> Result<(), Fail> {
         (awaits(4, Value::Label(5)), other),
     ];
     for (main, wanted) in cases {
-        let (steps, outcome) = ended(alloc, &main, TO_BOTH, &[], 100)?.expect(&rt, "an end");
-        assert_eq!(rt; outcome.output.items(), wanted);
-        let (alone, slowly) = ended(alloc, &main, TO_BOTH, &[], 1)?.expect(&rt, "an end");
-        assert_eq!(rt; slowly.output.items(), wanted);
-        assert_eq!(rt; alone, steps);
+        let output = output_of(alloc, &main, TO_BOTH, &[])?.expect(&rt, "an output");
+        assert_eq!(rt; output.items(), wanted);
     }
     Ok(())
 }
@@ -127,11 +121,8 @@ fn ranges_are_tested(rt: HostRuntime) -> Result<(), Fail> {
     ];
     for (start, end, wanted) in cases {
         let main = range(set(3, start), set(4, end));
-        let (steps, outcome) = ended(alloc, &main, TO_BOTH, &[], 100)?.expect(&rt, "an end");
-        assert_eq!(rt; outcome.output.items(), wanted);
-        let (alone, slowly) = ended(alloc, &main, TO_BOTH, &[], 1)?.expect(&rt, "an end");
-        assert_eq!(rt; slowly.output.items(), wanted);
-        assert_eq!(rt; alone, steps);
+        let output = output_of(alloc, &main, TO_BOTH, &[])?.expect(&rt, "an output");
+        assert_eq!(rt; output.items(), wanted);
     }
     Ok(())
 }
@@ -195,11 +186,8 @@ fn cursors_go_on(rt: HostRuntime) -> Result<(), Fail> {
     ];
     for (cursor, end, wanted) in cases {
         let main = turn(number_at(0, cursor), number_at(1, end), 2);
-        let (steps, outcome) = ended(alloc, &main, TO_SIDE, &seen(), 100)?.expect(&rt, "an end");
-        assert_eq!(rt; outcome.output.items(), wanted);
-        let (alone, slowly) = ended(alloc, &main, TO_SIDE, &seen(), 1)?.expect(&rt, "an end");
-        assert_eq!(rt; slowly.output.items(), wanted);
-        assert_eq!(rt; alone, steps);
+        let output = output_of(alloc, &main, TO_SIDE, &seen())?.expect(&rt, "an output");
+        assert_eq!(rt; output.items(), wanted);
     }
     Ok(())
 }
@@ -216,11 +204,8 @@ fn a_variable_may_share_its_cell(rt: HostRuntime) -> Result<(), Fail> {
     let side = [load(1, 0), load(2, 1)];
     for (variable, wanted) in cases {
         let main = turn(number_at(0, 3), number_at(1, 5), variable);
-        let (steps, outcome) = ended(alloc, &main, TO_SIDE, &side, 100)?.expect(&rt, "an end");
-        assert_eq!(rt; outcome.output.items(), wanted);
-        let (alone, slowly) = ended(alloc, &main, TO_SIDE, &side, 1)?.expect(&rt, "an end");
-        assert_eq!(rt; slowly.output.items(), wanted);
-        assert_eq!(rt; alone, steps);
+        let output = output_of(alloc, &main, TO_SIDE, &side)?.expect(&rt, "an output");
+        assert_eq!(rt; output.items(), wanted);
     }
     Ok(())
 }

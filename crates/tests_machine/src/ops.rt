@@ -6,7 +6,7 @@ ghost use Rattle.tpal_machine.specs.Belonging.{RunsOn};
 use crate::codes::{ONE_CELL, ROWS, code_of, fault_of, set, tables_of};
 use std::alloc::Global;
 use std::test::Fail;
-use tp_value::{NoMemory, Outcome, Stop};
+use tp_value::{Items, NoMemory, Outcome, Stop};
 use tpal_machine::{Fault, Pace, Task, Turn, run_task};
 use tpal_syntax::{Alu, Code, Instr, Term, Value};
 
@@ -171,7 +171,7 @@ fn ending_of(task: Task, code: &Code, budget: u32, turns: u8, steps: u64) -> Opt
 }
 
 // The same of a code with this main, and a side that jumps to both, with fuel for 3 ticks.
-pub(crate) fn ended(
+fn ended(
     alloc: Global,
     main: &[Instr],
     end: Term,
@@ -187,6 +187,26 @@ pub(crate) fn ended(
             Ok(ending_of(task, &code, budget, 60, 0))
         }
     }
+}
+
+// The output of a code with this main and side, where that is the same in turns of 100
+// instructions and of one, after as many.
+pub(crate) fn output_of(
+    alloc: Global,
+    main: &[Instr],
+    end: Term,
+    side: &[Instr],
+) -> Result<Option<Items<u8>>, NoMemory> {
+    let Some((steps, outcome)) = ended(alloc, main, end, side, 100)? else {
+        return Ok(None);
+    };
+    let Some((alone, slowly)) = ended(alloc, main, end, side, 1)? else {
+        return Ok(None);
+    };
+    if alone != steps || slowly.output.items() != outcome.output.items() {
+        return Ok(None);
+    }
+    Ok(Some(outcome.output))
 }
 
 // A read or a write of the cell whose place registers 3 and 4 have, with the test of that.
@@ -327,11 +347,8 @@ fn ops_do_what_their_instructions_do(rt: HostRuntime) -> Result<(), Fail> {
         (&access(PUT), TO_BOTH, b"7\n8\n1 2\n9 4\n"),
     ];
     for (main, end, wanted) in cases {
-        let (steps, outcome) = ended(alloc, main, end, &[], 100)?.expect(&rt, "an end");
-        assert_eq!(rt; outcome.output.items(), wanted);
-        let (alone, slowly) = ended(alloc, main, end, &[], 1)?.expect(&rt, "an end");
-        assert_eq!(rt; slowly.output.items(), wanted);
-        assert_eq!(rt; alone, steps);
+        let output = output_of(alloc, main, end, &[])?.expect(&rt, "an output");
+        assert_eq!(rt; output.items(), wanted);
     }
     Ok(())
 }
@@ -387,11 +404,8 @@ fn comparisons_jump_where_they_hold(rt: HostRuntime) -> Result<(), Fail> {
         (&compares_cell(Alu::Eq, 6), fails),
     ];
     for (main, wanted) in cases {
-        let (steps, outcome) = ended(alloc, main, TO_BOTH, &[], 100)?.expect(&rt, "an end");
-        assert_eq!(rt; outcome.output.items(), wanted);
-        let (alone, slowly) = ended(alloc, main, TO_BOTH, &[], 1)?.expect(&rt, "an end");
-        assert_eq!(rt; slowly.output.items(), wanted);
-        assert_eq!(rt; alone, steps);
+        let output = output_of(alloc, main, TO_BOTH, &[])?.expect(&rt, "an output");
+        assert_eq!(rt; output.items(), wanted);
     }
     Ok(())
 }
@@ -436,11 +450,8 @@ fn calls_go_one_level_down(rt: HostRuntime) -> Result<(), Fail> {
     let wanted: &[u8] = b"3\n7\n1 2\n3 4\n";
     let cases: [&[Instr]; 3] = [&from_cell, &from_register, &in_parts];
     for main in cases {
-        let (steps, outcome) = ended(alloc, main, TO_SIDE, &side, 100)?.expect(&rt, "an end");
-        assert_eq!(rt; outcome.output.items(), wanted);
-        let (alone, slowly) = ended(alloc, main, TO_SIDE, &side, 1)?.expect(&rt, "an end");
-        assert_eq!(rt; slowly.output.items(), wanted);
-        assert_eq!(rt; alone, steps);
+        let output = output_of(alloc, main, TO_SIDE, &side)?.expect(&rt, "an output");
+        assert_eq!(rt; output.items(), wanted);
     }
     Ok(())
 }
@@ -507,11 +518,8 @@ fn calls_give_and_get_numbers(rt: HostRuntime) -> Result<(), Fail> {
         (&free, b"8\n8\n1 2\n3 4\n"),
     ];
     for (main, wanted) in cases {
-        let (steps, outcome) = ended(alloc, main, TO_BOTH, &[], 100)?.expect(&rt, "an end");
-        assert_eq!(rt; outcome.output.items(), wanted);
-        let (alone, slowly) = ended(alloc, main, TO_BOTH, &[], 1)?.expect(&rt, "an end");
-        assert_eq!(rt; slowly.output.items(), wanted);
-        assert_eq!(rt; alone, steps);
+        let output = output_of(alloc, main, TO_BOTH, &[])?.expect(&rt, "an output");
+        assert_eq!(rt; output.items(), wanted);
     }
     Ok(())
 }
@@ -595,11 +603,8 @@ fn reads_and_loads_do_what_their_instructions_do(rt: HostRuntime) -> Result<(), 
         (&tick_two, b"6\n8\n1 2\n3 4\n"),
     ];
     for (main, wanted) in cases {
-        let (steps, outcome) = ended(alloc, main, TO_BOTH, &[], 100)?.expect(&rt, "an end");
-        assert_eq!(rt; outcome.output.items(), wanted);
-        let (alone, slowly) = ended(alloc, main, TO_BOTH, &[], 1)?.expect(&rt, "an end");
-        assert_eq!(rt; slowly.output.items(), wanted);
-        assert_eq!(rt; alone, steps);
+        let output = output_of(alloc, main, TO_BOTH, &[])?.expect(&rt, "an output");
+        assert_eq!(rt; output.items(), wanted);
     }
     Ok(())
 }

@@ -1,6 +1,6 @@
-// The code texts of programs.
+// A code text beside the code that it came from, as values.
 
-use crate::harness::call_with;
+use crate::harness::compiled;
 use block_lower::lower;
 use loop_check::check;
 use loop_lex::lex;
@@ -9,84 +9,8 @@ use loop_rules::resolve;
 use std::alloc::Global;
 use std::test::Fail;
 use tpal_asm::assemble;
-use tpal_print::print_code;
 use tpal_syntax::{Block, Code, CodeTable, Note, Target};
 use tpal_tool::Status;
-
-#[test]
-fn a_compiled_program_is_its_code(rt: HostRuntime) -> Result<(), Fail> {
-    let cases: [(&str, &str); 4] = [
-        (
-            "main { }",
-            "b0: plain\n  salloc 19\n  mem[r31+2] := 10000\n  halt\nb1: plain\n  prmsplit r28, \
-            r29\n  jump r29\n",
-        ),
-        (
-            "main { print 2 + 3; }",
-            "b0: plain\n  salloc 19\n  mem[r31+2] := 10000\n  r0 := 2\n  r0 := r0 add 3\n  print \
-            r0\n  halt\nb1: plain\n  prmsplit r28, r29\n  jump r29\n",
-        ),
-        (
-            "main { print 1 + 2 * 3; print 4; }",
-            "b0: plain\n  salloc 19\n  mem[r31+2] := 10000\n  r0 := 1\n  r1 := 2\n  r1 := r1 mul \
-            3\n  r0 := r0 add r1\n  print r0\n  r0 := 4\n  print r0\n  halt\nb1: plain\n  \
-            prmsplit r28, r29\n  jump r29\n",
-        ),
-        (
-            "main { print 007; }",
-            "b0: plain\n  salloc 19\n  mem[r31+2] := 10000\n  r0 := 7\n  print r0\n  halt\nb1: \
-            plain\n  prmsplit r28, r29\n  jump r29\n",
-        ),
-    ];
-    for (source, text) in cases {
-        let called = call_with(
-            rt.alloc(),
-            &["compile", "p"],
-            source.as_bytes(),
-            Vec::new(rt.alloc()),
-        )?;
-        assert_eq!(rt; called.text.as_slice(), text.as_bytes(), "{source}");
-        assert_eq!(rt; called.status, Status::Done, "{source}");
-    }
-    Ok(())
-}
-
-// The text of the code that a text assembles to.
-fn printed_again(alloc: Global, text: &[u8]) -> Option<Vec<u8>> {
-    if text.len() > 67_108_864 {
-        return None;
-    }
-    match assemble(alloc, text) {
-        Ok(code) => print_code(alloc, &code).ok(),
-        Err(_) => None,
-    }
-}
-
-#[test]
-fn a_code_text_assembles_to_the_code_that_has_it(rt: HostRuntime) -> Result<(), Fail> {
-    let cases = [
-        "main { }",
-        "input a; table b[rows(a)][2]; main { par i in 0..rows(a) carry b[i] { b[i][0] = a[i][0] \
-        / i; } emit b; }",
-        "fn f(k) { let r = k; if k { call r = f(k - 1); } return r; } main { let x = 0; let y = \
-        0; both x = f(1), y = f(2); print x + y; }",
-        "main { let s = 0; par i in 0..9 reduce s by affine { fold s with i; } while s { s = s / \
-        2; } }",
-    ];
-    for source in cases {
-        let called = call_with(
-            rt.alloc(),
-            &["compile", "p"],
-            source.as_bytes(),
-            Vec::new(rt.alloc()),
-        )?;
-        assert_eq!(rt; called.status, Status::Done, "{source}");
-        let text = called.text.as_slice();
-        let again = printed_again(rt.alloc(), text).ok_or("a code text")?;
-        assert_eq!(rt; again.as_slice(), text, "{source}");
-    }
-    Ok(())
-}
 
 // The code that `lower` makes of a source text.
 fn lowered(alloc: Global, source: &[u8]) -> Option<Code> {
@@ -185,8 +109,7 @@ fn a_code_text_assembles_to_what_lower_makes(rt: HostRuntime) -> Result<(), Fail
     ];
     let mut last: Option<Code> = None;
     for source in cases {
-        let words = ["compile", "p"];
-        let called = call_with(rt.alloc(), &words, source.as_bytes(), Vec::new(rt.alloc()))?;
+        let called = compiled(rt.alloc(), source.as_bytes())?;
         assert_eq!(rt; called.status, Status::Done, "{source}");
         let code = assembled(rt.alloc(), called.text.as_slice()).ok_or("a code text")?;
         let wanted = lowered(rt.alloc(), source.as_bytes()).ok_or("a code")?;
@@ -196,33 +119,5 @@ fn a_code_text_assembles_to_what_lower_makes(rt: HostRuntime) -> Result<(), Fail
         }
         last = Some(wanted);
     }
-    Ok(())
-}
-
-#[test]
-fn a_refused_program_has_no_code(rt: HostRuntime) -> Result<(), Fail> {
-    let cases: [(&str, &str); 2] = [
-        ("main { print 1 }", "refused E3 at 1:16\n"),
-        ("main { print x; }", "refused E7 C1 at 1:14\n"),
-    ];
-    for (source, text) in cases {
-        let called = call_with(
-            rt.alloc(),
-            &["compile", "p"],
-            source.as_bytes(),
-            Vec::new(rt.alloc()),
-        )?;
-        assert_eq!(rt; called.text.as_slice(), text.as_bytes(), "{source}");
-        assert_eq!(rt; called.status, Status::Refused, "{source}");
-    }
-    Ok(())
-}
-
-#[test]
-fn code_that_is_cut_short_is_a_fault_of_writing(rt: HostRuntime) -> Result<(), Fail> {
-    let fails = Vec::from_slice(rt.alloc(), &[(0, 5)])?;
-    let called = call_with(rt.alloc(), &["compile", "p"], b"main { }", fails)?;
-    assert_eq!(rt; called.text.as_slice(), b"b0: p".as_slice());
-    assert_eq!(rt; called.status, Status::WriteFault);
     Ok(())
 }

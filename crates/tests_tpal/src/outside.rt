@@ -1,23 +1,16 @@
 // Each shelf and sink once.
 
+use crate::harness::{empty_sink, texts_of, words_of};
 use std::alloc::{AllocError, Global};
 use std::process::Abort;
 use std::test::Fail;
 use tpal_tool::{
-    FileShelf, MemShelf, MemSink, OutSink, Shelf, ShelfFault, Sink, SinkFault, SureShelf,
+    FileShelf, MemShelf, MemSink, OutSink, Shelf, ShelfFault, Sink, SinkFault, Status, SureShelf,
+    asks_for_many, tpal_alone,
 };
 
 fn texts(alloc: Global) -> Result<Vec<(String, Vec<u8>)>, AllocError> {
-    let mut texts = Vec::new(alloc);
-    texts.push((
-        String::from_str(alloc, "p")?,
-        Vec::from_slice(alloc, b"abc")?,
-    ))?;
-    texts.push((
-        String::from_str(alloc, "t")?,
-        Vec::from_slice(alloc, b"12345")?,
-    ))?;
-    Ok(texts)
+    texts_of(alloc, &[("p", b"abc"), ("t", b"12345")])
 }
 
 // Fetches once, and compares the text or the fault.
@@ -75,6 +68,19 @@ fn a_sure_shelf_has_every_name(rt: HostRuntime) -> Result<(), Fail> {
     for (name, limit, text, fault) in cases {
         expect_fetch(&rt, rt.alloc(), &mut shelf, name, limit, text, fault);
     }
+    Ok(())
+}
+
+#[test]
+fn a_shelf_that_never_fails_has_the_program(rt: HostRuntime) -> Result<(), Fail> {
+    let texts = texts_of(rt.alloc(), &[("p", b"main { print 2 + 3; }")])?;
+    let mut shelf = SureShelf { texts };
+    let mut sink = empty_sink(rt.alloc());
+    let words = words_of(rt.alloc(), &["run", "p"])?;
+    assert!(&rt; !asks_for_many(&words));
+    let status = tpal_alone(rt.alloc(), &words, &mut shelf, &mut sink);
+    assert_eq!(rt; sink.bytes.as_slice(), b"5\n".as_slice());
+    assert_eq!(rt; status, Status::Done);
     Ok(())
 }
 

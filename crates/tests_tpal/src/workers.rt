@@ -1,57 +1,19 @@
-// Runs by several workers. What they print, and how they end, is what their meaning says.
+// Several workers that run a program beside each other.
 
-use crate::beats::ROWS;
-use crate::harness::{call_beside, repeated};
-use crate::running::{DEEP, SUM};
+use crate::harness::call_beside;
 use crossbeam_utils::Backoff;
-use std::sync::atomic::{AtomicBool, Ordering};
+use std::sync::atomic::{AtomicBool, AtomicU32, Ordering};
 use std::test::Fail;
-use steal_pool::{Gate, GateEvent, NoGate};
+use steal_pool::{Gate, GateEvent};
 use tpal_tool::Status;
 
-#[test]
-fn no_number_of_workers_changes_what_is_printed(rt: HostRuntime) -> Result<(), Fail> {
-    for (source, tables, fuel, text, status) in ROWS {
-        let texts: [(&str, &[u8]); 2] = [("p", source.as_bytes()), ("t", tables.as_bytes())];
-        for workers in ["1", "2", "4", "16"] {
-            let words = [
-                "run",
-                "p",
-                "t",
-                "--fuel",
-                fuel,
-                "--beat",
-                "1",
-                "--workers",
-                workers,
-            ];
-            let called = call_beside(&rt, &words, &texts, &NoGate)?;
-            assert_eq!(rt;
-                called.text.as_slice(),
-                text.as_bytes(),
-                "{workers}: {source}"
-            );
-            assert_eq!(rt; called.status, status, "{workers}: {source}");
-        }
-    }
-    Ok(())
-}
-
-#[test]
-fn pairs_of_calls_are_at_most_ten_thousand_deep(rt: HostRuntime) -> Result<(), Fail> {
-    let cases: [(&str, &[u8], Status); 2] = [
-        ("9999", b"0\n", Status::Done),
-        ("10000", b"trap Deep at 6:14\n", Status::Trap),
-    ];
-    for (calls, text, status) in cases {
-        let source = repeated(rt.alloc(), DEEP, calls, 1, "); print x; }")?;
-        let words = ["run", "p", "--beat", "1", "--workers", "4"];
-        let called = call_beside(&rt, &words, &[("p", &source)], &NoGate)?;
-        assert_eq!(rt; called.text.as_slice(), text, "{calls}");
-        assert_eq!(rt; called.status, status, "{calls}");
-    }
-    Ok(())
-}
+/// The sum of a column.
+const SUM: &str = "input a;
+main {
+  let s = 0;
+  par i in 0..rows(a) reduce s by add { fold s with a[i][0]; }
+  print s;
+}";
 
 /// How long one waits for the other, in turns of a loop that backs off.
 const PATIENCE: u32 = 10_000_000;
@@ -119,5 +81,42 @@ fn two_workers_run_a_program_beside_each_other(rt: HostRuntime) -> Result<(), Fa
     assert!(rt; rest.ends_with(" ticks 4\n"));
     assert!(rt; gate.stands.load(Ordering::SeqCst) && gate.claimed.load(Ordering::SeqCst));
     assert!(rt; !gate.missed.load(Ordering::SeqCst));
+    Ok(())
+}
+
+/// Notes how many workers there are, by the greatest number of one that takes a turn.
+#[derive(Drop)]
+struct RollCall {
+    workers: AtomicU32,
+}
+
+impl Gate for RollCall {
+    fn at(&self, worker: u32, event: GateEvent) {
+        if matches!(event, GateEvent::Turn) {
+            self.workers
+                .fetch_max(worker.saturating_add(1), Ordering::SeqCst);
+        }
+    }
+}
+
+#[test]
+fn as_many_workers_run_as_the_words_ask_for(rt: HostRuntime) -> Result<(), Fail> {
+    let texts: [(&str, &[u8]); 2] = [("p", SUM.as_bytes()), ("t", b"table a 4 1 1 2 3 4")];
+    let numbers = [
+        "1", "2", "3", "4", "5", "6", "7", "8", "9", "10", "11", "12", "13", "14", "15", "16",
+    ];
+    let mut workers = 0u32;
+    for number in numbers {
+        workers = workers.saturating_add(1);
+        let gate = RollCall {
+            workers: AtomicU32::new(0),
+        };
+        let words = ["run", "p", "t", "--beat", "1", "--workers", number];
+        let called = call_beside(&rt, &words, &texts, &gate)?;
+        assert_eq!(rt; called.status, Status::Done, "{number}");
+        // one worker runs in no pool, and so at no gate
+        let wanted = if workers == 1 { 0 } else { workers };
+        assert_eq!(rt; gate.workers.load(Ordering::SeqCst), wanted, "{number}");
+    }
     Ok(())
 }
