@@ -1,0 +1,12 @@
+pub mod Order
+pub mod ShapeOrder
+pub mod Proper
+pub mod Lower
+pub mod Assigned
+pub mod Height
+pub mod Finding
+pub mod Accepting
+pub mod Kept
+pub mod Tried
+pub mod Zipped
+pub mod Least
