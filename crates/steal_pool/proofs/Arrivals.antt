@@ -27,9 +27,9 @@ use Rattle.join_records.specs.Answers.{met_view, other, own}
 use Rattle.join_records.specs.Ends.{IsEndOf}
 use Rattle.join_records.specs.Steps.{other_side, owes_by}
 use Rattle.join_records.specs.Views.{drop_record, read, with_hand}
-use Rattle.steal_pool.specs.declared.seat.Counts.{Counts}
-use Rattle.steal_pool.specs.declared.seat.Work.{Work}
-use Rattle.steal_pool.specs.declared.seat.Work.TheVariants as work
+use Rattle.steal_pool.specs.declared.desk.Counts.{Counts}
+use Rattle.steal_pool.specs.declared.desk.Work.{Work}
+use Rattle.steal_pool.specs.declared.desk.Work.TheVariants as work
 use Rattle.steal_pool.specs.Facts.{IsEnding, RestOwes}
 use Rattle.steal_pool.specs.Has.{Knows, Has, HasEnded, IsHeld, Rests, Stays, work_after}
 use Rattle.steal_pool.specs.Terms.{Terms}

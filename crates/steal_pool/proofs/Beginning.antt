@@ -11,8 +11,8 @@ use Rattle.join_records.specs.declared.table.Pass.{Pass}
 use Rattle.join_records.specs.declared.table.Records.{Records}
 use Rattle.join_records.specs.declared.table.Taken.{Taken}
 use Rattle.join_records.specs.Passes.{IsPassOf, view}
-use Rattle.steal_pool.specs.declared.seat.Counts.{Counts}
-use Rattle.steal_pool.specs.declared.seat.Work.{Work}
+use Rattle.steal_pool.specs.declared.desk.Counts.{Counts}
+use Rattle.steal_pool.specs.declared.desk.Work.{Work}
 use Rattle.steal_pool.specs.Has.{Knows, Has, HasCounts, HasNothing, IsRooted, Runs}
 use Rattle.steal_pool.specs.Terms.{Terms}
 use Rattle.steal_pool.specs.Together.{no_counts}

@@ -9,7 +9,7 @@ use Rattle.tpal_machine.specs.RestState.{end_of}
 use Rattle.tpal_machine.specs.State.{State}
 use Rattle.join_records.specs.declared.table.Taken.{Taken}
 use Rattle.join_records.specs.Views.{read, saw_finish}
-use Rattle.steal_pool.specs.declared.seat.Counts.{Counts}
+use Rattle.steal_pool.specs.declared.desk.Counts.{Counts}
 use Rattle.steal_pool.specs.Facts.{Owed}
 use Rattle.steal_pool.specs.Has.{Knows, number_in, HasCounts, HasNothing, HasSeen, HasHand, IsHeld}
 use Rattle.steal_pool.specs.Has.{Rests, Runs}

@@ -17,9 +17,9 @@ use Rattle.tpal_machine.proofs.Undiverted.{agrees}
 use Rattle.join_records.specs.declared.table.Taken.{Taken}
 use Rattle.join_records.specs.Answers.{NoneFree}
 use Rattle.join_records.specs.Words.{bit}
-use Rattle.steal_pool.specs.declared.seat.Counts.{Counts}
-use Rattle.steal_pool.specs.declared.seat.Work.{Work}
-use Rattle.steal_pool.specs.declared.seat.Work.TheVariants as work
+use Rattle.steal_pool.specs.declared.desk.Counts.{Counts}
+use Rattle.steal_pool.specs.declared.desk.Work.{Work}
+use Rattle.steal_pool.specs.declared.desk.Work.TheVariants as work
 use Rattle.steal_pool.specs.Has.{Knows, count_in}
 use Rattle.steal_pool.specs.Stepped.{CountsTask, SkipsFairly, turn_in, UnlessLost}
 use Rattle.steal_pool.specs.Terms.{Terms}

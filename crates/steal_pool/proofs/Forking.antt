@@ -24,7 +24,7 @@ use Rattle.join_records.specs.Answers.{FoundFree, HoldsNoSide}
 use Rattle.join_records.specs.Ends.{code_of}
 use Rattle.join_records.specs.Passes.{taken_number}
 use Rattle.join_records.specs.Views.{drop_record, find, Holds, holds_end, opened_view, read}
-use Rattle.steal_pool.specs.declared.seat.Counts.{Counts}
+use Rattle.steal_pool.specs.declared.desk.Counts.{Counts}
 use Rattle.steal_pool.specs.Facts.{HasEnd, Owed}
 use Rattle.steal_pool.specs.Has.{Knows, number_in, count_in, Asks, Forks, IsHeld, HasHand}
 use Rattle.steal_pool.specs.Has.{HasCounts, Paid, Runs, Stays}

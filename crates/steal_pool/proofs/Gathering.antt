@@ -18,9 +18,9 @@ use Rattle.join_records.specs.Views.{saw_finish, total}
 use Rattle.join_records.specs.Words.{bit}
 use Rattle.join_records.proofs.Calls.{last_total}
 use Rattle.join_records.proofs.Functions.{length_more}
-use Rattle.steal_pool.specs.declared.seat.Counts.{Counts}
-use Rattle.steal_pool.specs.declared.seat.Work.{Work}
-use Rattle.steal_pool.specs.declared.seat.Work.TheVariants as work
+use Rattle.steal_pool.specs.declared.desk.Counts.{Counts}
+use Rattle.steal_pool.specs.declared.desk.Work.{Work}
+use Rattle.steal_pool.specs.declared.desk.Work.TheVariants as work
 use Rattle.steal_pool.specs.Facts.{Owed, owed_one}
 use Rattle.steal_pool.specs.Has.{Has, HasFinished, HasSeen, IsRooted, Rests}
 use Rattle.steal_pool.specs.Terms.{Terms}

@@ -13,7 +13,7 @@ use Rattle.tpal_machine.specs.RestState.{end_of}
 use Rattle.tpal_machine.specs.State.{State}
 use Rattle.join_records.specs.declared.table.Taken.{Taken}
 use Rattle.join_records.specs.Words.{bit}
-use Rattle.steal_pool.specs.declared.seat.Counts.{Counts}
+use Rattle.steal_pool.specs.declared.desk.Counts.{Counts}
 use Rattle.steal_pool.specs.Has.{Knows, number_in, IsHeld, HasHand, HasCounts, HasEnded, Runs}
 use Rattle.steal_pool.specs.Has.{TurnFits}
 use Rattle.steal_pool.specs.Terms.{Terms}

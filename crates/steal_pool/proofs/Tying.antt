@@ -8,7 +8,7 @@ use Rattle.crossbeam_deque.specs.Handles.{stealer_deque, worker_deque}
 use Rattle.atomic_table.proofs.Lists.{at_longer, at_set}
 use Rattle.join_records.proofs.Calls.{last_before, last_here}
 use Rattle.join_records.proofs.Functions.{at_below, at_more}
-use Rattle.steal_pool.specs.declared.load.Setting.{Ghosts}
+use Rattle.steal_pool.specs.declared.load.RunTerms.{Ghosts}
 use Rattle.steal_pool.specs.declared.other.Other.{Other}
 use Rattle.steal_pool.specs.declared.source.Source.{Source}
 use Rattle.steal_pool.specs.Deques.{DequeName}

@@ -3,7 +3,7 @@ use Rattle.std.specs.Prelude.{◌≡◌, ◌⊎◌, ℕ, ◌<◌, true, List, Al
 use Rattle.std.specs.Prelude.{slice_index_or}
 use Rattle.crossbeam_deque.specs.Handles.{stealer_deque, taken}
 use Rattle.crossbeam_deque.specs.Tasks.{Finds}
-use Rattle.steal_pool.specs.declared.load.Setting.{Ghosts}
+use Rattle.steal_pool.specs.declared.load.RunTerms.{Ghosts}
 use Rattle.steal_pool.specs.declared.other.Other.{Other}
 use Rattle.steal_pool.specs.declared.source.Found.{Found}
 use Rattle.steal_pool.specs.declared.source.Found.TheVariants.{Number, Lost, Nothing}

@@ -22,9 +22,9 @@ use Rattle.join_records.specs.Ends.{IsEndOf}
 use Rattle.join_records.specs.Passes.{taken_number}
 use Rattle.join_records.specs.Views.{Holds, HoldsNothing, saw_finish}
 use Rattle.join_records.specs.Words.{bit}
-use Rattle.steal_pool.specs.declared.seat.Counts.{Counts}
-use Rattle.steal_pool.specs.declared.seat.Work.{Work}
-use Rattle.steal_pool.specs.declared.seat.Work.TheVariants as work
+use Rattle.steal_pool.specs.declared.desk.Counts.{Counts}
+use Rattle.steal_pool.specs.declared.desk.Work.{Work}
+use Rattle.steal_pool.specs.declared.desk.Work.TheVariants as work
 use Rattle.steal_pool.specs.Facts.{Owed}
 use Rattle.steal_pool.specs.Terms.{Terms}
 

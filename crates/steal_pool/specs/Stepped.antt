@@ -6,9 +6,9 @@ use Rattle.tpal_machine.specs.Turn.{Turned, turn_of}
 use Rattle.join_records.specs.declared.table.Taken.{Taken}
 use Rattle.join_records.specs.Answers.{NoneFree, Unclaimable}
 use Rattle.join_records.specs.Views.{read}
-use Rattle.steal_pool.specs.declared.seat.Counts.{Counts}
-use Rattle.steal_pool.specs.declared.seat.Work.{Work}
-use Rattle.steal_pool.specs.declared.seat.Work.TheVariants as work
+use Rattle.steal_pool.specs.declared.desk.Counts.{Counts}
+use Rattle.steal_pool.specs.declared.desk.Work.{Work}
+use Rattle.steal_pool.specs.declared.desk.Work.TheVariants as work
 use Rattle.steal_pool.specs.declared.turn.Step.{Step}
 use Rattle.steal_pool.specs.declared.turn.Step.TheVariants.{Worked, Idle, Again, Over}
 use Rattle.steal_pool.specs.Has.{Knows, number_in}

@@ -3,7 +3,7 @@ use Rattle.std.specs.Prelude.{◌≡◌, ◌≢◌, ℕ, List, length, slice_ind
 use mathlib.Core.Option.{some}
 use lib.ListN.{get_elem?}
 use Rattle.crossbeam_deque.specs.Handles.{stealer_deque, worker_deque}
-use Rattle.steal_pool.specs.declared.load.Setting.{Ghosts}
+use Rattle.steal_pool.specs.declared.load.RunTerms.{Ghosts}
 use Rattle.steal_pool.specs.declared.other.Other.{Other}
 use Rattle.steal_pool.specs.declared.source.Source.{Source}
 use Rattle.steal_pool.specs.Deques.{DequeName}

@@ -9,9 +9,9 @@ use Rattle.join_records.specs.declared.load.Load.{Ghosts}
 use Rattle.join_records.specs.declared.table.Pass.{Pass}
 use Rattle.join_records.specs.Passes.{made_in, opens_in, saw_in}
 use Rattle.join_records.specs.Views.{total}
-use Rattle.steal_pool.specs.declared.seat.Counts.{Counts}
-use Rattle.steal_pool.specs.declared.seat.Work.{Work}
-use Rattle.steal_pool.specs.declared.seat.Work.TheVariants as work
+use Rattle.steal_pool.specs.declared.desk.Counts.{Counts}
+use Rattle.steal_pool.specs.declared.desk.Work.{Work}
+use Rattle.steal_pool.specs.declared.desk.Work.TheVariants as work
 use Rattle.steal_pool.specs.Facts.{Owed}
 use Rattle.steal_pool.specs.Terms.{Terms}
 

@@ -10,10 +10,10 @@ ghost use Rattle.steal_pool.specs.Tied.{AreTied, AreTiedWorkers, ReachesAllBut};
 ghost use Rattle.steal_pool.specs.Together.{no_counts};
 
 use crate::deques::{Numbers, Owner};
-use crate::load::{Machine, Setting};
+use crate::desk::{Counts, Desk, Work};
+use crate::load::{RunTerms, TaskLoad};
 use crate::other::Other;
 use crate::plan::Plan;
-use crate::seat::{Counts, Seat, Work};
 use crate::source::Source;
 use crate::turn::Worker;
 use join_records::Pass;
@@ -35,7 +35,7 @@ fn next_of(number: usize, step: usize, count: usize) -> usize
 }
 
 // A source without an end of another's deque. Its own list has room for every record.
-fn lone_source<S: Setting>(alloc: Global, room: u32) -> Result<Source<S>, NoMemory> {
+fn lone_source<S: RunTerms>(alloc: Global, room: u32) -> Result<Source<S>, NoMemory> {
     let owner = Owner::<S>::fifo_as(alloc, room as usize)?;
     let list = Vec::with_capacity(alloc, room as usize)?;
     Ok(Source {
@@ -45,7 +45,7 @@ fn lone_source<S: Setting>(alloc: Global, room: u32) -> Result<Source<S>, NoMemo
     })
 }
 
-fn lone_sources<S: Setting>(alloc: Global, workers: u32) -> Result<Vec<Source<S>>, NoMemory>
+fn lone_sources<S: RunTerms>(alloc: Global, workers: u32) -> Result<Vec<Source<S>>, NoMemory>
     requires { workers ≤ 16 }
     ensures { IfOk result (λ sources. length sources.items ≡ workers) }
 {
@@ -59,7 +59,7 @@ fn lone_sources<S: Setting>(alloc: Global, workers: u32) -> Result<Vec<Source<S>
 
 // An end of the deque of each source but the one of this number, from the next one round to the one
 // before it.
-fn others_of<S: Setting>(
+fn others_of<S: RunTerms>(
     alloc: Global,
     sources: &[Source<S>],
     number: usize,
@@ -82,7 +82,7 @@ fn others_of<S: Setting>(
 }
 
 // Gives each source an end of each other one's deque.
-fn tie<S: Setting>(alloc: Global, sources: &mut [Source<S>]) -> Result<(), NoMemory>
+fn tie<S: RunTerms>(alloc: Global, sources: &mut [Source<S>]) -> Result<(), NoMemory>
     ensures count { length sources.new ≡ length sources.old }
     ensures tied { IfOk result (λ _. AreTied sources.new) }
 {
@@ -95,7 +95,7 @@ fn tie<S: Setting>(alloc: Global, sources: &mut [Source<S>]) -> Result<(), NoMem
 }
 
 // A source for each worker.
-fn make_sources<S: Setting>(alloc: Global, workers: u32) -> Result<Vec<Source<S>>, NoMemory>
+fn make_sources<S: RunTerms>(alloc: Global, workers: u32) -> Result<Vec<Source<S>>, NoMemory>
     requires { workers ≤ 16 }
     ensures count { IfOk result (λ sources. length sources.items ≡ workers) }
     ensures tied { IfOk result (λ sources. AreTied sources.items) }
@@ -106,21 +106,21 @@ fn make_sources<S: Setting>(alloc: Global, workers: u32) -> Result<Vec<Source<S>
 }
 
 // A worker that has yet to begin.
-fn make_worker<S: Setting>(
+fn make_worker<S: RunTerms>(
     number: u32,
-    pass: Pass<Machine<S>>,
+    pass: Pass<TaskLoad<S>>,
     work: Work,
     source: Source<S>,
 ) -> Worker<S>
     ensures source { result.source ≡ source }
-    ensures pass { result.seat.pass ≡ pass }
-    ensures work { result.seat.work ≡ work }
-    ensures taken { result.seat.taken ≡ None }
-    ensures counts { result.seat.counts ≡ no_counts }
+    ensures pass { result.desk.pass ≡ pass }
+    ensures work { result.desk.work ≡ work }
+    ensures taken { result.desk.taken ≡ None }
+    ensures counts { result.desk.counts ≡ no_counts }
 {
     Worker {
         number,
-        seat: Seat {
+        desk: Desk {
             pass,
             work,
             taken: None,
@@ -133,10 +133,10 @@ fn make_worker<S: Setting>(
 /// The workers of a run, each with an end of each other one's deque. The last one has the first
 /// task: where no thread can be made, the last of a list runs first, and the others wait for what it
 /// does.
-pub(crate) fn make_workers<S: Setting>(
+pub(crate) fn make_workers<S: RunTerms>(
     alloc: Global,
     plan: &Plan<S>,
-    mut passes: Vec<Pass<Machine<S>>>,
+    mut passes: Vec<Pass<TaskLoad<S>>>,
     first: Task,
 ) -> Result<Vec<Worker<S>>, NoMemory>
     requires first { first ≡ S.terms.first }
@@ -146,12 +146,12 @@ pub(crate) fn make_workers<S: Setting>(
         plan.now.records.now passes.items }
     ensures each { IfOk result
         (λ workers. All
-        (λ w. IsPassOf plan.now.records.now w.seat.pass
-        × Has S.terms (view w.seat.pass) w.seat.taken w.seat.counts w.seat.work
-        × IsRooted S.terms (view w.seat.pass))
+        (λ w. IsPassOf plan.now.records.now w.desk.pass
+        × Has S.terms (view w.desk.pass) w.desk.taken w.desk.counts w.desk.work
+        × IsRooted S.terms (view w.desk.pass))
         workers.items) }
     ensures parts { IfOk result
-        (λ workers. total (λ w. (view w.seat.pass).parts) workers.items ≡ 16) }
+        (λ workers. total (λ w. (view w.desk.pass).parts) workers.items ≡ 16) }
     ensures count { IfOk result (λ workers. length workers.items ≡ length passes.items) }
     ensures tied { IfOk result (λ workers. AreTiedWorkers (λ w. w.source) workers.items) }
 {

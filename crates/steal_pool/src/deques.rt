@@ -3,7 +3,7 @@
 
 ghost use Rattle.std.specs.Prelude.{◌<◌, All};
 
-use crate::load::Setting;
+use crate::load::RunTerms;
 use crossbeam_deque::protocol::{Outcome, Protocol};
 use crossbeam_deque::{Pass, Stealer, Worker};
 use std::alloc::Global;
@@ -14,7 +14,7 @@ pub(crate) struct Numbers<S> {
     of: PhantomData<S>,
 }
 
-impl<S: Setting> Protocol<u32, ()> for Numbers<S> {
+impl<S: RunTerms> Protocol<u32, ()> for Numbers<S> {
     ghost holds = { S.deque };
 
     ghost first = { tt };
@@ -22,7 +22,7 @@ impl<S: Setting> Protocol<u32, ()> for Numbers<S> {
     ghost guest = { tt };
 }
 
-impl<S: Setting> Outcome<u32, ()> for Numbers<S> {
+impl<S: RunTerms> Outcome<u32, ()> for Numbers<S> {
     ghost then = { λ _ xs _. All (λ x. x < S.terms.records) xs };
 }
 
@@ -55,7 +55,7 @@ pub(crate) struct Look<S, E> {
     of: PhantomData<(S, E)>,
 }
 
-impl<S: Setting, E: Emptied> Outcome<u32, ()> for Look<S, E> {
+impl<S: RunTerms, E: Emptied> Outcome<u32, ()> for Look<S, E> {
     ghost then = { λ _ xs _. All (λ x. x < S.terms.records) xs };
 
     ghost empty = { λ _. E.empty };

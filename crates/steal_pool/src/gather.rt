@@ -9,9 +9,9 @@ ghost use Rattle.steal_pool.specs.Facts.{Owed};
 ghost use Rattle.steal_pool.specs.Has.{Has, IsRooted};
 ghost use Rattle.steal_pool.specs.Together.{Adds, AreSums, Gathered, IsOutcomeWith, IsOver};
 
-use crate::load::{Machine, Setting};
+use crate::desk::{Desk, Work};
+use crate::load::{RunTerms, TaskLoad};
 use crate::plan::Plan;
-use crate::seat::{Seat, Work};
 use crate::turn::Worker;
 use join_records::{Closed, Load, Pass, Records};
 use schedule_core::Report;
@@ -19,11 +19,11 @@ use tp_value::{NoMemory, Outcome};
 
 /// What the workers did together, with their passes.
 #[derive(Drop)]
-pub(crate) struct Sum<S: Setting>
+pub(crate) struct Sum<S: RunTerms>
 where
-    Machine<S>: Load,
+    TaskLoad<S>: Load,
 {
-    pub(crate) passes: Vec<Pass<Machine<S>>>,
+    pub(crate) passes: Vec<Pass<TaskLoad<S>>>,
     pub(crate) outcome: Option<Outcome>,
     pub(crate) beats: u64,
     pub(crate) skipped: u64,
@@ -42,38 +42,38 @@ fn outcome_with(work: Work, before: Option<Outcome>) -> Result<Option<Outcome>, 
     }
 }
 
-impl<S: Setting> Sum<S> {
+impl<S: RunTerms> Sum<S> {
     // Adds what one worker did.
-    fn add(self, plan: &Plan<S>, seat: Seat<S>) -> Result<Sum<S>, NoMemory>
+    fn add(self, plan: &Plan<S>, desk: Desk<S>) -> Result<Sum<S>, NoMemory>
         requires short { length self.passes.items ≤ 15 }
         requires room { vec_len self.passes < vec_capacity self.passes }
-        requires seat { IsPassOf plan.now.records.now seat.pass
-            × Has S.terms (view seat.pass) seat.taken seat.counts seat.work
-            × IsRooted S.terms (view seat.pass) }
+        requires desk { IsPassOf plan.now.records.now desk.pass
+            × Has S.terms (view desk.pass) desk.taken desk.counts desk.work
+            × IsRooted S.terms (view desk.pass) }
         requires outcome { Gathered S.terms self.outcome self.passes.items }
         requires adds { Adds S.terms self.beats self.skipped self.instructions self.passes.items }
         ensures passes { IfOk result (λ sum.
-            sum.passes.items ≡ self.passes.items ++ seat.pass ∷ []) }
+            sum.passes.items ≡ self.passes.items ++ desk.pass ∷ []) }
         ensures room { IfOk result (λ sum.
             (vec_capacity sum.passes ≡ vec_capacity self.passes)
             × (vec_len sum.passes ≡ vec_len self.passes + 1)) }
         ensures sums { IfOk result (λ sum.
-            (sum.beats ≡ self.beats + seat.counts.beats)
-            × (sum.skipped ≡ self.skipped + seat.counts.skipped)
+            (sum.beats ≡ self.beats + desk.counts.beats)
+            × (sum.skipped ≡ self.skipped + desk.counts.skipped)
             × (sum.instructions
-            ≡ min (self.instructions + seat.counts.instructions) (2 ^ 64 - 1))) }
-        ensures wanting { IfErr result (λ _. IsOver seat.work → ⊥) }
+            ≡ min (self.instructions + desk.counts.instructions) (2 ^ 64 - 1))) }
+        ensures wanting { IfErr result (λ _. IsOver desk.work → ⊥) }
         ensures outcome { IfOk result (λ sum. Gathered S.terms sum.outcome sum.passes.items) }
         ensures adds { IfOk result
             (λ sum. Adds S.terms sum.beats sum.skipped sum.instructions sum.passes.items) }
     {
         let _ = plan;
-        let Seat {
+        let Desk {
             pass,
             work,
             taken: _,
             counts,
-        } = seat;
+        } = desk;
         let Sum {
             mut passes,
             outcome,
@@ -94,29 +94,29 @@ impl<S: Setting> Sum<S> {
 
 /// Puts together what the workers did, with their passes in a list that has room for them. Memory
 /// was wanting where one of them hasn't ended, and only there.
-pub(crate) fn gather<S: Setting>(
+pub(crate) fn gather<S: RunTerms>(
     plan: &Plan<S>,
     mut workers: Vec<Worker<S>>,
-    passes: Vec<Pass<Machine<S>>>,
+    passes: Vec<Pass<TaskLoad<S>>>,
 ) -> Result<Sum<S>, NoMemory>
     requires count { length workers.items ≤ 16 }
     requires empty { passes.items ≡ [] }
     requires room { length workers.items ≤ vec_capacity passes }
     requires each { All
-        (λ w. IsPassOf plan.now.records.now w.seat.pass
-        × Has S.terms (view w.seat.pass) w.seat.taken w.seat.counts w.seat.work
-        × IsRooted S.terms (view w.seat.pass))
+        (λ w. IsPassOf plan.now.records.now w.desk.pass
+        × Has S.terms (view w.desk.pass) w.desk.taken w.desk.counts w.desk.work
+        × IsRooted S.terms (view w.desk.pass))
         workers.items }
     ensures passes { IfOk result (λ sum. ArePassesOf plan.now.records.now sum.passes.items) }
     ensures parts { IfOk result
-        (λ sum. parts_in sum.passes.items ≡ total (λ w. (view w.seat.pass).parts) workers.items) }
+        (λ sum. parts_in sum.passes.items ≡ total (λ w. (view w.desk.pass).parts) workers.items) }
     ensures count { IfOk result (λ sum. length sum.passes.items ≡ length workers.items) }
     ensures outcome { IfOk result (λ sum. Gathered S.terms sum.outcome sum.passes.items) }
     ensures adds { IfOk result
         (λ sum. Adds S.terms sum.beats sum.skipped sum.instructions sum.passes.items) }
     ensures sums { IfOk result (λ sum.
-        AreSums (λ w. w.seat.counts) workers.items sum.beats sum.skipped sum.instructions) }
-    ensures wanting { IfErr result (λ _. All (λ w. IsOver w.seat.work) workers.items → ⊥) }
+        AreSums (λ w. w.desk.counts) workers.items sum.beats sum.skipped sum.instructions) }
+    ensures wanting { IfErr result (λ _. All (λ w. IsOver w.desk.work) workers.items → ⊥) }
 {
     let mut sum = Sum {
         passes,
@@ -126,14 +126,14 @@ pub(crate) fn gather<S: Setting>(
         instructions: 0,
     };
     while let Some(worker) = workers.pop() {
-        sum = sum.add(plan, worker.seat)?;
+        sum = sum.add(plan, worker.desk)?;
     }
     Ok(sum)
 }
 
 /// Closes the table of a run whose workers have ended, and tells what it came to, with the counts
 /// of all of them.
-pub(crate) fn close_run<S: Setting>(records: Records<Machine<S>>, sum: Sum<S>) -> (Report, Closed)
+pub(crate) fn close_run<S: RunTerms>(records: Records<TaskLoad<S>>, sum: Sum<S>) -> (Report, Closed)
     requires table { ArePassesOf records sum.passes.items }
     requires all { parts_in sum.passes.items ≡ 16 }
     requires outcome { Gathered S.terms sum.outcome sum.passes.items }

@@ -8,6 +8,7 @@
 
 mod crew;
 mod deques;
+mod desk;
 mod gate;
 mod gather;
 mod idling;
@@ -15,7 +16,6 @@ mod load;
 mod other;
 mod plan;
 mod pool;
-mod seat;
 mod settling;
 mod source;
 mod turn;

@@ -5,7 +5,7 @@ use std::marker::{Brand, PhantomData};
 use tpal_machine::{Ending, Rest, Side, Task};
 
 /// The terms of a run, for proofs alone.
-pub trait Setting {
+pub trait RunTerms {
     ghost use Rattle.steal_pool.specs.Deques.{DequeRule, LetsBegin, LetsNumbers};
     ghost use Rattle.steal_pool.specs.Terms.{Terms};
 
@@ -22,7 +22,7 @@ pub trait Setting {
     ghost begins: { LetsBegin deque };
 }
 
-impl Setting for Brand {
+impl RunTerms for Brand {
     ghost use Rattle.steal_pool.specs.Deques.{AreNumbers};
     ghost use Rattle.steal_pool.specs.Terms.{no_terms};
     ghost use Rattle.steal_pool.specs.Numbers.{lets_begin, lets_numbers};
@@ -37,11 +37,11 @@ impl Setting for Brand {
 }
 
 /// What lies in the records of a run: the machine's own rests, tasks and sides.
-pub struct Machine<S> {
+pub struct TaskLoad<S> {
     of: PhantomData<S>,
 }
 
-impl<S: Setting> Load for Machine<S> {
+impl<S: RunTerms> Load for TaskLoad<S> {
     ghost use Rattle.steal_pool.specs.Facts.{HasEnd, IsEnding, Keeps, Owed, RestOwes};
     ghost use Rattle.steal_pool.specs.Facts.{ending_one, owed_one, rest_one};
 

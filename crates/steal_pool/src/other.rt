@@ -6,13 +6,13 @@ ghost use Rattle.crossbeam_deque.specs.Steals.{MatchSteal, is_retry};
 ghost use Rattle.crossbeam_deque.specs.Tasks.{Finds};
 
 use crate::deques::{Emptied, Look, Numbers, Thief, ThiefPass};
-use crate::load::Setting;
+use crate::load::RunTerms;
 use crossbeam_deque::Steal;
 use crossbeam_deque::protocol::Protocol;
 
 /// Another worker's deque.
 #[derive(Drop)]
-pub(crate) struct Other<S: Setting>
+pub(crate) struct Other<S: RunTerms>
 where
     Numbers<S>: Protocol<u32, ()>,
 {
@@ -24,7 +24,7 @@ where
     pub ghost fifo: { stealer_flavor thief ≡ 0 },
 }
 
-impl<S: Setting> Other<S> {
+impl<S: RunTerms> Other<S> {
     /// Takes the first number. Another taker was faster where others have taken more than this end
     /// knew of, or the deque was empty.
     pub(crate) fn steal<E: Emptied>(&mut self) -> Steal<u32>

@@ -4,19 +4,19 @@ ghost use Rattle.std.specs.Prelude.{◌≡◌, ◌*◌, ◌≤◌};
 ghost use Rattle.tp_value.specs.declared.limits.TheConstants.{MAX_BEAT, MAX_FORKS};
 ghost use Rattle.join_records.specs.Passes.{record_count};
 
-use crate::load::{Machine, Setting};
+use crate::load::{RunTerms, TaskLoad};
 use crossbeam_utils::sync::EventCount;
 use join_records::{Load, Records};
 use tpal_syntax::Code;
 
 /// What all workers of a run share: the code, the table of records, and how work is shared out.
 #[derive(Drop)]
-pub(crate) struct Plan<'a, S: Setting>
+pub(crate) struct Plan<'a, S: RunTerms>
 where
-    Machine<S>: Load,
+    TaskLoad<S>: Load,
 {
     pub(crate) code: &'a Code,
-    pub(crate) records: &'a Records<Machine<S>>,
+    pub(crate) records: &'a Records<TaskLoad<S>>,
     /// The instructions between two beats of a task.
     pub(crate) heartbeat: u64,
     /// The beats that each worker may have.

@@ -17,12 +17,12 @@ ghost use Rattle.tpal_machine.specs.State.{first_state};
 ghost use Rattle.schedule_core.specs.Apply.{IsJob};
 
 use crate::crew::make_workers;
+use crate::desk::Work;
 use crate::gate::{Gate, GateEvent};
 use crate::gather::{close_run, gather};
 use crate::idling::Idling;
-use crate::load::{Machine, Setting};
+use crate::load::{RunTerms, TaskLoad};
 use crate::plan::Plan;
-use crate::seat::Work;
 use crate::turn::{Step, Worker};
 use crossbeam_utils::sync::EventCount;
 use join_records::{Closed, Records};
@@ -38,20 +38,20 @@ use tpal_machine::Task;
 use tpal_syntax::Code;
 
 // One worker, turn after turn, until it has ended or memory is wanting.
-fn work<S: Setting, R: Wait, G: Gate>(
+fn work<S: RunTerms, R: Wait, G: Gate>(
     rt: &R,
     worker: &mut Worker<S>,
     plan: &Plan<S>,
     is_wanting: &AtomicBool,
     gate: &G,
 )
-    requires table { IsPassOf plan.now.records.now worker.old.seat.pass }
-    requires has { Has S.terms (view worker.old.seat.pass) worker.old.seat.taken
-        worker.old.seat.counts worker.old.seat.work }
-    ensures pass { IsPassOf plan.now.records.now worker.new.seat.pass
-        × Stays (view worker.old.seat.pass) (view worker.new.seat.pass) }
-    ensures has { Has S.terms (view worker.new.seat.pass) worker.new.seat.taken
-        worker.new.seat.counts worker.new.seat.work }
+    requires table { IsPassOf plan.now.records.now worker.old.desk.pass }
+    requires has { Has S.terms (view worker.old.desk.pass) worker.old.desk.taken
+        worker.old.desk.counts worker.old.desk.work }
+    ensures pass { IsPassOf plan.now.records.now worker.new.desk.pass
+        × Stays (view worker.old.desk.pass) (view worker.new.desk.pass) }
+    ensures has { Has S.terms (view worker.new.desk.pass) worker.new.desk.taken
+        worker.new.desk.counts worker.new.desk.work }
     ensures deques { SameDeques worker.old.source worker.new.source }
 {
     let mut idling = Idling::new();
@@ -66,7 +66,7 @@ fn work<S: Setting, R: Wait, G: Gate>(
             Step::Idle => idling.go_on(rt, plan.sleepers),
             Step::Over => break,
         }
-        if matches!(worker.seat.work, Work::Lost) {
+        if matches!(worker.desk.work, Work::Lost) {
             is_wanting.store(true, Ordering::SeqCst);
         }
     }
@@ -74,7 +74,7 @@ fn work<S: Setting, R: Wait, G: Gate>(
 }
 
 // All workers, each in a thread of its own where one can be made.
-fn work_all<S: Setting + Send + Sync, R: Threads + Wait + Sync, G: Gate + Sync>(
+fn work_all<S: RunTerms + Send + Sync, R: Threads + Wait + Sync, G: Gate + Sync>(
     rt: &R,
     workers: &mut [Worker<S>],
     plan: &Plan<S>,
@@ -82,17 +82,17 @@ fn work_all<S: Setting + Send + Sync, R: Threads + Wait + Sync, G: Gate + Sync>(
 )
     requires some { 0 < length workers.old }
     requires each { All
-        (λ w. IsPassOf plan.now.records.now w.seat.pass
-        × Has S.terms (view w.seat.pass) w.seat.taken w.seat.counts w.seat.work
-        × IsRooted S.terms (view w.seat.pass))
+        (λ w. IsPassOf plan.now.records.now w.desk.pass
+        × Has S.terms (view w.desk.pass) w.desk.taken w.desk.counts w.desk.work
+        × IsRooted S.terms (view w.desk.pass))
         workers.old }
     ensures each { All
-        (λ w. IsPassOf plan.now.records.now w.seat.pass
-        × Has S.terms (view w.seat.pass) w.seat.taken w.seat.counts w.seat.work
-        × IsRooted S.terms (view w.seat.pass))
+        (λ w. IsPassOf plan.now.records.now w.desk.pass
+        × Has S.terms (view w.desk.pass) w.desk.taken w.desk.counts w.desk.work
+        × IsRooted S.terms (view w.desk.pass))
         workers.new }
-    ensures parts { total (λ w. (view w.seat.pass).parts) workers.new
-        ≡ total (λ w. (view w.seat.pass).parts) workers.old }
+    ensures parts { total (λ w. (view w.desk.pass).parts) workers.new
+        ≡ total (λ w. (view w.desk.pass).parts) workers.old }
     ensures count { length workers.new ≡ length workers.old }
 {
     let is_wanting = AtomicBool::new(false);
@@ -116,7 +116,7 @@ struct Start<'a> {
 }
 
 // Runs a first task to its end, under the terms of the run.
-fn run_from<S: Setting + Send + Sync, R: Threads + Wait + Sync, G: Gate + Sync>(
+fn run_from<S: RunTerms + Send + Sync, R: Threads + Wait + Sync, G: Gate + Sync>(
     rt: &R,
     alloc: Global,
     start: Start,
@@ -146,7 +146,7 @@ fn run_from<S: Setting + Send + Sync, R: Threads + Wait + Sync, G: Gate + Sync>(
         workers,
         task,
     } = start;
-    let (records, passes) = Records::<Machine<S>>::new(
+    let (records, passes) = Records::<TaskLoad<S>>::new(
         alloc,
         RECORDS_PER_WORKER * workers,
         workers,

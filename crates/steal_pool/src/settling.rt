@@ -3,17 +3,17 @@
 ghost use Rattle.std.specs.Prelude.{◌≡◌, MatchResult};
 ghost use Rattle.tpal_machine.specs.declared.ends.Ending.TheVariants as ending;
 ghost use Rattle.join_records.specs.Passes.{IsPassOf, view};
-ghost use Rattle.steal_pool.specs.declared.seat.Work.TheVariants.{Lost};
+ghost use Rattle.steal_pool.specs.declared.desk.Work.TheVariants.{Lost};
 ghost use Rattle.steal_pool.specs.Has.{Has, HasEnded, Stays, work_after};
 
-use crate::load::Setting;
+use crate::desk::{Desk, Work};
+use crate::load::RunTerms;
 use crate::plan::Plan;
-use crate::seat::{Seat, Work};
 use join_records::Arrival;
 use tp_value::{NoMemory, Outcome};
 use tpal_machine::{Ending, Merged, Side, SideName, merge};
 
-impl<S: Setting> Seat<S> {
+impl<S: RunTerms> Desk<S> {
     // A side arrives at its record. The second to arrive merges both, and frees the record.
     fn arrive(&mut self, plan: &Plan<S>, rec: u32, side: SideName, out: Side)
         requires table { IsPassOf plan.now.records.now self.old.pass }

@@ -6,7 +6,7 @@ ghost use Rattle.crossbeam_deque.specs.Handles.{worker_port};
 ghost use Rattle.crossbeam_deque.specs.Tasks.{Finds};
 
 use crate::deques::{EachEmptied, Emptied, Look, Numbers, Owner};
-use crate::load::Setting;
+use crate::load::RunTerms;
 use crate::other::Other;
 use crossbeam_deque::Steal;
 use crossbeam_deque::protocol::Protocol;
@@ -26,7 +26,7 @@ pub(crate) enum Found {
 /// A worker's own deque and list, and the deques of the others, from the next worker round to the
 /// one before it.
 #[derive(Drop)]
-pub(crate) struct Source<S: Setting>
+pub(crate) struct Source<S: RunTerms>
 where
     Numbers<S>: Protocol<u32, ()>,
 {
@@ -38,7 +38,7 @@ where
     pub ghost small: { All (λ k. k < S.terms.records) list.items },
 }
 
-impl<S: Setting> Source<S> {
+impl<S: RunTerms> Source<S> {
     ghost use Rattle.steal_pool.specs.Found.{FindsAll, HasLost, IsNumber, WhereLost};
     ghost use Rattle.steal_pool.specs.Found.{WhereNothing};
     ghost use Rattle.steal_pool.specs.Tied.{SameDeques};

@@ -3,7 +3,7 @@ use Rattle.std.proofs.lemmas.List.Elements.{All-append, All-cons, All-nil}
 use Rattle.join_records.specs.Passes.{IsPassOf, NewView, view}
 use Rattle.join_records.proofs.Calls.{last_before, last_here, last_total}
 use Rattle.join_records.proofs.Functions.{length_more}
-use Rattle.steal_pool.specs.declared.seat.Work.TheVariants as work
+use Rattle.steal_pool.specs.declared.desk.Work.TheVariants as work
 use Rattle.steal_pool.specs.Facts.{Owed}
 use Rattle.steal_pool.specs.Has.{Has, IsRooted}
 use Rattle.steal_pool.proofs.Beginning.{first_begins, idle_begins, idle_view, starts}
@@ -13,7 +13,7 @@ use Rattle.steal_pool.proofs.crew.make_workers.Goals as goal
 -- a worker that begins with nothing
 pub loop-passes-preserved : goal.loop-passes-preserved
 loop-passes-preserved g c =
-    let terms = g.S.Setting.terms in
+    let terms = g.S.RunTerms.terms in
     let table = c.args.plan.now.records.now in
     let p = c.in-Some-Some.pass in
     let xs = c.pop.new.self.items in
@@ -31,17 +31,17 @@ loop-passes-preserved g c =
     let owed =
     subst (λ t. Owed terms.code terms.heartbeat t e) c.requires.first kept.0.1 in
     let fits : _ → Type 0 =
-    λ w. IsPassOf table w.seat.pass
-    × Has terms (view w.seat.pass) w.seat.taken w.seat.counts w.seat.work
-    × IsRooted terms (view w.seat.pass) in
+    λ w. IsPassOf table w.desk.pass
+    × Has terms (view w.desk.pass) w.desk.taken w.desk.counts w.desk.work
+    × IsRooted terms (view w.desk.pass) in
     let mine : fits worker =
-    starts terms table p worker.seat.pass worker.seat.taken worker.seat.counts worker.seat.work
+    starts terms table p worker.desk.pass worker.desk.taken worker.desk.counts worker.desk.work
     work.Nothing made.pass made.work made.taken made.counts here.0
     (idle_begins terms e (length xs) (view p) idle)
     record { ending = e; root = idle.3.1; owed = owed } in
-    let parts : (view worker.seat.pass).parts ≡ 1 =
+    let parts : (view worker.desk.pass).parts ≡ 1 =
     ap (λ q. (view q).parts) made.pass ∙ idle.0 in
-    let sum = last_total (λ w. (view w.seat.pass).parts) _ others worker new in
+    let sum = last_total (λ w. (view w.desk.pass).parts) _ others worker new in
     let long = ap length new ∙ length_more others worker in
     let all_parts = kept.2 in
     let all_count = kept.3 in
@@ -63,7 +63,7 @@ loop-passes-preserved g c =
 -- the worker with the first task
 pub returns-clause-each : goal.returns-clause-each
 returns-clause-each g c =
-    let terms = g.S.Setting.terms in
+    let terms = g.S.RunTerms.terms in
     let table = c.args.plan.now.records.now in
     let p = c.in-Some-Some-2.pass in
     let xs = c.pop-2.new.self.items in
@@ -84,11 +84,11 @@ returns-clause-each g c =
     let owed =
     subst (λ t. Owed terms.code terms.heartbeat t e) c.requires.first kept.0.1 in
     let fits : _ → Type 0 =
-    λ w. IsPassOf table w.seat.pass
-    × Has terms (view w.seat.pass) w.seat.taken w.seat.counts w.seat.work
-    × IsRooted terms (view w.seat.pass) in
+    λ w. IsPassOf table w.desk.pass
+    × Has terms (view w.desk.pass) w.desk.taken w.desk.counts w.desk.work
+    × IsRooted terms (view w.desk.pass) in
     let mine : fits worker =
-    starts terms table p worker.seat.pass worker.seat.taken worker.seat.counts worker.seat.work
+    starts terms table p worker.desk.pass worker.desk.taken worker.desk.counts worker.desk.work
     (work.Runs c.args.first) made.pass made.work made.taken made.counts here.0
     (first_begins terms e count (view p) c.args.first root kept.0.1 c.requires.end)
     record { ending = e; root = root.2.1; owed = owed } in
@@ -122,7 +122,7 @@ returns-clause-parts g c =
     let worker = c.make_worker-2.result in
     let others = c.loop-passes.workers.items in
     let new : c.push-2.new.self.items ≡ others ++ worker ∷ [] = search rules in
-    let sum = last_total (λ w. (view w.seat.pass).parts) _ others worker new in
+    let sum = last_total (λ w. (view w.desk.pass).parts) _ others worker new in
     let parts = ap (λ q. (view q).parts) c.make_worker-2.ensures.pass in
     let first = root.0 in
     let all_parts = kept.2 in

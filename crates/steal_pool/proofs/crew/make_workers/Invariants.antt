@@ -13,14 +13,14 @@ use Rattle.steal_pool.proofs.crew.make_workers.Given as goal
 abbrev pub invariant-loop-passes : goal.invariant-loop-passes
 invariant-loop-passes g l =
     ((e : Ending)
-    × Owed g.S.Setting.terms.code g.S.Setting.terms.heartbeat l.fn.first e
+    × Owed g.S.RunTerms.terms.code g.S.RunTerms.terms.heartbeat l.fn.first e
     × ((k : ℕ) (p : _)
     → get_elem? l.passes.items k ≡ some p
     → IsPassOf l.plan.records.now p × NewView e (length l.fn.passes.items) k (view p)))
-    × All (λ w. IsPassOf l.plan.records.now w.seat.pass
-    × Has g.S.Setting.terms (view w.seat.pass) w.seat.taken w.seat.counts w.seat.work
-    × IsRooted g.S.Setting.terms (view w.seat.pass)) l.workers.items
-    × (total (λ w. (view w.seat.pass).parts) l.workers.items ≡ length l.workers.items)
+    × All (λ w. IsPassOf l.plan.records.now w.desk.pass
+    × Has g.S.RunTerms.terms (view w.desk.pass) w.desk.taken w.desk.counts w.desk.work
+    × IsRooted g.S.RunTerms.terms (view w.desk.pass)) l.workers.items
+    × (total (λ w. (view w.desk.pass).parts) l.workers.items ≡ length l.workers.items)
     × (length l.passes.items + length l.workers.items ≡ length l.fn.passes.items)
     × (length l.sources.items ≡ length l.passes.items)
     × (1 ≤ length l.passes.items)

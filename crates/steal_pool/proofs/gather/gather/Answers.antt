@@ -8,12 +8,12 @@ use Rattle.steal_pool.proofs.Gathering.{all_sums, any_err, capped, capped_on}
 use Rattle.steal_pool.proofs.Lists.{all_last, all_left, passes_more}
 use Rattle.steal_pool.proofs.gather.gather.Goals as goal
 
-pub add-requires-clause-seat : goal.add-requires-clause-seat
-add-requires-clause-seat g c =
+pub add-requires-clause-desk : goal.add-requires-clause-desk
+add-requires-clause-desk g c =
     all_last
-    (λ w. IsPassOf c.args.plan.now.records.now w.seat.pass
-    × Has g.S.Setting.terms (view w.seat.pass) w.seat.taken w.seat.counts w.seat.work
-    × IsRooted g.S.Setting.terms (view w.seat.pass)) _ c.pop.new.self.items c.in-Some.worker
+    (λ w. IsPassOf c.args.plan.now.records.now w.desk.pass
+    × Has g.S.RunTerms.terms (view w.desk.pass) w.desk.taken w.desk.counts w.desk.work
+    × IsRooted g.S.RunTerms.terms (view w.desk.pass)) _ c.pop.new.self.items c.in-Some.worker
     c.in-Some.ensures.items c.loop-worker.invariant.0
 
 -- the pass of the worker that was popped goes to the others, and its counts to theirs
@@ -27,15 +27,15 @@ loop-worker-preserved g c =
     let more = added.passes in
     let table = c.args.plan.now.records.now in
     let fits : _ → Type 0 =
-    λ w. IsPassOf table w.seat.pass
-    × Has g.S.Setting.terms (view w.seat.pass) w.seat.taken w.seat.counts w.seat.work
-    × IsRooted g.S.Setting.terms (view w.seat.pass) in
+    λ w. IsPassOf table w.desk.pass
+    × Has g.S.RunTerms.terms (view w.desk.pass) w.desk.taken w.desk.counts w.desk.work
+    × IsRooted g.S.RunTerms.terms (view w.desk.pass) in
     let mine = all_last fits _ left worker last kept.0 in
-    let parts = last_total (λ p. p.seat.me.0.parts) _ _ worker.seat.pass more in
-    let workers = last_total (λ w. (view w.seat.pass).parts) _ left worker last in
-    let beats = last_total (λ w. w.seat.counts.beats) _ left worker last in
-    let skipped = last_total (λ w. w.seat.counts.skipped) _ left worker last in
-    let instructions = last_total (λ w. w.seat.counts.instructions) _ left worker last in
+    let parts = last_total (λ p. p.seat.me.0.parts) _ _ worker.desk.pass more in
+    let workers = last_total (λ w. (view w.desk.pass).parts) _ left worker last in
+    let beats = last_total (λ w. w.desk.counts.beats) _ left worker last in
+    let skipped = last_total (λ w. w.desk.counts.skipped) _ left worker last in
+    let instructions = last_total (λ w. w.desk.counts.instructions) _ left worker last in
     let long = ap length more ∙ length_more _ _ in
     let short = ap length last ∙ length_more _ _ in
     let all_parts = kept.2 in
@@ -50,7 +50,7 @@ loop-worker-preserved g c =
     let fits_room = same.0 in
     let one_room = same.1 in (
       all_left fits _ left worker last kept.0,
-      passes_more table _ _ worker.seat.pass more kept.1 mine.0,
+      passes_more table _ _ worker.desk.pass more kept.1 mine.0,
       omega arith,
       omega arith,
       added.outcome,
@@ -58,18 +58,18 @@ loop-worker-preserved g c =
       omega arith,
       omega arith,
       omega arith,
-      capped_on _ worker.seat.counts.instructions _ _ _ _ (2 ^ 64 - 1) sums.2 instructions kept.9,
+      capped_on _ worker.desk.counts.instructions _ _ _ _ (2 ^ 64 - 1) sums.2 instructions kept.9,
       capped _ _ (2 ^ 64 - 1) sums.2,
-      λ over. all_left (λ w. IsOver w.seat.work) _ left worker last (kept.11 over),
+      λ over. all_left (λ w. IsOver w.desk.work) _ left worker last (kept.11 over),
     )
 
 -- of workers that have all ended none wants memory
 pub returns-in_err-sum-clause-wanting : goal.returns-in_err-sum-clause-wanting
 returns-in_err-sum-clause-wanting g c =
-    any_err (All (λ w. IsOver w.seat.work) c.args.workers.items → ⊥) c.from_residual.result
+    any_err (All (λ w. IsOver w.desk.work) c.args.workers.items → ⊥) c.from_residual.result
     (λ over.
     c.in_err-sum.ensures.wanting
-    (all_last (λ w. IsOver w.seat.work) _ c.pop.new.self.items c.in-Some.worker
+    (all_last (λ w. IsOver w.desk.work) _ c.pop.new.self.items c.in-Some.worker
     c.in-Some.ensures.items (c.loop-worker.invariant.11 over)))
 
 -- no worker is left
@@ -77,5 +77,5 @@ pub returns-clause-sums : goal.returns-clause-sums
 returns-clause-sums g c =
     let kept = c.loop-worker.invariant in
     let none : c.loop-worker.workers.items ≡ [] = search rules in
-    all_sums (λ w. w.seat.counts) c.loop-worker.workers.items c.args.workers.items _ _ _ none
+    all_sums (λ w. w.desk.counts) c.loop-worker.workers.items c.args.workers.items _ _ _ none
     kept.7 kept.8 kept.9 kept.10

@@ -5,8 +5,8 @@ use Rattle.steal_pool.proofs.pool.work.Given as goal
 
 abbrev pub invariant-loop : goal.invariant-loop
 invariant-loop g l =
-    IsPassOf l.plan.records.now l.worker.seat.pass
-    × Stays (view l.initial.worker.seat.pass) (view l.worker.seat.pass)
-    × Has g.S.Setting.terms (view l.worker.seat.pass) l.worker.seat.taken l.worker.seat.counts
-    l.worker.seat.work
+    IsPassOf l.plan.records.now l.worker.desk.pass
+    × Stays (view l.initial.worker.desk.pass) (view l.worker.desk.pass)
+    × Has g.S.RunTerms.terms (view l.worker.desk.pass) l.worker.desk.taken l.worker.desk.counts
+    l.worker.desk.work
     × SameDeques l.initial.worker.source l.worker.source

@@ -4,12 +4,12 @@ use Rattle.join_records.specs.declared.table.Taken.{Taken}
 use Rattle.join_records.specs.Passes.{view}
 use Rattle.steal_pool.specs.Has.{Runs}
 use Rattle.steal_pool.proofs.Forking.{opened}
-use Rattle.steal_pool.proofs.seat.Seat.open.Goals as goal
+use Rattle.steal_pool.proofs.desk.Desk.open.Goals as goal
 
 -- the left side goes on, under the record that was opened
 pub returns-clause-has : goal.returns-clause-has
 returns-clause-has g c =
-    let terms = g.S.Setting.terms in
+    let terms = g.S.RunTerms.terms in
     let forks = c.requires.forks in
     let parts : Forked =
     record {

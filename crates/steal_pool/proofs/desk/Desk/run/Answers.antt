@@ -7,12 +7,12 @@ use Rattle.tpal_machine.specs.Owes.{Owes}
 use Rattle.join_records.specs.Passes.{view}
 use Rattle.steal_pool.proofs.Counting.{short_beats}
 use Rattle.steal_pool.proofs.Turning.{turn_fits}
-use Rattle.steal_pool.proofs.seat.Seat.run.Goals as goal
+use Rattle.steal_pool.proofs.desk.Desk.run.Goals as goal
 
 -- what the turn of its task came to
 pub follow-requires-clause-fits : goal.follow-requires-clause-fits
 follow-requires-clause-fits g c =
-    let terms = g.S.Setting.terms in
+    let terms = g.S.RunTerms.terms in
     let plan = c.args.plan.now in
     let runs = c.requires.runs in
     let task = c.args.task in

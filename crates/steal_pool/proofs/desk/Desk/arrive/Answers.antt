@@ -11,7 +11,7 @@ use Rattle.join_records.specs.Views.{HasMet}
 use Rattle.join_records.proofs.Callers.{met_here}
 use Rattle.steal_pool.specs.Has.{IsHeld}
 use Rattle.steal_pool.proofs.Arrivals.{after_merge, freed, sides_merge}
-use Rattle.steal_pool.proofs.seat.Seat.arrive.Goals as goal
+use Rattle.steal_pool.proofs.desk.Desk.arrive.Goals as goal
 
 -- the second side has the record in hand as met
 pub free-requires-clause-hand : goal.free-requires-clause-hand
@@ -29,7 +29,7 @@ free-requires-clause-hand g c κs within =
 -- and goes on with what both sides merge to
 pub returns-in-Second-clause-has : goal.returns-in-Second-clause-has
 returns-in-Second-clause-has g c =
-    let terms = g.S.Setting.terms in
+    let terms = g.S.RunTerms.terms in
     let plan = c.args.plan.now in
     let v = view c.args.self.now.pass in
     let x = view c.free.new.pass in

@@ -4,12 +4,12 @@ use Rattle.tpal_machine.specs.State.{State}
 use Rattle.join_records.specs.Passes.{taken_number, view}
 use Rattle.steal_pool.specs.Has.{Runs}
 use Rattle.steal_pool.proofs.Forking.{asked_found}
-use Rattle.steal_pool.proofs.seat.Seat.ask.Goals as goal
+use Rattle.steal_pool.proofs.desk.Desk.ask.Goals as goal
 
 -- the task was given the record that was found
 pub returns-in-Some-clause-has : goal.returns-in-Some-clause-has
 returns-in-Some-clause-has g c =
-    let terms = g.S.Setting.terms in
+    let terms = g.S.RunTerms.terms in
     let plan = c.args.plan.now in
     let waits = c.args.task in
     let k = c.in-Some.taken in

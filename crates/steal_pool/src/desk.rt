@@ -1,17 +1,17 @@
-// A worker's seat: its pass to the records, what it has, and its counts.
+// A worker's desk: its pass to the records, what it has, and its counts.
 
 ghost use Rattle.std.specs.Prelude.{◌≡◌, ◌+◌, ◌<◌, ◌-◌, ◌^◌, ⊤, min, IfSome, IfNone, MatchBool};
 ghost use Rattle.tpal_machine.specs.Owes.{Owes};
 ghost use Rattle.tpal_machine.specs.Memory.{WhereWanting};
 ghost use Rattle.join_records.specs.Passes.{IsPassOf, view};
 ghost use Rattle.join_records.specs.Answers.{NoneFree, Unclaimable};
-ghost use Rattle.steal_pool.specs.declared.seat.Work.TheVariants.{Lost, Nothing};
+ghost use Rattle.steal_pool.specs.declared.desk.Work.TheVariants.{Lost, Nothing};
 ghost use Rattle.steal_pool.specs.Has.{Asks, Forks, Has, HasNothing, Runs, Stays, TurnFits};
 ghost use Rattle.steal_pool.specs.Has.{count_in};
 ghost use Rattle.steal_pool.specs.Stepped.{CountsTask, goes_on, SeesUnset, SkipsFairly, UnlessLost};
 ghost use Rattle.steal_pool.specs.Together.{no_counts};
 
-use crate::load::{Machine, Setting};
+use crate::load::{RunTerms, TaskLoad};
 use crate::plan::Plan;
 use join_records::{Load, Pass, Taken};
 use tp_value::Outcome;
@@ -48,13 +48,13 @@ pub(crate) struct Counts {
     pub(crate) instructions: u64,
 }
 
-/// A worker's seat.
+/// A worker's desk.
 #[derive(Drop)]
-pub(crate) struct Seat<S: Setting>
+pub(crate) struct Desk<S: RunTerms>
 where
-    Machine<S>: Load,
+    TaskLoad<S>: Load,
 {
-    pub(crate) pass: Pass<Machine<S>>,
+    pub(crate) pass: Pass<TaskLoad<S>>,
     pub(crate) work: Work,
     /// The record that its task was given and has yet to open.
     pub(crate) taken: Option<Taken>,
@@ -85,7 +85,7 @@ impl Counts {
     }
 }
 
-impl<S: Setting> Seat<S> {
+impl<S: RunTerms> Desk<S> {
     // Answers a task that asked for a record: with a free one, or with none where each record was
     // read as not free. Each question is a search, which begins where the last one found a record.
     fn ask(&mut self, plan: &Plan<S>, task: Task)
