@@ -1,7 +1,7 @@
-//! Programs that read and write texts, and one that counts: `bench_compiler WORD SIZE TIMES` with one
-//! of the words `tables`, `print`, `assemble` and `parse`, and `bench_compiler lower`. Each has a
-//! module, which says what its numbers are. Without a word each runs once, over little. bench/*.sh
-//! time them.
+//! Programs that read and write texts, and one that counts: `bench_compiler WORD SIZE TIMES` with
+//! one of the words `tables`, `print`, `assemble` and `parse`, and `bench_compiler lower`. Each has
+//! a module, which says what its numbers are. Without a word each runs once, over little.
+//! bench/*.sh time them.
 #![tactic(auto)]
 
 mod assembling;

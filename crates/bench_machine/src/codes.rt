@@ -1,5 +1,5 @@
-// Runs a code written by hand: the loads of `bench/machine.sh`. `sum` adds the squares of a table of
-// 1000 by 1000 cells, `fib` calls itself on its stack.
+// Runs a code written by hand: the loads of `bench/machine.sh`. `sum` adds the squares of a table
+// of 1000 by 1000 cells, `fib` calls itself on its stack.
 
 ghost use Rattle.std.specs.Prelude.{◌≡◌, length, IfOk, IfSome};
 ghost use Rattle.tpal_machine.specs.Belonging.{RunsOn};

@@ -104,7 +104,7 @@ fn write_report(rt: &HostRuntime, report: &Report) -> io::Result<()> {
     )
 }
 
-/// Writes what the run printed and its counts. Other kinds, and numbers out of range, give status 2.
+/// Writes what the run printed and its counts. Other kinds and numbers out of range give status 2.
 pub fn run(rt: &HostRuntime, kind: &str, count: u32) -> io::Result<ExitCode> {
     let Some(heartbeat) = heartbeat_of(kind) else {
         return Ok(ExitCode::from(2));

@@ -1,7 +1,7 @@
-//! Loads of the parts that a run goes through: `bench_machine tables NAME TIMES`, `marks NAME TIMES`,
-//! `codes NAME TIMES` and `heartbeats KIND COUNT`. Each has a module, which says what its names and
-//! numbers are. It stands on the machine and the core, and on nothing that reads a source text.
-//! Without a word each runs once. bench/*.sh time them.
+//! Loads of the parts that a run goes through: `bench_machine tables NAME TIMES`, `marks NAME
+//! TIMES`, `codes NAME TIMES` and `heartbeats KIND COUNT`. Each has a module, which says what its
+//! names and numbers are. It stands on the machine and the core, and on nothing that reads a source
+//! text. Without a word each runs once. bench/*.sh time them.
 #![tactic(auto)]
 
 mod codes;

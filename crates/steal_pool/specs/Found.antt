@@ -31,8 +31,8 @@ module _ {S : Type 0} {G : Ghosts S} where
   FindsAll holds empty others =
       All (λ o. Finds holds o.pass.id tt (empty (stealer_deque o.thief))) others
 
-  -- a steal answered that it lost to another taker: others have taken more from that deque than this
-  -- end knew of, or it was found empty
+  -- a steal answered that it lost to another taker: others have taken more from that deque than
+  -- this end knew of, or it was found empty
   pub record HasLost (empty : DequeName → Type 0) (before after : List (Other S G)) : Type 0 where
     pub place : ℕ
     pub near : place < length before

@@ -55,7 +55,8 @@ turn_in terms c task = turn_of 4096 terms.code terms.heartbeat (nat_lt c.beats t
 -- instructions stay at their type's end
 pub record CountsTask (terms : Terms) (task : State) (c d : Counts) : Type 0 where
   pub beats : d.beats ≡ c.beats + (turn_in terms c task).beats
-  pub instructions : d.instructions ≡ min (c.instructions + (turn_in terms c task).steps) (2 ^ 64 - 1)
+  pub instructions : d.instructions
+      ≡ min (c.instructions + (turn_in terms c task).steps) (2 ^ 64 - 1)
 
 abbrev pub UnlessLost : Work → Type 0 → Type 0
 UnlessLost work.Nothing P = P

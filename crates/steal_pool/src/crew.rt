@@ -131,8 +131,8 @@ fn make_worker<S: RunTerms>(
 }
 
 /// The workers of a run, each with an end of each other one's deque. The last one has the first
-/// task: where no thread can be made, the last of a list runs first, and the others wait for what it
-/// does.
+/// task: where no thread can be made, the last of a list runs first, and the others wait for what
+/// it does.
 pub(crate) fn make_workers<S: RunTerms>(
     alloc: Global,
     plan: &Plan<S>,

@@ -135,8 +135,8 @@ impl<S: RunTerms> Worker<S> {
     /// One turn: runs the task that the worker has, or settles what it ended with, or looks for
     /// another. `Idle` comes only where its list was empty, its own deque and each other one was
     /// found empty at a moment of this turn, and the finish word was read unset. `Again` comes only
-    /// where a steal lost to another taker, or a claim found its child gone. A question for a record
-    /// is skipped only where each record was read as not free in this turn.
+    /// where a steal lost to another taker, or a claim found its child gone. A question for a
+    /// record is skipped only where each record was read as not free in this turn.
     pub(crate) fn turn<E: EachEmptied, G: Gate>(&mut self, plan: &Plan<S>, gate: &G) -> Step
         requires table { IsPassOf plan.now.records.now self.old.desk.pass }
         requires has { Has S.terms (view self.old.desk.pass) self.old.desk.taken

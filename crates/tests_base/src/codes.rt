@@ -1,5 +1,5 @@
-// Codes that are made, with their ops: which instructions stand together in one, and which only look
-// so. Which lists are a code is told by cases of `tests_conformance`.
+// Codes that are made, with their ops: which instructions stand together in one, and which only
+// look so. Which lists are a code is told by cases of `tests_conformance`.
 
 use std::alloc::Global;
 use std::test::Fail;
@@ -559,7 +559,8 @@ const fn set(to: u8, number: i64) -> Instr {
     }
 }
 
-// A read with its column loaded or the number 0 as its row before it; a write is joined with neither.
+// A read with its column loaded or the number 0 as its row before it; a write is joined with
+// neither.
 #[test]
 fn accesses_are_one_op_with_what_they_need(rt: HostRuntime) -> Result<(), Fail> {
     let (tick, cell, col) = (Instr::Tick, load(5, 31, 7), load(1, 31, 8));

@@ -41,7 +41,17 @@ are_tables (Input x ∷ e ∷ ds) = All-nil IsTable
 are_tables (Made x a b ∷ e ∷ ds) = All-nil IsTable
 
 -- the first task that holds what a program is given owes the program's meaning
-pub first_owes : (program : Program) (code : Listing) (held task_held : List Holding) (heartbeat : ℕ) → OwesMeaning program code → AreNamed program.tables.items (given_to program.tables.items) → AreHeld program.tables.items (given_to program.tables.items) held → task_held ≡ held → Owes code heartbeat false 0 (first_state task_held 1000000) (owed program)
+pub first_owes : (program : Program) (code : Listing) (held task_held : List Holding)
+    (heartbeat : ℕ)
+    → OwesMeaning program code
+    → AreNamed program.tables.items (given_to program.tables.items)
+    → AreHeld program.tables.items (given_to program.tables.items) held
+    → task_held ≡ held
+    → Owes code heartbeat false 0 (first_state task_held 1000000) (owed program)
 first_owes program code held task_held heartbeat owes named are_held same =
-    subst (λ (holdings : List Holding). Owes code heartbeat false 0 (first_state holdings 1000000) (owed program)) (sym same)
-    (owes_anyhow program code owes (given_to program.tables.items) held heartbeat 1000000 (are_tables program.tables.items) named are_held)
+    subst
+    (λ (holdings : List Holding).
+    Owes code heartbeat false 0 (first_state holdings 1000000) (owed program))
+    (sym same)
+    (owes_anyhow program code owes (given_to program.tables.items) held heartbeat 1000000
+    (are_tables program.tables.items) named are_held)

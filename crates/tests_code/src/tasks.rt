@@ -1,19 +1,20 @@
 // How many tasks compiled programs make where each beat may make one: with a heartbeat of one
 // instruction, and a free record at each question.
 //
-// What a part of a loop does then follows from its code alone, whoever runs it and when. It runs its
-// first iteration, and comes to a promotion point before each later one. There it is diverted, once:
-// the handler goes back to that point, which lets it pass. Of the m iterations that aren't begun the
-// child gets the half, rounded up. The left runs one of its m / 2, where it has one, and so comes to
-// its next point with m / 2 - 1. Let f(n) be the tasks that a part of n iterations makes, and g(m)
-// those from a point on at which m aren't begun:
+// What a part of a loop does then follows from its code alone, whoever runs it and when. It runs
+// its first iteration, and comes to a promotion point before each later one. There it is diverted,
+// once: the handler goes back to that point, which lets it pass. Of the m iterations that aren't
+// begun the child gets the half, rounded up. The left runs one of its m / 2, where it has one, and
+// so comes to its next point with m / 2 - 1. Let f(n) be the tasks that a part of n iterations
+// makes, and g(m) those from a point on at which m aren't begun:
 //
 //     f(n) = g(n - 1)    g(m) = 1 + f(m - m / 2) + g(m / 2 - 1)    g(0) = g(-1) = 0
 //
 // So g(1) = g(2) = 1, g(3) = 2, g(6) = 1 + f(3) + g(2) = 3, g(7) = 1 + f(4) + g(2) = 4,
 // g(14) = 1 + f(7) + g(6) = 7, g(15) = 1 + f(8) + g(6) = 8, g(30) = 1 + f(15) + g(14) = 15,
-// g(31) = 1 + f(16) + g(14) = 16 and g(63) = 1 + f(32) + g(30) = 32: a loop of 64 iterations makes 32
-// tasks. Each `both` has a promotion point of its own, in front of its first call, and makes one.
+// g(31) = 1 + f(16) + g(14) = 16 and g(63) = 1 + f(32) + g(30) = 32: a loop of 64 iterations makes
+// 32 tasks. Each `both` has a promotion point of its own, in front of its first call, and makes
+// one.
 
 ghost use Rattle.code_laws.specs.Owing.{OwesMeaning};
 

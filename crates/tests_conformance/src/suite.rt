@@ -52,7 +52,7 @@ fn try_one<R: Threads + Wait + Sync + AllocGlobal + Print>(
     }
 }
 
-// Tries the case that a line or the end of the file ended, if any. Whether the line was of the form.
+// Tries the case that a line or the file's end ended, if any. Whether the line was of the form.
 fn go_on<R: Threads + Wait + Sync + AllocGlobal + Print>(
     rt: &R,
     file: &str,

@@ -35,9 +35,9 @@ use Rattle.tpal_tool.specs.Words.{run_options}
 
 -- These counts go with a run of a code from its first task, over these inputs, that came to this
 -- outcome. There are at most as many beats as the options allow a worker, times the workers; each
--- made a task or was skipped; and so many instructions as the heartbeat were executed for each task.
--- With one worker they are those of the solo run. With several nothing else is said of them: not
--- that they come of a run, nor by how many workers.
+-- made a task or was skipped; and so many instructions as the heartbeat were executed for each
+-- task. With one worker they are those of the solo run. With several nothing else is said of them:
+-- not that they come of a run, nor by how many workers.
 pub record Ran (program : Program) (code : Listing) (inputs : List Table) (options : Options)
     (outcome : Outcome) (tally : Tally) : Type 0 where
   pub holdings : List Holding

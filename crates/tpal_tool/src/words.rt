@@ -2,10 +2,10 @@
 
 ghost use Rattle.std.specs.Prelude.{◌≡◌, ◌≤◌, IfSome, map, option_map, string_bytes};
 ghost use Rattle.tp_value.specs.declared.limits.TheConstants.{MAX_FUEL};
-ghost use Rattle.tpal_tool.specs.Words.{asked_by, compile_of, is_dashed, is_plain, kind_of, least_of};
-ghost use Rattle.tpal_tool.specs.Words.{most_of, number_up_to, options_of, run_of, sample_run_of};
-ghost use Rattle.tpal_tool.specs.Words.{seed_of, spelled, value_of, with_number, with_rest};
-ghost use Rattle.tpal_tool.specs.Words.{with_show, with_value, with_word, with_words};
+ghost use Rattle.tpal_tool.specs.Words.{asked_by, compile_of, is_dashed, is_plain, kind_of};
+ghost use Rattle.tpal_tool.specs.Words.{least_of, most_of, number_up_to, options_of, run_of};
+ghost use Rattle.tpal_tool.specs.Words.{sample_run_of, seed_of, spelled, value_of, with_number};
+ghost use Rattle.tpal_tool.specs.Words.{with_rest, with_show, with_value, with_word, with_words};
 ghost use Rattle.tpal_tool.specs.Asking.{chosen_of, command_of, given_of, kind_seen, due_of};
 ghost use Rattle.tpal_tool.specs.Asking.{options_seen};
 
