@@ -40,11 +40,11 @@ use Rattle.form_laws.proofs.Forms.Choices.{first_names}
 use Rattle.form_laws.proofs.Forms.Choices.{first_names_in, more_names_one, Longer, longer_one}
 use Rattle.form_laws.proofs.Forms.Choices.{same_names}
 use Rattle.form_laws.proofs.Premises.Cutting.{ProgramRules}
-use Rattle.form_laws.proofs.DeepPars.DeepStatements.{deep_statement}
+use Rattle.par_laws.proofs.DeepPars.DeepStatements.{deep_statement}
 use Rattle.form_laws.proofs.Forms.Emits.{emit_law}
 use Rattle.form_laws.proofs.Forms.Folds.{fold_law, fold_nothing_law, fold_register_law}
 use Rattle.form_laws.proofs.Forms.Loops.{inside, loop_law, loop_to_law}
-use Rattle.form_laws.proofs.LeafPars.LeafStatements.{leaf_statement}
+use Rattle.par_laws.proofs.LeafPars.LeafStatements.{leaf_statement}
 use Rattle.form_laws.proofs.Premises.Occurring.{in_if, in_other, in_while, in_loop, at_first}
 use Rattle.form_laws.proofs.Premises.Occurring.{at_later}
 use Rattle.form_laws.proofs.Premises.Occurring.{by_call, called_if, called_other, called_while}
@@ -54,7 +54,7 @@ use Rattle.form_laws.proofs.Premises.Permitting.{PermitsOne, PermitsAll, permits
 use Rattle.form_laws.proofs.Premises.Permitting.{permits_later}
 use Rattle.form_laws.proofs.Premises.Permitting.{permits_inside, first_loud, second_loud, loud_if}
 use Rattle.form_laws.proofs.Premises.Permitting.{loud_other, loud_while, loud_list, loud_loop}
-use Rattle.form_laws.proofs.QuietPars.QuietStatements.{quiet_statement}
+use Rattle.par_laws.proofs.QuietPars.QuietStatements.{quiet_statement}
 use Rattle.form_laws.proofs.Forms.Puts.{put_law, put_kept_law}
 use Rattle.scene_laws.proofs.Scenes.Results.{Result, result, then, left, after_then}
 use Rattle.scene_laws.proofs.Scenes.Scene.{Scene, OwedSeen, owed_bare, owed_seen}

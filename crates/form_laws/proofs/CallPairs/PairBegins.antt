@@ -35,7 +35,7 @@ use Rattle.scene_laws.proofs.Scenes.Called.{body_set, enter_is, open_call}
 use Rattle.form_laws.proofs.Forms.Calls.{Calling, as_long, entered_stack, kept_same, kept_there}
 use Rattle.form_laws.proofs.Forms.Calls.{level_less, levels_there, stored_there}
 use Rattle.form_laws.proofs.Forms.Choices.{above_zero}
-use Rattle.form_laws.proofs.QuietPars.Entering.{branches_in, on_entry}
+use Rattle.form_laws.proofs.Entering.{branches_in, on_entry}
 use Rattle.form_laws.proofs.CallPairs.PairEntered.{FirstOwed, IsAtGo, diverted_owed, enters_go}
 use Rattle.form_laws.proofs.CallPairs.PairEntered.{has_last}
 use Rattle.form_laws.proofs.CallPairs.PairFirsts.{given_first, is_first, later_of}

@@ -36,7 +36,7 @@ use Rattle.form_laws.proofs.Forms.Arguments.{AreIn, are_in_same, held_bound, nam
 use Rattle.scene_laws.proofs.Scenes.Called.{body_set, entered_with, value_then}
 use Rattle.form_laws.proofs.Forms.Calls.{base_more}
 use Rattle.form_laws.proofs.Forms.Choices.{OwedAt}
-use Rattle.form_laws.proofs.QuietPars.Entering.{goes_back_in}
+use Rattle.form_laws.proofs.Entering.{goes_back_in}
 use Rattle.scene_laws.proofs.Scenes.Moves.{jumps}
 use Rattle.form_laws.proofs.CallPairs.PairFirsts.{given_first, later_of}
 use Rattle.form_laws.proofs.CallPairs.PairPlaces.{Args, CutsOwed, Firsts, PairAt, Runs, Waiting}

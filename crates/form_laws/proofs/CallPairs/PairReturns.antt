@@ -52,7 +52,7 @@ use Rattle.scene_laws.proofs.Pairs.PairPromises.{side_ends}
 use Rattle.form_laws.proofs.CallPairs.PairSeconds.{CalledAt, FunctionOwed, calls_second}
 use Rattle.form_laws.proofs.CallPairs.PairSeconds.{passes_second}
 use Rattle.scene_laws.proofs.Scenes.Pieces.{Apart, Host}
-use Rattle.form_laws.proofs.QuietPars.QuietEnds.{not_at, unmarked_is}
+use Rattle.form_laws.proofs.Marks.{not_at, unmarked_is}
 use Rattle.scene_laws.proofs.Scenes.Results.{Result, fin, result, then}
 use Rattle.scene_laws.proofs.Scenes.Scene.{Scene, Shows, ShowsIn}
 use Rattle.scene_laws.proofs.Scenes.Showing.{shows_assigned}

@@ -53,7 +53,7 @@ use Rattle.scene_laws.proofs.Scenes.Scene.{Scene, Surroundings, facts, header}
 use Rattle.form_laws.proofs.Premises.Serving.{wholly_cell}
 use Rattle.scene_laws.proofs.Cuts.Sides.{Part}
 use Rattle.scene_laws.proofs.Scenes.Tables.{table_names}
-use Rattle.form_laws.proofs.QuietPars.Turning.{clear_both}
+use Rattle.form_laws.proofs.Marks.{clear_both}
 
 -- what a side holds of the tables, where a task that isn't cut by tables holds this
 abbrev pub shared_region : Region → Region
