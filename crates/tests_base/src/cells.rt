@@ -1,7 +1,7 @@
 // What compiled code does with cells, as ops: which instructions stand together in one, and which
 // only look so.
 
-use crate::codes::{calc, first_op, load, store};
+use crate::shorthand::{calc, first_op, load, store};
 use std::test::Fail;
 use tpal_syntax::{Alu, Instr, Op, Term, Value};
 
@@ -106,55 +106,34 @@ const fn unmark(base: u8, off: u16) -> Instr {
     Instr::PrmPop { base, off }
 }
 
+const fn down(cells: i64) -> Instr {
+    calc(31, 31, Alu::Sub, Value::Int(cells))
+}
+
+// Register 0 goes to a cell.
+const fn gives(off: u16) -> Instr {
+    store(31, off, Value::Reg(0))
+}
+
 #[test]
 fn a_way_back_gives_a_cell_to_a_call(rt: HostRuntime) -> Result<(), Fail> {
-    let back = [
-        calc(31, 31, Alu::Sub, Value::Int(40)),
-        unmark(31, 3),
-        store(31, 5, Value::Reg(0)),
-        load(0, 31, 6),
-        store(31, 45, Value::Reg(0)),
-    ];
+    let back = [down(40), unmark(31, 3), gives(5), load(0, 31, 6), gives(45)];
     let alone = Op::BackStore(0, 40, 3, 5);
     let cases = [
-        (
-            0,
-            calc(31, 31, Alu::Sub, Value::Int(40)),
-            Op::BackPass(3, 5, 6, 40, 45),
-        ),
-        (
-            0,
-            calc(31, 31, Alu::Sub, Value::Int(512)),
-            Op::BackPass(3, 5, 6, 512, 45),
-        ),
-        (
-            0,
-            calc(31, 31, Alu::Sub, Value::Int(-1)),
-            Op::SubInt(31, 31, -1),
-        ),
+        (0, down(40), Op::BackPass(3, 5, 6, 40, 45)),
+        (0, down(512), Op::BackPass(3, 5, 6, 512, 45)),
+        (0, down(-1), Op::SubInt(31, 31, -1)),
         (1, unmark(31, 255), Op::BackPass(255, 5, 6, 40, 45)),
         (1, unmark(31, 256), Op::BackStore(0, 40, 256, 5)),
         (1, unmark(30, 3), Op::SubInt(31, 31, 40)),
-        (
-            2,
-            store(31, 255, Value::Reg(0)),
-            Op::BackPass(3, 255, 6, 40, 45),
-        ),
-        (
-            2,
-            store(31, 256, Value::Reg(0)),
-            Op::BackStore(0, 40, 3, 256),
-        ),
+        (2, gives(255), Op::BackPass(3, 255, 6, 40, 45)),
+        (2, gives(256), Op::BackStore(0, 40, 3, 256)),
         (2, store(31, 5, Value::Reg(1)), Op::BackStore(1, 40, 3, 5)),
         (3, load(0, 31, 255), Op::BackPass(3, 5, 255, 40, 45)),
         (3, load(0, 31, 256), alone),
         (3, load(1, 31, 6), alone),
         (3, load(0, 30, 6), alone),
-        (
-            4,
-            store(31, 511, Value::Reg(0)),
-            Op::BackPass(3, 5, 6, 40, 511),
-        ),
+        (4, gives(511), Op::BackPass(3, 5, 6, 40, 511)),
         (4, store(31, 45, Value::Reg(1)), alone),
         (4, store(30, 45, Value::Reg(0)), alone),
         (4, store(31, 45, Value::Int(0)), alone),

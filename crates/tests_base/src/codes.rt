@@ -1,25 +1,9 @@
 // Codes that are made, with their ops: which instructions stand together in one, and which only
 // look so. Which lists are a code is told by cases of `tests_conformance`.
 
-use std::alloc::Global;
+use crate::shorthand::{block, calc, first_op, if_jump, load, store};
 use std::test::Fail;
-use tp_value::{Items, NoMemory};
-use tpal_syntax::{Alu, Block, Code, CodeTable, Instr, Note, Op, OpRange, Term, Value};
-
-fn block(
-    alloc: Global,
-    name: &[u8],
-    note: Note,
-    body: &[Instr],
-    term: Term,
-) -> Result<Block, NoMemory> {
-    Ok(Block {
-        name: Items::new(Vec::from_slice(alloc, name)?),
-        note,
-        body: Items::new(Vec::from_slice(alloc, body)?),
-        term,
-    })
-}
+use tpal_syntax::{Alu, Code, Instr, Note, Op, OpRange, Term, Value};
 
 #[test]
 fn a_code_lends_its_lists(rt: HostRuntime) -> Result<(), Fail> {
@@ -60,71 +44,17 @@ fn blocks_are_ops(rt: HostRuntime) -> Result<(), Fail> {
     Ok(())
 }
 
-pub(crate) const fn calc(to: u8, left: u8, alu: Alu, right: Value) -> Instr {
-    Instr::Calc {
-        to,
-        left,
-        alu,
-        right,
-    }
-}
-
-pub(crate) const fn load(to: u8, base: u8, off: u16) -> Instr {
-    Instr::Load { to, base, off }
-}
-
-pub(crate) const fn store(base: u8, off: u16, value: Value) -> Instr {
-    Instr::Store { base, off, value }
-}
-
-pub(crate) const fn if_jump(test: u8, label: u32) -> Instr {
-    Instr::IfJump { test, label }
-}
-
-const fn fetch(to: u8, table: u8, row: u8, col: u8) -> Instr {
-    Instr::Fetch {
-        to,
-        table,
-        row,
-        col,
-    }
-}
-
-const fn put(table: u8, row: u8, col: u8, value: u8) -> Instr {
-    Instr::Put {
-        table,
-        row,
-        col,
-        value,
-    }
-}
-
-// The op that stands at the beginning of a block, in a code of two blocks and two tables.
-pub(crate) fn first_op(alloc: Global, body: &[Instr], term: Term) -> Result<Option<Op>, NoMemory> {
-    let mut blocks = Vec::new(alloc);
-    blocks.push(block(alloc, b"main", Note::Plain, body, term)?)?;
-    blocks.push(block(alloc, b"last", Note::Plain, &[], Term::Halt)?)?;
-    let mut tables = Vec::new(alloc);
-    tables.push(CodeTable::Made)?;
-    tables.push(CodeTable::Made)?;
-    match Code::new(alloc, tables, blocks)? {
-        None => Ok(None),
-        Some(code) => Ok(code.flat().ops.first().copied()),
-    }
-}
-
 #[test]
-fn numbers_and_stores_are_one_op(rt: HostRuntime) -> Result<(), Fail> {
+fn sums_and_stores_are_one_op(rt: HostRuntime) -> Result<(), Fail> {
     let sum = calc(2, 0, Alu::Add, Value::Reg(1));
     let more = calc(2, 0, Alu::Add, Value::Int(-9));
     let long = calc(2, 0, Alu::Add, Value::Int(1 << 15));
     let fewer = calc(2, 0, Alu::Sub, Value::Int(9));
+    let base = calc(31, 0, Alu::Add, Value::Reg(1));
     let kept = store(31, 7, Value::Reg(2));
     let other = store(31, 7, Value::Reg(0));
-    let down = calc(31, 31, Alu::Sub, Value::Int(6));
     let own = store(31, 7, Value::Reg(31));
-    let (zero, far) = (Value::Int(0), Value::Int(128));
-    let cases: [(&[Instr], Op); 23] = [
+    let cases: [(&[Instr], Op); 13] = [
         (&[sum, kept], Op::AddRegStore(2, 0, 1, 7)),
         (&[sum, other], Op::AddReg(2, 0, 1)),
         (&[more, kept], Op::AddIntStore(2, 0, -9, 7)),
@@ -132,38 +62,44 @@ fn numbers_and_stores_are_one_op(rt: HostRuntime) -> Result<(), Fail> {
         (&[long, kept], Op::AddInt(2, 0, 1 << 15)),
         (&[fewer, kept], Op::SubIntStore(2, 0, 9, 7)),
         (&[fewer, other], Op::SubInt(2, 0, 9)),
-        (&[Instr::Sfree(6), down], Op::FreeSub(6)),
-        (&[Instr::Sfree(6), down, kept], Op::FreeStore(2, 6, 7)),
-        (&[Instr::Sfree(6), down, own], Op::FreeSub(6)),
-        (&[Instr::Sfree(7), down], Op::Sfree(7)),
-        (&[Instr::Sfree(6), kept], Op::Sfree(6)),
         (&[sum, kept, load(2, 31, 7)], Op::AddRegKeep(2, 0, 1, 7)),
         (&[sum, kept, load(2, 31, 8)], Op::AddRegStore(2, 0, 1, 7)),
         (&[sum, kept, load(3, 31, 7)], Op::AddRegStore(2, 0, 1, 7)),
         (&[sum, kept, load(2, 30, 7)], Op::AddRegStore(2, 0, 1, 7)),
         (&[sum, load(2, 31, 7), kept], Op::AddReg(2, 0, 1)),
+        (&[base, own, load(31, 31, 7)], Op::AddRegStore(31, 0, 1, 7)),
+    ];
+    for (body, op) in cases {
+        assert_eq!(rt; first_op(rt.alloc(), body, Term::Halt)?, Some(op));
+    }
+    Ok(())
+}
+
+const fn number_at(base: u8, off: u16, number: i64) -> Instr {
+    store(base, off, Value::Int(number))
+}
+
+#[test]
+fn freed_cells_and_numbers_are_one_op(rt: HostRuntime) -> Result<(), Fail> {
+    let kept = store(31, 7, Value::Reg(2));
+    let down = calc(31, 31, Alu::Sub, Value::Int(6));
+    let own = store(31, 7, Value::Reg(31));
+    let first = number_at(31, 7, 0);
+    let far = number_at(31, 7, 128);
+    let cases: [(&[Instr], Op); 10] = [
+        (&[Instr::Sfree(6), down], Op::FreeSub(6)),
+        (&[Instr::Sfree(6), down, kept], Op::FreeStore(2, 6, 7)),
+        (&[Instr::Sfree(6), down, own], Op::FreeSub(6)),
+        (&[Instr::Sfree(7), down], Op::Sfree(7)),
+        (&[Instr::Sfree(6), kept], Op::Sfree(6)),
         (
-            &[
-                calc(31, 0, Alu::Add, Value::Reg(1)),
-                store(31, 7, Value::Reg(31)),
-                load(31, 31, 7),
-            ],
-            Op::AddRegStore(31, 0, 1, 7),
-        ),
-        (
-            &[store(31, 7, zero), store(31, 9, Value::Int(-128))],
+            &[first, number_at(31, 9, -128)],
             Op::StoreInts(0, -128, 7, 9),
         ),
-        (&[store(31, 7, zero), store(31, 9, far)], Op::StoreInt(7, 0)),
-        (
-            &[store(31, 7, far), store(31, 9, zero)],
-            Op::StoreInt(7, 128),
-        ),
-        (
-            &[store(31, 7, zero), store(30, 9, zero)],
-            Op::StoreInt(7, 0),
-        ),
-        (&[store(30, 7, zero), store(31, 9, zero)], Op::Leave),
+        (&[first, number_at(31, 9, 128)], Op::StoreInt(7, 0)),
+        (&[far, number_at(31, 9, 0)], Op::StoreInt(7, 128)),
+        (&[first, number_at(30, 9, 0)], Op::StoreInt(7, 0)),
+        (&[number_at(30, 7, 0), number_at(31, 9, 0)], Op::Leave),
     ];
     for (body, op) in cases {
         assert_eq!(rt; first_op(rt.alloc(), body, Term::Halt)?, Some(op));
@@ -390,211 +326,6 @@ fn ticks_are_one_op_with_loads_and_tests(rt: HostRuntime) -> Result<(), Fail> {
     ];
     for (body, term, op) in cases {
         assert_eq!(rt; first_op(rt.alloc(), body, term)?, Some(op));
-    }
-    Ok(())
-}
-
-#[test]
-fn a_callee_with_a_level_less_is_one_op(rt: HostRuntime) -> Result<(), Fail> {
-    let way = store(31, 40, Value::Label(1));
-    let alone = Op::TickLoad(0, 2);
-    let cases = [
-        (4, way, Op::LevelDown(2, 40, 1)),
-        (4, store(31, 41, Value::Label(1)), alone),
-        (4, store(30, 40, Value::Label(1)), alone),
-        (4, store(31, 40, Value::Int(1)), alone),
-        (3, store(31, 43, Value::Reg(1)), alone),
-        (3, store(31, 42, Value::Reg(0)), alone),
-        (3, store(31, 39, Value::Reg(1)), alone),
-        (2, calc(1, 0, Alu::Sub, Value::Int(2)), alone),
-        (2, calc(1, 0, Alu::Add, Value::Int(1)), alone),
-        (2, calc(1, 1, Alu::Sub, Value::Int(1)), alone),
-        (1, load(1, 31, 2), Op::TickLoad(1, 2)),
-        (1, load(0, 31, 3), Op::TickLoad(0, 3)),
-        (1, load(0, 30, 2), Op::Tick),
-        (0, Instr::PrmDrop, Op::Leave),
-    ];
-    for (at, other, op) in cases {
-        let mut body = [
-            Instr::Tick,
-            load(0, 31, 2),
-            calc(1, 0, Alu::Sub, Value::Int(1)),
-            store(31, 42, Value::Reg(1)),
-            way,
-        ];
-        if let Some(changed) = body.get_mut(at) {
-            *changed = other;
-        }
-        assert_eq!(rt; first_op(rt.alloc(), &body, Term::Halt)?, Some(op));
-    }
-    Ok(())
-}
-
-// A call with a level less, in an activation of 40 cells: of where the caller's levels are, and the
-// callee's.
-const fn call(off: u16, levels: u16) -> [Instr; 6] {
-    [
-        Instr::Tick,
-        load(0, 31, off),
-        calc(0, 0, Alu::Sub, Value::Int(1)),
-        store(31, levels, Value::Reg(0)),
-        store(31, 40, Value::Label(1)),
-        calc(31, 31, Alu::Add, Value::Int(40)),
-    ]
-}
-
-#[test]
-fn a_call_with_a_level_less_is_one_op(rt: HostRuntime) -> Result<(), Fail> {
-    let there = Term::Jump(Value::Label(0));
-    let way = store(31, 40, Value::Label(1));
-    let whole = Op::LevelCall(2, 40, 1, 0);
-    let rest = Op::DownCall(2, 40, 1, 0);
-    let less = Op::SubIntStore(0, 0, 1, 42);
-    let further = calc(31, 31, Alu::Add, Value::Int(41));
-    let two = calc(0, 0, Alu::Sub, Value::Int(2));
-    let cases = [
-        (4, way, there, whole, rest),
-        (4, way, Term::Halt, Op::Tick, less),
-        (5, further, there, Op::Tick, less),
-        (4, store(31, 43, Value::Label(1)), there, Op::Tick, less),
-        (2, two, there, Op::Tick, Op::SubIntStore(0, 0, 2, 42)),
-        (1, load(0, 31, 3), there, Op::Tick, rest),
-        (1, load(1, 31, 2), there, Op::TickLoad(1, 2), rest),
-    ];
-    for (at, other, term, first, third) in cases {
-        let mut body = call(2, 42);
-        if let Some(changed) = body.get_mut(at) {
-            *changed = other;
-        }
-        assert_eq!(rt; first_op(rt.alloc(), &body, term)?, Some(first));
-        let tail = body.get(2..).ok_or("a call")?;
-        assert_eq!(rt; first_op(rt.alloc(), tail, term)?, Some(third));
-    }
-    assert_eq!(rt;
-        first_op(rt.alloc(), &call(256, 296), there)?,
-        Some(Op::Tick)
-    );
-    Ok(())
-}
-
-// A read of a cell of table 1 with the test of its place.
-const fn read(row: u8, col: u8, scratch: u8) -> [Instr; 10] {
-    [
-        calc(scratch, row, Alu::Min, Value::Reg(col)),
-        calc(scratch, scratch, Alu::Lt, Value::Int(0)),
-        if_jump(scratch, 1),
-        Instr::Rows {
-            to: scratch,
-            table: 1,
-        },
-        calc(scratch, scratch, Alu::Le, Value::Reg(row)),
-        if_jump(scratch, 1),
-        Instr::Cols {
-            to: scratch,
-            table: 1,
-        },
-        calc(scratch, scratch, Alu::Le, Value::Reg(col)),
-        if_jump(scratch, 1),
-        fetch(3, 1, row, col),
-    ]
-}
-
-#[test]
-fn accesses_are_one_op(rt: HostRuntime) -> Result<(), Fail> {
-    let alone = Op::CalcReg(Alu::Min, 4, 0, 1);
-    let cases = [
-        (9, fetch(4, 1, 0, 1), Op::Read(4, 1, 0, 1, 4, 1)),
-        (9, put(1, 0, 1, 2), Op::Write(1, 0, 1, 2, 4, 1)),
-        (9, put(1, 0, 1, 4), alone),
-        (9, put(0, 0, 1, 2), alone),
-        (9, fetch(3, 0, 0, 1), alone),
-        (9, fetch(3, 1, 1, 1), alone),
-        (9, fetch(3, 1, 0, 0), alone),
-        (9, Instr::Tick, alone),
-        (8, if_jump(4, 0), alone),
-        (7, calc(4, 4, Alu::Le, Value::Reg(0)), alone),
-        (6, Instr::Cols { to: 4, table: 0 }, alone),
-        (5, if_jump(4, 0), alone),
-        (4, calc(4, 4, Alu::Le, Value::Reg(1)), alone),
-        (3, Instr::Rows { to: 3, table: 1 }, alone),
-        (2, if_jump(3, 1), alone),
-        (1, calc(4, 4, Alu::Lt, Value::Int(1)), alone),
-    ];
-    for (at, other, op) in cases {
-        let mut body = read(0, 1, 4);
-        if let Some(changed) = body.get_mut(at) {
-            *changed = other;
-        }
-        assert_eq!(rt; first_op(rt.alloc(), &body, Term::Halt)?, Some(op));
-    }
-    Ok(())
-}
-
-#[test]
-fn an_access_has_a_register_to_spare(rt: HostRuntime) -> Result<(), Fail> {
-    let cases = [
-        (read(0, 1, 4), Op::Read(3, 1, 0, 1, 4, 1)),
-        (read(4, 1, 4), Op::CalcReg(Alu::Min, 4, 4, 1)),
-        (read(0, 4, 4), Op::CalcReg(Alu::Min, 4, 0, 4)),
-    ];
-    for (body, op) in cases {
-        assert_eq!(rt; first_op(rt.alloc(), &body, Term::Halt)?, Some(op));
-    }
-    Ok(())
-}
-
-// The op of instructions with an access behind them.
-fn op_before(alloc: Global, first: &[Instr], access: [Instr; 10]) -> Result<Option<Op>, NoMemory> {
-    let mut body = Vec::from_slice(alloc, first)?;
-    for instr in access {
-        body.push(instr)?;
-    }
-    first_op(alloc, body.as_slice(), Term::Halt)
-}
-
-const fn set(to: u8, number: i64) -> Instr {
-    Instr::Move {
-        to,
-        value: Value::Int(number),
-    }
-}
-
-// A read with its column loaded or the number 0 as its row before it; a write is joined with
-// neither.
-#[test]
-fn accesses_are_one_op_with_what_they_need(rt: HostRuntime) -> Result<(), Fail> {
-    let (tick, cell, col) = (Instr::Tick, load(5, 31, 7), load(1, 31, 8));
-    let near = read(0, 1, 2);
-    let mut write = near;
-    write[9] = put(1, 0, 1, 3);
-    let cases: [(&[Instr], [Instr; 10], Op); 20] = [
-        (&[col], near, Op::LoadRead(3, 1, 0, 1, 8, 1)),
-        (&[col], read(1, 1, 2), Op::LoadRead(3, 1, 1, 1, 8, 1)),
-        (&[load(1, 31, 255)], near, Op::LoadRead(3, 1, 0, 1, 255, 1)),
-        (&[load(1, 31, 256)], near, Op::Load(1, 256)),
-        (
-            &[load(30, 31, 8)],
-            read(0, 30, 31),
-            Op::LoadRead(3, 1, 0, 30, 8, 1),
-        ),
-        (&[load(0, 31, 8)], near, Op::Load(0, 8)),
-        (&[load(1, 30, 8)], near, Op::Leave),
-        (&[col], read(0, 1, 4), Op::Load(1, 8)),
-        (&[col], read(2, 1, 2), Op::Load(1, 8)),
-        (&[cell, col], near, Op::Load(5, 7)),
-        (&[tick, cell, col], near, Op::TickLoad(5, 7)),
-        (&[tick, col], near, Op::Tick),
-        (&[set(0, 0)], read(0, 1, 4), Op::ZeroRead(3, 1, 0, 1, 4, 1)),
-        (&[set(0, 0)], read(0, 1, 2), Op::ZeroRead(3, 1, 0, 1, 2, 1)),
-        (&[set(0, 0)], read(0, 0, 4), Op::ZeroRead(3, 1, 0, 0, 4, 1)),
-        (&[set(0, 1)], read(0, 1, 4), Op::MoveInt(0, 1)),
-        (&[set(1, 0)], read(0, 1, 4), Op::MoveInt(1, 0)),
-        (&[set(4, 0)], read(4, 1, 4), Op::MoveInt(4, 0)),
-        (&[col], write, Op::Load(1, 8)),
-        (&[set(0, 0)], write, Op::MoveInt(0, 0)),
-    ];
-    for (first, access, op) in cases {
-        assert_eq!(rt; op_before(rt.alloc(), first, access)?, Some(op));
     }
     Ok(())
 }

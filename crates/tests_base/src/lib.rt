@@ -5,11 +5,17 @@
 #![tactic(auto)]
 
 #[cfg(test)]
+mod accesses;
+#[cfg(test)]
 mod cells;
 #[cfg(test)]
 mod codes;
 #[cfg(test)]
+mod levels;
+#[cfg(test)]
 mod loops;
+#[cfg(test)]
+mod shorthand;
 #[cfg(test)]
 mod stacks;
 #[cfg(test)]

@@ -1,7 +1,7 @@
 // What compiled loops are made of, as ops: which instructions stand together in one, and which only
 // look so.
 
-use crate::codes::{calc, first_op, if_jump, load, store};
+use crate::shorthand::{calc, first_op, if_jump, load, store};
 use std::alloc::Global;
 use std::test::Fail;
 use tp_value::NoMemory;
@@ -144,10 +144,17 @@ const fn turn(cursor: u16) -> [Instr; 8] {
     ]
 }
 
+// The op of a next iteration in which one instruction is another one.
+fn op_of_turn(alloc: Global, at: usize, other: Instr) -> Result<Option<Op>, NoMemory> {
+    let mut body = turn(5);
+    if let Some(changed) = body.get_mut(at) {
+        *changed = other;
+    }
+    op_of(alloc, &body)
+}
+
 #[test]
 fn a_next_iteration_is_one_op(rt: HostRuntime) -> Result<(), Fail> {
-    // What stands there where it calculates otherwise.
-    let start = Op::LoadTwo(1, 0, 5, 6);
     let cases = [
         (0, load(1, 31, 4), Op::LoadTwo(1, 0, 4, 6)),
         (0, load(4, 31, 5), Op::LoadTwo(4, 0, 5, 6)),
@@ -156,37 +163,44 @@ fn a_next_iteration_is_one_op(rt: HostRuntime) -> Result<(), Fail> {
         (1, load(4, 31, 6), Op::LoadTwo(1, 4, 5, 6)),
         (1, load(0, 30, 6), Op::Load(1, 5)),
         (3, store(31, 300, Value::Reg(1)), Op::NextTurn(5, 6, 300, 1)),
-        (3, store(31, 7, Value::Reg(0)), start),
-        (3, store(30, 7, Value::Reg(1)), start),
-        (3, store(31, 7, Value::Int(1)), start),
-        (5, store(31, 4, Value::Reg(1)), start),
-        (5, store(31, 6, Value::Reg(1)), start),
-        (5, store(31, 5, Value::Reg(0)), start),
-        (5, store(30, 5, Value::Reg(1)), start),
         (7, if_jump(2, 0), Op::NextTurn(5, 6, 7, 0)),
-        (7, if_jump(3, 1), start),
-        (7, Instr::Tick, start),
-        (2, calc(3, 0, Alu::Sub, Value::Reg(1)), start),
-        (2, calc(3, 1, Alu::Sub, Value::Reg(2)), start),
-        (2, calc(3, 1, Alu::Sub, Value::Int(0)), start),
-        (2, calc(3, 1, Alu::Add, Value::Reg(0)), start),
-        (2, calc(4, 1, Alu::Sub, Value::Reg(0)), start),
-        (4, calc(1, 1, Alu::Add, Value::Int(2)), start),
-        (4, calc(1, 1, Alu::Sub, Value::Int(1)), start),
-        (4, calc(1, 1, Alu::Add, Value::Reg(1)), start),
-        (4, calc(1, 0, Alu::Add, Value::Int(1)), start),
-        (4, calc(0, 0, Alu::Add, Value::Int(1)), start),
-        (6, calc(2, 3, Alu::Lt, Value::Int(0)), start),
-        (6, calc(2, 3, Alu::Le, Value::Int(-1)), start),
-        (6, calc(2, 1, Alu::Lt, Value::Int(-1)), start),
-        (6, calc(4, 3, Alu::Lt, Value::Int(-1)), start),
     ];
     for (at, other, op) in cases {
-        let mut body = turn(5);
-        if let Some(changed) = body.get_mut(at) {
-            *changed = other;
-        }
-        assert_eq!(rt; op_of(rt.alloc(), &body)?, Some(op));
+        assert_eq!(rt; op_of_turn(rt.alloc(), at, other)?, Some(op));
+    }
+    Ok(())
+}
+
+#[test]
+fn what_calculates_otherwise_begins_with_two_loads(rt: HostRuntime) -> Result<(), Fail> {
+    let cases = [
+        (3, store(31, 7, Value::Reg(0))),
+        (3, store(30, 7, Value::Reg(1))),
+        (3, store(31, 7, Value::Int(1))),
+        (5, store(31, 4, Value::Reg(1))),
+        (5, store(31, 6, Value::Reg(1))),
+        (5, store(31, 5, Value::Reg(0))),
+        (5, store(30, 5, Value::Reg(1))),
+        (7, if_jump(3, 1)),
+        (7, Instr::Tick),
+        (2, calc(3, 0, Alu::Sub, Value::Reg(1))),
+        (2, calc(3, 1, Alu::Sub, Value::Reg(2))),
+        (2, calc(3, 1, Alu::Sub, Value::Int(0))),
+        (2, calc(3, 1, Alu::Add, Value::Reg(0))),
+        (2, calc(4, 1, Alu::Sub, Value::Reg(0))),
+        (4, calc(1, 1, Alu::Add, Value::Int(2))),
+        (4, calc(1, 1, Alu::Sub, Value::Int(1))),
+        (4, calc(1, 1, Alu::Add, Value::Reg(1))),
+        (4, calc(1, 0, Alu::Add, Value::Int(1))),
+        (4, calc(0, 0, Alu::Add, Value::Int(1))),
+        (6, calc(2, 3, Alu::Lt, Value::Int(0))),
+        (6, calc(2, 3, Alu::Le, Value::Int(-1))),
+        (6, calc(2, 1, Alu::Lt, Value::Int(-1))),
+        (6, calc(4, 3, Alu::Lt, Value::Int(-1))),
+    ];
+    for (at, other) in cases {
+        let op = op_of_turn(rt.alloc(), at, other)?;
+        assert_eq!(rt; op, Some(Op::LoadTwo(1, 0, 5, 6)));
     }
     Ok(())
 }
