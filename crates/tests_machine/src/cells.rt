@@ -1,12 +1,11 @@
 // What compiled code does with cells: ops do what their instructions do one at a time, where
 // numbers wrap too, and end at the same faults.
 
-use crate::codes::set;
-use crate::loops::{fault_in, nil};
-use crate::ops::{TO_BOTH, TO_SIDE, calc, load, number_at, output_of, store};
+use crate::instructions::{TO_BOTH, TO_SIDE, calc, load, mark, nil, number_at, set, store, unmark};
+use crate::runs::{Found, expect_fault, expect_output};
 use std::test::Fail;
 use tpal_machine::Fault;
-use tpal_syntax::{Alu, Instr, Value};
+use tpal_syntax::{Alu, Instr, Term, Value};
 
 // Two cells and their sum in another, so far from where register 31 points.
 const fn sum(first: Instr, second: Instr, off: u16) -> [Instr; 8] {
@@ -42,8 +41,7 @@ fn cells_are_added(rt: HostRuntime) -> Result<(), Fail> {
     for (left, right, off, wanted) in cases {
         let main = sum(number_at(0, left), number_at(1, right), off);
         let side = [load(2, off)];
-        let output = output_of(rt.alloc(), &main, TO_SIDE, &side)?.expect(&rt, "an output");
-        assert_eq!(rt; output.items(), wanted);
+        expect_output(&rt, (&main, TO_SIDE), &side, wanted)?;
     }
     Ok(())
 }
@@ -67,9 +65,7 @@ fn a_sum_stays_in_its_register(rt: HostRuntime) -> Result<(), Fail> {
         kept,
         calc(2, 0, Alu::Add, Value::Int(0)),
     ];
-    let output = output_of(rt.alloc(), &main, TO_BOTH, &[])?.expect(&rt, "an output");
-    let wanted: &[u8] = b"6\n11\n1 2\n3 4\n";
-    assert_eq!(rt; output.items(), wanted);
+    expect_output(&rt, (&main, TO_BOTH), &[], b"6\n11\n1 2\n3 4\n")?;
     Ok(())
 }
 
@@ -89,23 +85,9 @@ fn a_number_is_stored_before_more_cells(rt: HostRuntime) -> Result<(), Fail> {
             load(1, 0),
             load(2, 2),
         ];
-        let output = output_of(rt.alloc(), &main, TO_BOTH, &[])?.expect(&rt, "an output");
-        assert_eq!(rt; output.items(), wanted);
+        expect_output(&rt, (&main, TO_BOTH), &[], wanted)?;
     }
     Ok(())
-}
-
-const fn mark(off: u16) -> Instr {
-    Instr::PrmPush {
-        base: 31,
-        off,
-        cells: 5,
-        split: 2,
-    }
-}
-
-const fn unmark(off: u16) -> Instr {
-    Instr::PrmPop { base: 31, off }
 }
 
 // A way back to the activation at cell 0, with two marks, of which it removes one: what cell 0 has,
@@ -115,8 +97,8 @@ const fn back(given: Instr, size: i64, gone: u16, other: u16, from: u16) -> [Ins
     [
         Instr::Salloc(8),
         given,
-        mark(1),
-        mark(3),
+        mark(1, 5),
+        mark(3, 5),
         set(0, 7),
         set(31, 4),
         calc(31, 31, Alu::Sub, Value::Int(size)),
@@ -141,15 +123,13 @@ fn a_way_back_stores_and_gives(rt: HostRuntime) -> Result<(), Fail> {
     for (gone, other, from, wanted) in cases {
         let main = back(number_at(0, 5), 4, gone, other, from);
         let side = [load(2, 6)];
-        let output = output_of(rt.alloc(), &main, TO_SIDE, &side)?.expect(&rt, "an output");
-        assert_eq!(rt; output.items(), wanted);
+        expect_output(&rt, (&main, TO_SIDE), &side, wanted)?;
     }
     Ok(())
 }
 
 #[test]
 fn cells_fail_at_their_places(rt: HostRuntime) -> Result<(), Fail> {
-    let alloc = rt.alloc();
     let (three, five) = (number_at(0, 3), number_at(1, 5));
     let way = store(0, Value::Label(5));
     let none = store(1, Value::Nil);
@@ -157,7 +137,7 @@ fn cells_fail_at_their_places(rt: HostRuntime) -> Result<(), Fail> {
     let out = Fault::OutOfRange;
     let beyond = [Instr::Salloc(1), number_at(1, 5), Instr::Salloc(2)];
     let nowhere = [nil(31), number_at(0, 5), Instr::Salloc(2)];
-    let cases: [(&[Instr], (Fault, u32, u32)); 10] = [
+    let cases: [(&[Instr], Found); 10] = [
         (&sum(way, five, 2), (not_int, 0, 6)),
         (&sum(three, none, 2), (not_int, 0, 6)),
         (&sum(three, nil(31), 2), (not_int, 0, 4)),
@@ -170,8 +150,7 @@ fn cells_fail_at_their_places(rt: HostRuntime) -> Result<(), Fail> {
         (&back(number_at(0, 5), 1, 0, 1, 0), (out, 0, 10)),
     ];
     for (main, wanted) in cases {
-        assert_eq!(rt; fault_in(alloc, main, 100)?, Some(wanted));
-        assert_eq!(rt; fault_in(alloc, main, 1)?, Some(wanted));
+        expect_fault(&rt, (main, Term::Halt), &[], wanted)?;
     }
     Ok(())
 }

@@ -4,10 +4,24 @@
 #![tactic(auto)]
 
 #[cfg(test)]
+mod calls;
+#[cfg(test)]
 mod cells;
 #[cfg(test)]
 mod codes;
 #[cfg(test)]
+mod counts;
+#[cfg(test)]
+mod faults;
+#[cfg(test)]
+mod forks;
+#[cfg(test)]
+mod instructions;
+#[cfg(test)]
 mod loops;
 #[cfg(test)]
 mod ops;
+#[cfg(test)]
+mod reads;
+#[cfg(test)]
+mod runs;

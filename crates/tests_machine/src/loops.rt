@@ -1,14 +1,10 @@
 // What compiled loops are made of: ops do what their instructions do one at a time, where numbers
 // wrap too, and end at the same faults.
 
-ghost use Rattle.std.specs.Prelude.{◌≤◌};
-
-use crate::codes::{ROWS, code_of, fault_from, set, tables_of};
-use crate::ops::{TO_BOTH, TO_SIDE, calc, load, number_at, output_of, store, test};
-use std::alloc::Global;
+use crate::instructions::{TO_BOTH, TO_SIDE, calc, load, nil, number_at, set, store, test};
+use crate::runs::{Found, expect_fault, expect_output};
 use std::test::Fail;
-use tp_value::NoMemory;
-use tpal_machine::{Fault, Task};
+use tpal_machine::Fault;
 use tpal_syntax::{Alu, Instr, Term, Value};
 
 const MIN: i64 = i64::MIN;
@@ -30,7 +26,6 @@ const fn product(numbers: [i64; 3], to: u8, left: u8, sum: u8) -> [Instr; 5] {
 // Registers 1 and 2 are printed.
 #[test]
 fn a_sum_gets_a_product(rt: HostRuntime) -> Result<(), Fail> {
-    let alloc = rt.alloc();
     let cases: [([Instr; 5], &[u8]); 8] = [
         (product([100, 6, 7], 2, 2, 1), b"142\n42\n1 2\n3 4\n"),
         (product([100, 6, 7], 2, 1, 1), b"800\n700\n1 2\n3 4\n"),
@@ -48,8 +43,7 @@ fn a_sum_gets_a_product(rt: HostRuntime) -> Result<(), Fail> {
         ),
     ];
     for (main, wanted) in cases {
-        let output = output_of(alloc, &main, TO_BOTH, &[])?.expect(&rt, "an output");
-        assert_eq!(rt; output.items(), wanted);
+        expect_output(&rt, (&main, TO_BOTH), &[], wanted)?;
     }
     Ok(())
 }
@@ -67,7 +61,6 @@ const fn awaits(r: u8, value: Value) -> [Instr; 5] {
 
 #[test]
 fn nil_alone_is_nil(rt: HostRuntime) -> Result<(), Fail> {
-    let alloc = rt.alloc();
     let nil: &[u8] = b"1\n8\n1 2\n3 4\n";
     let other: &[u8] = b"0\n3\n1 2\n3 4\n";
     let cases = [
@@ -81,8 +74,7 @@ fn nil_alone_is_nil(rt: HostRuntime) -> Result<(), Fail> {
         (awaits(4, Value::Label(5)), other),
     ];
     for (main, wanted) in cases {
-        let output = output_of(alloc, &main, TO_BOTH, &[])?.expect(&rt, "an output");
-        assert_eq!(rt; output.items(), wanted);
+        expect_output(&rt, (&main, TO_BOTH), &[], wanted)?;
     }
     Ok(())
 }
@@ -105,7 +97,6 @@ const fn range(start: Instr, end: Instr) -> [Instr; 7] {
 
 #[test]
 fn ranges_are_tested(rt: HostRuntime) -> Result<(), Fail> {
-    let alloc = rt.alloc();
     let cases: [(i64, i64, &[u8]); 11] = [
         (5, 5, b"0\n3\n1 2\n3 4\n"),
         (-2, 3, b"5\n3\n1 2\n3 4\n"),
@@ -121,8 +112,7 @@ fn ranges_are_tested(rt: HostRuntime) -> Result<(), Fail> {
     ];
     for (start, end, wanted) in cases {
         let main = range(set(3, start), set(4, end));
-        let output = output_of(alloc, &main, TO_BOTH, &[])?.expect(&rt, "an output");
-        assert_eq!(rt; output.items(), wanted);
+        expect_output(&rt, (&main, TO_BOTH), &[], wanted)?;
     }
     Ok(())
 }
@@ -163,7 +153,6 @@ const fn seen() -> [Instr; 6] {
 
 #[test]
 fn cursors_go_on(rt: HostRuntime) -> Result<(), Fail> {
-    let alloc = rt.alloc();
     let cases: [(i64, i64, &[u8]); 8] = [
         (3, 9, b"9\n4\n1\n-6\n4\n3\n1 2\n3 4\n"),
         (3, 5, b"5\n4\n1\n-2\n4\n3\n1 2\n3 4\n"),
@@ -186,8 +175,7 @@ fn cursors_go_on(rt: HostRuntime) -> Result<(), Fail> {
     ];
     for (cursor, end, wanted) in cases {
         let main = turn(number_at(0, cursor), number_at(1, end), 2);
-        let output = output_of(alloc, &main, TO_SIDE, &seen())?.expect(&rt, "an output");
-        assert_eq!(rt; output.items(), wanted);
+        expect_output(&rt, (&main, TO_SIDE), &seen(), wanted)?;
     }
     Ok(())
 }
@@ -195,7 +183,6 @@ fn cursors_go_on(rt: HostRuntime) -> Result<(), Fail> {
 // A cell that is the variable's too: the cursor's goes on all the same, and the end's was read.
 #[test]
 fn a_variable_may_share_its_cell(rt: HostRuntime) -> Result<(), Fail> {
-    let alloc = rt.alloc();
     let cases: [(u16, &[u8]); 3] = [
         (0, b"4\n5\n1 2\n3 4\n"),
         (1, b"4\n3\n1 2\n3 4\n"),
@@ -204,34 +191,9 @@ fn a_variable_may_share_its_cell(rt: HostRuntime) -> Result<(), Fail> {
     let side = [load(1, 0), load(2, 1)];
     for (variable, wanted) in cases {
         let main = turn(number_at(0, 3), number_at(1, 5), variable);
-        let output = output_of(alloc, &main, TO_SIDE, &side)?.expect(&rt, "an output");
-        assert_eq!(rt; output.items(), wanted);
+        expect_output(&rt, (&main, TO_SIDE), &side, wanted)?;
     }
     Ok(())
-}
-
-// The fault of a code with this main, with its place, in turns of so many instructions.
-pub(crate) fn fault_in(
-    alloc: Global,
-    main: &[Instr],
-    budget: u32,
-) -> Result<Option<(Fault, u32, u32)>, NoMemory>
-    requires { 1 ≤ budget }
-{
-    match code_of(alloc, ROWS, main, Term::Halt, &[], Term::Halt)? {
-        None => Ok(None),
-        Some(code) => {
-            let task = Task::first(alloc, &code, tables_of(alloc)?, 3)?;
-            Ok(fault_from(task, &code, budget, 60))
-        }
-    }
-}
-
-pub(crate) const fn nil(to: u8) -> Instr {
-    Instr::Move {
-        to,
-        value: Value::Nil,
-    }
 }
 
 const fn label(to: u8) -> Instr {
@@ -254,13 +216,12 @@ const fn product_of(left: Instr, sum: Instr) -> [Instr; 5] {
 
 #[test]
 fn loops_fail_where_there_is_no_number(rt: HostRuntime) -> Result<(), Fail> {
-    let alloc = rt.alloc();
     let (three, five) = (number_at(0, 3), number_at(1, 5));
     let way = store(0, Value::Label(5));
     let none = store(1, Value::Nil);
     let not_int = Fault::NotInt;
     let out = Fault::OutOfRange;
-    let cases: [(&[Instr], (Fault, u32, u32)); 14] = [
+    let cases: [(&[Instr], Found); 14] = [
         (&product_of(nil(2), set(1, 9)), (not_int, 0, 3)),
         (&product_of(label(2), set(1, 9)), (not_int, 0, 3)),
         (&product_of(set(2, 6), nil(3)), (not_int, 0, 3)),
@@ -277,8 +238,7 @@ fn loops_fail_where_there_is_no_number(rt: HostRuntime) -> Result<(), Fail> {
         (&turn(three, five, 3), (out, 0, 7)),
     ];
     for (main, wanted) in cases {
-        assert_eq!(rt; fault_in(alloc, main, 100)?, Some(wanted));
-        assert_eq!(rt; fault_in(alloc, main, 1)?, Some(wanted));
+        expect_fault(&rt, (main, Term::Halt), &[], wanted)?;
     }
     Ok(())
 }
