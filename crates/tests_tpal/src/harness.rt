@@ -4,7 +4,7 @@ use std::alloc::{AllocError, Global};
 use std::sync::Wait;
 use std::thread::Threads;
 use steal_pool::Gate;
-use tpal_tool::{MemShelf, MemSink, Status, asks_for_many, tpal, tpal_alone};
+use tpal_tool::{MemShelf, MemSink, Status, tpal};
 
 /// What a call wrote, and its status.
 #[derive(Drop)]
@@ -53,22 +53,6 @@ fn shelf_of(alloc: Global, texts: &[(&str, &[u8])]) -> Result<MemShelf, AllocErr
         fails: Vec::new(alloc),
         calls: 0,
         faults: 0,
-    })
-}
-
-/// Compiles a source text.
-pub fn compiled(alloc: Global, source: &[u8]) -> Result<Called, AllocError> {
-    let words = words_of(alloc, &["compile", "p"])?;
-    let mut shelf = shelf_of(alloc, &[("p", source)])?;
-    let mut sink = empty_sink(alloc);
-    let status = if asks_for_many(&words) {
-        Status::NoMemory
-    } else {
-        tpal_alone(alloc, &words, &mut shelf, &mut sink)
-    };
-    Ok(Called {
-        text: sink.bytes,
-        status,
     })
 }
 

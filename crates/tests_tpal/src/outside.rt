@@ -13,22 +13,18 @@ fn texts(alloc: Global) -> Result<Vec<(String, Vec<u8>)>, AllocError> {
     texts_of(alloc, &[("p", b"abc"), ("t", b"12345")])
 }
 
-// Fetches once, and compares the text or the fault.
-fn expect_fetch<S: Shelf>(
-    rt: &impl Abort,
-    alloc: Global,
+// Fetches once by this name and with this limit, and compares the text or the fault.
+fn expect_fetch<R: Abort + AllocGlobal, S: Shelf>(
+    rt: &R,
     shelf: &mut S,
-    name: &str,
-    limit: u32,
-    text: &[u8],
-    fault: Option<ShelfFault>,
+    (name, limit): (&str, u32),
+    wanted: Result<&[u8], ShelfFault>,
 ) {
-    match shelf.fetch(alloc, name, limit) {
-        Ok(bytes) => {
-            assert_eq!(rt; bytes.as_slice(), text, "{name}");
-            assert_eq!(rt; fault, None, "{name}");
-        }
-        Err(found) => assert_eq!(rt; fault, Some(found), "{name}"),
+    match (shelf.fetch(rt.alloc(), name, limit), wanted) {
+        (Ok(bytes), Ok(text)) => assert_eq!(rt; bytes.as_slice(), text, "{name}"),
+        (Err(found), Err(fault)) => assert_eq!(rt; found, fault, "{name}"),
+        (Ok(_), Err(_)) => panic!(rt; "{name} is there"),
+        (Err(_), Ok(_)) => panic!(rt; "{name} isn't there"),
     }
 }
 
@@ -41,15 +37,15 @@ fn a_shelf_in_memory_fails_where_told(rt: HostRuntime) -> Result<(), Fail> {
         faults: 0,
     };
     let cases = [
-        ("p", 3, b"abc".as_slice(), None, 0),
-        ("p", 2, b"", Some(ShelfFault::Long), 0),
-        ("p", 3, b"", Some(ShelfFault::Failed), 1),
-        ("q", 3, b"", Some(ShelfFault::Failed), 2),
-        ("t", 5, b"12345", None, 2),
+        (("p", 3), Ok(b"abc".as_slice()), 0),
+        (("p", 2), Err(ShelfFault::Long), 0),
+        (("p", 3), Err(ShelfFault::Failed), 1),
+        (("q", 3), Err(ShelfFault::Failed), 2),
+        (("t", 5), Ok(b"12345"), 2),
     ];
-    for (name, limit, text, fault, faults) in cases {
-        expect_fetch(&rt, rt.alloc(), &mut shelf, name, limit, text, fault);
-        assert_eq!(rt; shelf.faults, faults, "{name}");
+    for (asked, wanted, faults) in cases {
+        expect_fetch(&rt, &mut shelf, asked, wanted);
+        assert_eq!(rt; shelf.faults, faults, "{}", asked.0);
     }
     assert_eq!(rt; shelf.calls, 5);
     Ok(())
@@ -61,12 +57,12 @@ fn a_sure_shelf_has_every_name(rt: HostRuntime) -> Result<(), Fail> {
         texts: texts(rt.alloc())?,
     };
     let cases = [
-        ("p", 3, b"abc".as_slice(), None),
-        ("p", 2, b"", Some(ShelfFault::Long)),
-        ("q", 0, b"", None),
+        (("p", 3), Ok(b"abc".as_slice())),
+        (("p", 2), Err(ShelfFault::Long)),
+        (("q", 0), Ok(b"")),
     ];
-    for (name, limit, text, fault) in cases {
-        expect_fetch(&rt, rt.alloc(), &mut shelf, name, limit, text, fault);
+    for (asked, wanted) in cases {
+        expect_fetch(&rt, &mut shelf, asked, wanted);
     }
     Ok(())
 }
@@ -111,13 +107,13 @@ fn files_are_a_shelf(rt: HostRuntime) -> Result<(), Fail> {
     let mut shelf = FileShelf { rt: &rt, faults: 0 };
     // The second file has no end, so this also shows that no more than one byte too many is read.
     let cases = [
-        ("/dev/null", 0, b"".as_slice(), None, 0),
-        ("/dev/zero", 5, b"", Some(ShelfFault::Long), 0),
-        ("no such file", 5, b"", Some(ShelfFault::Failed), 1),
+        (("/dev/null", 0), Ok(b"".as_slice()), 0),
+        (("/dev/zero", 5), Err(ShelfFault::Long), 0),
+        (("no such file", 5), Err(ShelfFault::Failed), 1),
     ];
-    for (name, limit, text, fault, faults) in cases {
-        expect_fetch(&rt, rt.alloc(), &mut shelf, name, limit, text, fault);
-        assert_eq!(rt; shelf.faults, faults, "{name}");
+    for (asked, wanted, faults) in cases {
+        expect_fetch(&rt, &mut shelf, asked, wanted);
+        assert_eq!(rt; shelf.faults, faults, "{}", asked.0);
     }
     Ok(())
 }

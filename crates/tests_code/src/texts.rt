@@ -1,36 +1,11 @@
-// A code text beside the code that it came from, as values.
+// The text of a code, assembled, beside the code that it came from.
 
-use crate::harness::compiled;
-use block_lower::lower;
-use loop_check::check;
-use loop_lex::lex;
-use loop_parse::parse;
-use loop_rules::resolve;
+use crate::compiling::{Compiled, compile};
 use std::alloc::Global;
 use std::test::Fail;
 use tpal_asm::assemble;
+use tpal_print::print_code;
 use tpal_syntax::{Block, Code, CodeTable, Note, Target};
-use tpal_tool::Status;
-
-// The code that `lower` makes of a source text.
-fn lowered(alloc: Global, source: &[u8]) -> Option<Code> {
-    if source.len() > 1_048_576 {
-        return None;
-    }
-    let Ok(tokens) = lex(alloc, source) else {
-        return None;
-    };
-    let Ok(program) = parse(alloc, source, &tokens) else {
-        return None;
-    };
-    let Ok(resolved) = resolve(alloc, program) else {
-        return None;
-    };
-    match check(alloc, resolved) {
-        Ok(checked) => lower(alloc, &checked).ok(),
-        Err(_) => None,
-    }
-}
 
 fn assembled(alloc: Global, text: &[u8]) -> Option<Code> {
     if text.len() > 67_108_864 {
@@ -94,7 +69,7 @@ fn is_same_code(one: &Code, other: &Code) -> bool {
 }
 
 #[test]
-fn a_code_text_assembles_to_what_lower_makes(rt: HostRuntime) -> Result<(), Fail> {
+fn a_text_of_a_code_assembles_to_that_code(rt: HostRuntime) -> Result<(), Fail> {
     let cases = [
         "main { }",
         "main { print 2 + 3 * -4; }",
@@ -109,15 +84,17 @@ fn a_code_text_assembles_to_what_lower_makes(rt: HostRuntime) -> Result<(), Fail
     ];
     let mut last: Option<Code> = None;
     for source in cases {
-        let called = compiled(rt.alloc(), source.as_bytes())?;
-        assert_eq!(rt; called.status, Status::Done, "{source}");
-        let code = assembled(rt.alloc(), called.text.as_slice()).ok_or("a code text")?;
-        let wanted = lowered(rt.alloc(), source.as_bytes()).ok_or("a code")?;
-        assert!(&rt; is_same_code(&code, &wanted), "{source}");
+        let Compiled { code, .. } = compile(rt.alloc(), source.as_bytes())?;
+        let text = print_code(rt.alloc(), &code)?;
+        let again = assembled(rt.alloc(), text.as_slice()).ok_or("a code text")?;
+        assert!(&rt; is_same_code(&again, &code), "{source}");
         if let Some(other) = last {
-            assert!(&rt; !is_same_code(&code, &other), "{source} and the one before");
+            assert!(&rt;
+                !is_same_code(&again, &other),
+                "{source} and the one before"
+            );
         }
-        last = Some(wanted);
+        last = Some(code);
     }
     Ok(())
 }
