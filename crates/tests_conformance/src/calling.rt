@@ -2,11 +2,11 @@
 
 ghost use Rattle.std.specs.Prelude.{◌≡◌, IfOk};
 
-use crate::case::Failing;
 use std::alloc::{AllocError, Global};
 use std::sync::Wait;
 use std::thread::Threads;
 use steal_pool::NoGate;
+use suite_cases::Failing;
 use tp_value::MAX_CODE_BYTES;
 use tpal_asm::{AsmFault, assemble};
 use tpal_print::print_code;

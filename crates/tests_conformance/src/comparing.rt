@@ -1,10 +1,10 @@
 // What a call wrote and answered beside what is owed.
 
 use crate::calling::{Called, reassembled};
-use crate::case::{Assembled, Counts, Output, Owed};
 use crate::failure::Failure;
 use crate::shown::excerpt;
 use std::alloc::Global;
+use suite_cases::{Assembled, Counts, Output, Owed};
 use tpal_asm::AsmFault;
 
 /// That two texts are the same.

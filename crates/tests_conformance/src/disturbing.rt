@@ -1,12 +1,12 @@
 // A call once more, with its fetches and writes failing.
 
 use crate::calling::{Called, File, call};
-use crate::case::{Failing, Owed};
 use crate::comparing::{same_count, same_text};
 use crate::failure::Failure;
 use std::alloc::{AllocError, Global};
 use std::sync::Wait;
 use std::thread::Threads;
+use suite_cases::{Failing, Owed};
 
 // The statuses of a call that could not read, and of one that could not write.
 const READ_FAULT: u32 = 5;

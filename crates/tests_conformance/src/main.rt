@@ -5,18 +5,11 @@
 #![tactic(auto)]
 
 mod calling;
-mod case;
 mod comparing;
 mod disturbing;
 mod failure;
-mod fault;
-mod keywords;
-mod numbers;
-mod reading;
 mod shown;
 mod suite;
-mod texts;
-mod tokens;
 mod trying;
 
 use crate::suite::{Tally, try_file};

@@ -1,14 +1,12 @@
 // Files of cases.
 
-use crate::case::Case;
 use crate::failure::Failure;
-use crate::fault::Fault;
-use crate::reading::Reader;
 use crate::trying::try_case;
 use std::rt::Files;
 use std::sync::Wait;
 use std::thread::Threads;
 use std::{fs, io};
+use suite_cases::{Case, Fault, Reader};
 
 /// How many cases passed and failed. A file that can't be read, and a line that isn't of the form,
 /// count as one that failed.

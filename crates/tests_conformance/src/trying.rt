@@ -1,7 +1,6 @@
 // Trying a case.
 
 use crate::calling::{File, call, copied};
-use crate::case::{Assembled, Case, Failing, Fronts};
 use crate::comparing::{same_assembled, same_call};
 use crate::disturbing::{Disturbed, try_disturbed};
 use crate::failure::Failure;
@@ -9,6 +8,7 @@ use crate::shown::words_text;
 use std::alloc::{AllocError, Global};
 use std::sync::Wait;
 use std::thread::Threads;
+use suite_cases::{Assembled, Case, Failing, Fronts};
 
 // The code that `compile` writes of a file; nothing where none is asked for.
 fn code_of<R: Threads + Wait + Sync + AllocGlobal>(
