@@ -104,16 +104,9 @@ fn sum_code(alloc: Global) -> Result<Option<Code>, NoMemory>
     Code::new(alloc, tables, blocks)
 }
 
-// A call has three cells: where it returns to, its number, and the sum so far. r0 is the result.
-fn fib_code(alloc: Global) -> Result<Option<Code>, NoMemory>
-    ensures { IfOk result (λ made. IfSome made (λ code. length code.tables ≡ 0)) }
-{
-    let main = [
-        Instr::Salloc(3),
-        store(0, Value::Label(5)),
-        store(1, Value::Int(FIB)),
-    ];
-    let fib = [
+// The function calls itself with the number before its own, where that is 2 or more.
+const fn first_call() -> [Instr; 8] {
+    [
         load(0, 1),
         calc(1, 0, Alu::Lt, Value::Int(2)),
         Instr::IfJump { test: 1, label: 2 },
@@ -122,9 +115,12 @@ fn fib_code(alloc: Global) -> Result<Option<Code>, NoMemory>
         calc(31, 31, Alu::Add, Value::Int(3)),
         store(0, Value::Label(3)),
         store(1, Value::Reg(1)),
-    ];
-    let leaf = [load(1, 0)];
-    let first = [
+    ]
+}
+
+// It keeps what came of that, and calls itself with the number before that one.
+const fn second_call() -> [Instr; 9] {
+    [
         Instr::Sfree(3),
         calc(31, 31, Alu::Sub, Value::Int(3)),
         store(2, Value::Reg(0)),
@@ -134,7 +130,19 @@ fn fib_code(alloc: Global) -> Result<Option<Code>, NoMemory>
         calc(31, 31, Alu::Add, Value::Int(3)),
         store(0, Value::Label(4)),
         store(1, Value::Reg(1)),
+    ]
+}
+
+// A call has three cells: where it returns to, its number, and the sum so far. r0 is the result.
+fn fib_code(alloc: Global) -> Result<Option<Code>, NoMemory>
+    ensures { IfOk result (λ made. IfSome made (λ code. length code.tables ≡ 0)) }
+{
+    let main = [
+        Instr::Salloc(3),
+        store(0, Value::Label(5)),
+        store(1, Value::Int(FIB)),
     ];
+    let leaf = [load(1, 0)];
     let second = [
         Instr::Sfree(3),
         calc(31, 31, Alu::Sub, Value::Int(3)),
@@ -145,9 +153,9 @@ fn fib_code(alloc: Global) -> Result<Option<Code>, NoMemory>
     let end = [Instr::Print(0)];
     let mut blocks = Vec::new(alloc);
     blocks.push(block(alloc, b"main", &main, to_block(1))?)?;
-    blocks.push(block(alloc, b"fib", &fib, to_block(1))?)?;
+    blocks.push(block(alloc, b"fib", &first_call(), to_block(1))?)?;
     blocks.push(block(alloc, b"leaf", &leaf, Term::Jump(Value::Reg(1)))?)?;
-    blocks.push(block(alloc, b"first", &first, to_block(1))?)?;
+    blocks.push(block(alloc, b"first", &second_call(), to_block(1))?)?;
     blocks.push(block(alloc, b"second", &second, Term::Jump(Value::Reg(1)))?)?;
     blocks.push(block(alloc, b"end", &end, Term::Halt)?)?;
     Code::new(alloc, Vec::new(alloc), blocks)
