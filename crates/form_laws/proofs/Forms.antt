@@ -8,6 +8,10 @@ pub mod Opposites
 pub mod Choices
 -- ticks inside a scene, and the law of `while`
 pub mod Ticks
+-- the scene of a loop's body: its variable and its bound are kept
+pub mod LoopScenes
+-- the turns of a loop: the test, the next number, and the body
+pub mod LoopTurns
 -- the laws of `loop`
 pub mod Loops
 -- the instructions that change a table, print one or make one, over any predicate that goes

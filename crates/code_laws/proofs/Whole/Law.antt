@@ -43,7 +43,8 @@ use Rattle.form_laws.proofs.Premises.Cutting.{ProgramRules}
 use Rattle.par_laws.proofs.DeepPars.DeepStatements.{deep_statement}
 use Rattle.form_laws.proofs.Forms.Emits.{emit_law}
 use Rattle.form_laws.proofs.Forms.Folds.{fold_law, fold_nothing_law, fold_register_law}
-use Rattle.form_laws.proofs.Forms.Loops.{inside, loop_law, loop_to_law}
+use Rattle.form_laws.proofs.Forms.LoopScenes.{inside}
+use Rattle.form_laws.proofs.Forms.Loops.{loop_law, loop_to_law}
 use Rattle.par_laws.proofs.LeafPars.LeafStatements.{leaf_statement}
 use Rattle.form_laws.proofs.Premises.Occurring.{in_if, in_other, in_while, in_loop, at_first}
 use Rattle.form_laws.proofs.Premises.Occurring.{at_later}

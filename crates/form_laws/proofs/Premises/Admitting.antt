@@ -8,7 +8,7 @@ use Rattle.tp_value.specs.declared.limits.TheConstants.{MAX_PAR_NESTING}
 use Rattle.tpal_syntax.specs.Listing.{Listing}
 use Rattle.scene_laws.specs.Layout.{bound_cell, cursor_cell, rec_cell, value_cell}
 use Rattle.scene_laws.specs.Round.{Round, loop_round}
-use Rattle.form_laws.proofs.Forms.Loops.{inside, MayIn}
+use Rattle.form_laws.proofs.Forms.LoopScenes.{inside, MayIn}
 use Rattle.scene_laws.proofs.Scenes.Scene.{Scene}
 use Rattle.form_laws.proofs.Forms.Ticks.{later_in}
 

@@ -19,7 +19,7 @@ use Rattle.scene_laws.specs.Quiet.{all_is_quiet, functions_are_quiet, is_quiet, 
 use Rattle.form_laws.proofs.Premises.Around.{Around, in_call, modes_at}
 use Rattle.form_laws.proofs.Forms.Choices.{Longer}
 use Rattle.form_laws.proofs.Premises.Cutting.{MayCut}
-use Rattle.form_laws.proofs.Forms.Loops.{inside}
+use Rattle.form_laws.proofs.Forms.LoopScenes.{inside}
 use Rattle.form_laws.proofs.Premises.Occurring.{Called, CalledIn, Occurs, OccursIn}
 use Rattle.scene_laws.proofs.Counts.QuietRows.{quiet_of_vec}
 use Rattle.scene_laws.proofs.Scenes.Scene.{Scene}

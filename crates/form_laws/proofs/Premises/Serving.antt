@@ -29,7 +29,7 @@ use Rattle.scene_laws.proofs.Scenes.Changing.{Changed, changed_more}
 use Rattle.form_laws.proofs.Forms.Choices.{Longer}
 use Rattle.scene_laws.proofs.Scenes.Fixed.{AreFixed}
 use Rattle.scene_laws.proofs.Merges.JoinsModes.{Serves}
-use Rattle.form_laws.proofs.Forms.Loops.{inside}
+use Rattle.form_laws.proofs.Forms.LoopScenes.{inside}
 use Rattle.scene_laws.proofs.Cuts.Parts.{IsKnown}
 use Rattle.scene_laws.proofs.Scenes.Regions.{Extent, Has, HasCell, IsWholly, Unknown, Wholly}
 use Rattle.scene_laws.proofs.Scenes.Scene.{Scene}

@@ -49,7 +49,8 @@ use Rattle.scene_laws.specs.Layout.{value_cell, bound_cell, Activation}
 use Rattle.scene_laws.specs.Marked.{length_test}
 use Rattle.form_laws.proofs.Forms.Choices.{enters}
 use Rattle.scene_laws.proofs.Cuts.Gaps.{IsGap, gap_is, gap_none, gap_more}
-use Rattle.form_laws.proofs.Forms.Loops.{inside, bounds_bare}
+use Rattle.form_laws.proofs.Forms.LoopScenes.{inside}
+use Rattle.form_laws.proofs.Forms.Loops.{bounds_bare}
 use Rattle.scene_laws.proofs.Scenes.Moves.{opened, calm, jumps, traps}
 use Rattle.scene_laws.proofs.Scenes.Results.{Result, out, result, then}
 use Rattle.scene_laws.proofs.Scenes.Scene.{Scene, ShowsIn, Owed}
