@@ -24,7 +24,7 @@ use Rattle.schedule_core.specs.Apply.{Steps, Gives, WhereNotEnabled, WhereStuck,
 use Rattle.schedule_core.specs.Apply.{SeatStuck, IsEnabled, IsSound, event_of}
 use Rattle.schedule_core.specs.Effects.{can, fits, worker_of, CanRun, CellCanMerge, CanMerge}
 use Rattle.schedule_core.specs.Enabled.{MetWith, HasMet}
-use Rattle.schedule_core.specs.Machine.{Machine}
+use Rattle.schedule_core.specs.Machine.{CoreMachine}
 use Rattle.schedule_core.specs.Sound.{Sound}
 use Rattle.schedule_core.specs.Standing.{Standing, SameRun, IsStanding, seat_of, cell_of, worker_at}
 use Rattle.schedule_core.specs.Standing.{cell_at, stands}
@@ -68,7 +68,7 @@ can_merge code s w b f = merge_seat code s (worker_at s.workers w).seat f b.reco
 
 -- ---- the answer
 
-module _ {T R E : Type 0} (M : Machine T R E) (N K W : ℕ) (c : Config T R E) where
+module _ {T R E : Type 0} (M : CoreMachine T R E) (N K W : ℕ) (c : Config T R E) where
   least_any : (cells : ℕ → core.Cell T R E) (o : Option ℕ) → LeastFree K cells o → AnyFree K cells o
   least_any cells None ch = tt
   least_any cells (Some k) ch = (ch.0, ch.1)

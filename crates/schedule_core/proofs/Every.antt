@@ -3,7 +3,7 @@ use Rattle.std.proofs.Common.{◌≡◌, ℕ, zero, suc, ◌+◌, ◌*◌, ◌<�
 use Rattle.std.proofs.Common.{refl, sym, ap, ◌∙◌, subst, ⊎_elim, inl, inr, arith}
 use Rattle.std.specs.Prelude.{Bool, false}
 use Rattle.std.proofs.Math.Nat.{mul-le-mul_right}
-use Rattle.schedule_core.specs.Machine.{left, right, Machine, Lawful}
+use Rattle.schedule_core.specs.Machine.{left, right, CoreMachine, Lawful}
 use Rattle.schedule_core.specs.Core.{put, top, Seat, resting, running, forked, ended, holding, Cell}
 use Rattle.schedule_core.specs.Core.{free, taken, opened, met, Config, Event, AnyFree, CoreStep}
 use Rattle.schedule_core.specs.Core.{goes, beats, ends, asks, forks, opens, claims, arrives_left}
@@ -27,7 +27,7 @@ seat_number {i} a = sym (ap of a)
     of (by_seat j) = j
     of (by_record j) = 0
 
-module _ {T R E : Type 0} (M : Machine T R E) (H K N W : ℕ) (out : E) where
+module _ {T R E : Type 0} (M : CoreMachine T R E) (H K N W : ℕ) (out : E) where
   pub first_sound : (t : T) → 0 < W → M.home t ≡ 0 → M.pending t ≡ None → M.credit t ≡ 0 → M.owes false t out → View M H N K W out (first t)
   first_sound t lt hm pn cr ow =
       let h = put {A = Holder} (λ x. nobody) 0 (by_seat 0) in
@@ -56,7 +56,7 @@ module _ {T R E : Type 0} (M : Machine T R E) (H K N W : ℕ) (out : E) where
         saved_ok = inl (omega (arith, b, z, cr));
       }
 
-module _ {T R E : Type 0} (M : Machine T R E) (H K N W : ℕ) (L : Lawful M H K) (room : W * N ≤ top) (out : E) where
+module _ {T R E : Type 0} (M : CoreMachine T R E) (H K N W : ℕ) (L : Lawful M H K) (room : W * N ≤ top) (out : E) where
   asked : (c : Config T R E) (a : Bool) (w : ℕ) (t : T) (d : Bool) (f : Option ℕ → T) (o : Option ℕ) → View M H N K W out c → w < W → c.seats w ≡ running t d → M.turn a t ≡ Rattle.schedule_core.specs.Machine.Asks f → AnyFree K c.cells o → View M H N K W out (given c w (f o) o)
   asked c a w t d f None s lt q st ch = on_skips M H K N W out L room c s a w t d f lt q st
   asked c a w t d f (Some k) s lt q st ch = on_takes M H K N W out L room c s a w t d f k lt q st ch.0 ch.1
@@ -89,7 +89,7 @@ end_cases (suc x) = ⊎_elim
     (λ (t : (k : ℕ) × ((x ≡ left k) ⊎ (x ≡ right k))). ⊎_elim (λ q. inr (t.0, inr (omega (arith, q)))) (λ q. inr (suc t.0, inl (omega (arith, q)))) t.1)
     (end_cases x)
 
-module _ {T R E : Type 0} (M : Machine T R E) (H K N W : ℕ) (out : E) (c : Config T R E) (s : View M H N K W out c) where
+module _ {T R E : Type 0} (M : CoreMachine T R E) (H K N W : ℕ) (out : E) (c : Config T R E) (s : View M H N K W out c) where
   open_by : (k : ℕ) (x : Cell T R E) (y : ℕ) → CellOk M s.holder s.ending k x → (y ≡ left k) ⊎ (y ≡ right k) → (s.holder y ≡ nobody → ⊥) → IsOpen x
   open_by k free y o u nn = ⊎_elim (λ q. nn (ap s.holder q ∙ o.0)) (λ q. nn (ap s.holder q ∙ o.1)) u
   open_by k (taken w) y o u nn = ⊎_elim (λ q. nn (ap s.holder q ∙ o.0)) (λ q. nn (ap s.holder q ∙ o.1)) u

@@ -2,7 +2,7 @@
 use Rattle.std.proofs.Common.{◌≡◌, ℕ, suc, ◌<◌, ◌⊎◌, Option, Some, None, List, [], ◌∷◌, ◌++◌}
 use Rattle.std.proofs.Common.{length, refl, sym, ap, ◌∙◌, subst, ⊎_elim, inl, inr, arith}
 use Rattle.std.proofs.lemmas.Bool.{cases_eq}
-use Rattle.schedule_core.specs.Machine.{left, right, Machine}
+use Rattle.schedule_core.specs.Machine.{left, right, CoreMachine}
 use Rattle.schedule_core.specs.Core.{put, without, Seat, resting, running, forked, ended, holding}
 use Rattle.schedule_core.specs.Core.{Cell, free, taken, opened, met}
 use Rattle.schedule_core.specs.Sound.{Holder, nobody, by_seat, by_record, kept_of, KeepsEndOf}
@@ -33,7 +33,7 @@ NotHand i (taken j) = j ≡ i → ⊥
 NotHand i (opened r ch p q) = Unit {0}
 NotHand i (met j r p q) = j ≡ i → ⊥
 
-module _ {T R E : Type 0} (M : Machine T R E) (h h' : ℕ → Holder) (e : ℕ → E) (w k : ℕ) (st : Still w k h h') (nb : (x : ℕ) → (x ≡ 0 → ⊥) → (x ≡ left k → ⊥) → (x ≡ right k → ⊥) → h' x ≡ nobody → h x ≡ nobody) where
+module _ {T R E : Type 0} (M : CoreMachine T R E) (h h' : ℕ → Holder) (e : ℕ → E) (w k : ℕ) (st : Still w k h h') (nb : (x : ℕ) → (x ≡ 0 → ⊥) → (x ≡ left k → ⊥) → (x ≡ right k → ⊥) → h' x ≡ nobody → h x ≡ nobody) where
   still_seat : (x i : ℕ) → (i ≡ w → ⊥) → h x ≡ by_seat i → h' x ≡ by_seat i
   still_seat x i ne q = st x (subst (Untouched w k x) (sym q) ne) ∙ q
 
@@ -83,7 +83,7 @@ module _ {T R E : Type 0} (M : Machine T R E) (h h' : ℕ → Holder) (e : ℕ �
 
 -- ---- the order of open records
 
-module _ {T R E : Type 0} (M : Machine T R E) (cells : ℕ → Cell T R E) (xs : List ℕ) (ord : Order M cells xs) (k : ℕ) (x : Cell T R E) where
+module _ {T R E : Type 0} (M : CoreMachine T R E) (cells : ℕ → Cell T R E) (xs : List ℕ) (ord : Order M cells xs) (k : ℕ) (x : Cell T R E) where
   -- a record that stays open or stays closed, and keeps the same end
   pub order_same : (IsOpen x → IsOpen (cells k)) → (IsOpen (cells k) → IsOpen x) → kept_of M x ≡ kept_of M (cells k) → Order M (put cells k x) xs
   order_same f g q = record {
@@ -208,7 +208,7 @@ pub dead_right : (w k : ℕ) (h : ℕ → Holder) → h (right k) ≡ nobody →
 dead_right w k h q u = (subst (Untouched w k (right k)) q u).1 refl
 
 -- the end that a record's rest keeps is held by the record
-pub held_up : {T R E : Type 0} (M : Machine T R E) (h : ℕ → Holder) (e : ℕ → E) (i y : ℕ) (c : Cell T R E) → CellOk M h e i c → kept_of M c ≡ suc y → h (suc y) ≡ by_record i
+pub held_up : {T R E : Type 0} (M : CoreMachine T R E) (h : ℕ → Holder) (e : ℕ → E) (i y : ℕ) (c : Cell T R E) → CellOk M h e i c → kept_of M c ≡ suc y → h (suc y) ≡ by_record i
 held_up M h e i y free o q = absurd (omega (arith, q))
 held_up M h e i y (taken w) o q = absurd (omega (arith, q))
 held_up M h e i y (opened r ch p s) o q = ap h (sym q) ∙ o.0.0

@@ -5,7 +5,7 @@ use Rattle.std.specs.Prelude.{Bool, true, false}
 use Rattle.std.proofs.Math.Nat.{suc-mul, mul-le-mul_right}
 use Rattle.std.proofs.lemmas.Bool.{cases_eq, cases_lt}
 use Rattle.schedule_core.specs.Machine.{left, right, Turn, Goes, Beats, Ends, Asks, Forks, Stuck}
-use Rattle.schedule_core.specs.Machine.{Merged, Runs, Over, Machine, MergedOwes, MergeOwes, IsOther}
+use Rattle.schedule_core.specs.Machine.{Merged, Runs, Over, CoreMachine, MergedOwes, MergeOwes, IsOther}
 use Rattle.schedule_core.specs.Machine.{TurnOwes, KeepsTurn, Lawful}
 use Rattle.schedule_core.specs.Core.{put, top, one_more, without, is_allowed, Seat, resting}
 use Rattle.schedule_core.specs.Core.{running, forked, ended, holding, Cell, free, taken, opened}
@@ -37,7 +37,7 @@ open_used (taken w) o = tt
 open_used (opened r ch p q) o = tt
 open_used (met w r p q) o = tt
 
-module _ {T R E : Type 0} (M : Machine T R E) (H K N W : ℕ) (out : E) (L : Lawful M H K) (room : W * N ≤ top) (c : Config T R E) (s : View M H N K W out c) where
+module _ {T R E : Type 0} (M : CoreMachine T R E) (H K N W : ℕ) (out : E) (L : Lawful M H K) (room : W * N ≤ top) (c : Config T R E) (s : View M H N K W out c) where
   owing_put : (w : ℕ) (new old : Seat T R E) → w < W → c.seats w ≡ old → total W (λ i. owing M H (put c.seats w new i)) + owing M H old ≡ total W (λ i. owing M H (c.seats i)) + owing M H new
   owing_put w new old lt q = let a = total_put W (owing M H) c.seats w new lt in let b = ap (owing M H) q in omega (arith, a, b)
 

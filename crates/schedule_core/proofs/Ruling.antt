@@ -16,7 +16,7 @@ use Rattle.schedule_core.specs.Apply.{AreSidesOf, SidesFit, IsSound}
 use Rattle.schedule_core.specs.Core.{top, Config, Event, AnyFree, CoreStep, Seat, resting, running}
 use Rattle.schedule_core.specs.Core.{forked, ended, holding, Cell, free, taken, opened, met, first}
 use Rattle.schedule_core.specs.Enabled.{MetWith, HasMet}
-use Rattle.schedule_core.specs.Machine.{Machine, Merged, Stuck}
+use Rattle.schedule_core.specs.Machine.{CoreMachine, Merged, Stuck}
 use Rattle.schedule_core.specs.Run.{CoreRun, Finished, Arrivals, counted_in}
 use Rattle.schedule_core.specs.Sound.{Sound}
 use Rattle.schedule_core.specs.Standing.{Standing, IsStanding, stands}
@@ -37,7 +37,7 @@ merges_fit code r (ending.At i Left p) (ending.Root outcome) both m = m
 merges_fit code r (ending.Root outcome) q both m = m
 
 module _ (code : Listing) (is_code : IsCode code.tables code.blocks) (s : Standing) (is : IsStanding s) (out : Ending) (so : IsSound code s out) where
-  M : Machine State RestState Ending
+  M : CoreMachine State RestState Ending
   M = tasks code s.heartbeat
 
   fit_cell : (k : ℕ) (x : Cell State RestState Ending) → (stands s).cells k ≡ x → MetWith (λ r p q. Unit {0}) x → MetWith (AreSidesOf code) x

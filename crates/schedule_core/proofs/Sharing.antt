@@ -93,7 +93,7 @@ record Stands (lane : Lane) (c : Config State RestState Ending) : Type 0 where
   small : lane.tally.beats ≤ 2 ^ 64 - 1
 
 module _ (code : Listing) (heartbeat forks : ℕ) where
-  abbrev M : Rattle.schedule_core.specs.Machine.Machine State RestState Ending
+  abbrev M : Rattle.schedule_core.specs.Machine.CoreMachine State RestState Ending
   M = tasks code heartbeat
 
   abbrev One : Config State RestState Ending → Event → Config State RestState Ending → Type 0

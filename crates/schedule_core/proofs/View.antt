@@ -1,7 +1,7 @@
 -- Soundness as one record, the form in which events are followed.
 use Rattle.std.proofs.Common.{◌≡◌, ℕ, ◌+◌, ◌*◌, ◌≤◌, Option, Some, None, refl, sym, ap, ◌∙◌, subst}
 use Rattle.std.specs.Prelude.{false}
-use Rattle.schedule_core.specs.Machine.{left, right, Machine, MergeOwes}
+use Rattle.schedule_core.specs.Machine.{left, right, CoreMachine, MergeOwes}
 use Rattle.schedule_core.specs.Core.{Seat, resting, running, forked, ended, holding, Cell, free}
 use Rattle.schedule_core.specs.Core.{taken, opened, met, Config}
 use Rattle.schedule_core.specs.Sound.{Holder, nobody, by_seat, by_record, SeatHas, CellHas}
@@ -10,7 +10,7 @@ use Rattle.schedule_core.specs.Sound.{ChildOwes, SideIs, CellOwes, IsPending, Se
 use Rattle.schedule_core.specs.Sound.{ChildRecord, CellRecord, Order, total, owing, saved}
 use Rattle.schedule_core.specs.Sound.{SeatFresh, CellFresh, Paid, Sound}
 
-module _ {T R E : Type 0} (M : Machine T R E) (holder : ℕ → Holder) (ending : ℕ → E) where
+module _ {T R E : Type 0} (M : CoreMachine T R E) (holder : ℕ → Holder) (ending : ℕ → E) where
   abbrev pub SeatOk : (ℕ → Cell T R E) → ℕ → Seat T R E → Type 0
   SeatOk cells w resting = Unit {0}
   SeatOk cells w (running t d) = (holder (M.home t) ≡ by_seat w) × M.owes d t (ending (M.home t)) × IsPending M cells w (M.pending t)
@@ -42,7 +42,7 @@ module _ {T R E : Type 0} (M : Machine T R E) (holder : ℕ → Holder) (ending 
   RootOk out None = holder 0 ≡ nobody → ⊥
   RootOk out (Some e) = (e ≡ out) × (holder 0 ≡ nobody)
 
-module _ {T R E : Type 0} (M : Machine T R E) where
+module _ {T R E : Type 0} (M : CoreMachine T R E) where
   -- a record that is taken or met is in its worker's hand
   abbrev pub HandOk : (ℕ → Seat T R E) → ℕ → Cell T R E → Type 0
   HandOk seats k free = Unit {0}
@@ -50,7 +50,7 @@ module _ {T R E : Type 0} (M : Machine T R E) where
   HandOk seats k (opened r ch p q) = Unit {0}
   HandOk seats k (met w r p q) = seats w ≡ holding k
 
-pub record View {T R E : Type 0} (M : Machine T R E) (H N K W : ℕ) (out : E) (c : Config T R E) : Type 0 where
+pub record View {T R E : Type 0} (M : CoreMachine T R E) (H N K W : ℕ) (out : E) (c : Config T R E) : Type 0 where
   pub holder : ℕ → Holder
   pub ending : ℕ → E
   pub root_is : ending 0 ≡ out
@@ -68,7 +68,7 @@ pub record View {T R E : Type 0} (M : Machine T R E) (H N K W : ℕ) (out : E) (
 
 -- ---- from soundness
 
-module _ {T R E : Type 0} (M : Machine T R E) (h : ℕ → Holder) (e : ℕ → E) where
+module _ {T R E : Type 0} (M : CoreMachine T R E) (h : ℕ → Holder) (e : ℕ → E) where
   seat_in : (cells : ℕ → Cell T R E) (w : ℕ) (x : Seat T R E) → SeatEnds M h w x → SeatOwes M e x → SeatRecord M cells w x → SeatFresh M x → SeatOk M h e cells w x
   seat_in cells w resting a b c d = tt
   seat_in cells w (running t due) a b c d = (a, b, c)
@@ -100,7 +100,7 @@ module _ {T R E : Type 0} (M : Machine T R E) (h : ℕ → Holder) (e : ℕ → 
   root_in out None a b = a
   root_in out (Some x) a b = (b x refl, a)
 
-module _ {T R E : Type 0} (M : Machine T R E) (H N K W : ℕ) (out : E) (c : Config T R E) where
+module _ {T R E : Type 0} (M : CoreMachine T R E) (H N K W : ℕ) (out : E) (c : Config T R E) where
   pub view_of : Sound M H N K W out c → View M H N K W out c
   view_of s = record {
     holder = s.holder;
@@ -121,7 +121,7 @@ module _ {T R E : Type 0} (M : Machine T R E) (H N K W : ℕ) (out : E) (c : Con
 
 -- ---- and back
 
-module _ {T R E : Type 0} (M : Machine T R E) (h : ℕ → Holder) (e : ℕ → E) where
+module _ {T R E : Type 0} (M : CoreMachine T R E) (h : ℕ → Holder) (e : ℕ → E) where
   ends_out : (cells : ℕ → Cell T R E) (w : ℕ) (x : Seat T R E) → SeatOk M h e cells w x → SeatEnds M h w x
   ends_out cells w resting o = tt
   ends_out cells w (running t due) o = o.0
@@ -208,7 +208,7 @@ module _ {T R E : Type 0} (M : Machine T R E) (h : ℕ → Holder) (e : ℕ → 
       of z None = z
       of z (Some u) = u
 
-module _ {T R E : Type 0} (M : Machine T R E) (H N K W : ℕ) (out : E) (c : Config T R E) where
+module _ {T R E : Type 0} (M : CoreMachine T R E) (H N K W : ℕ) (out : E) (c : Config T R E) where
   pub sound_of : View M H N K W out c → Sound M H N K W out c
   sound_of v = record {
     holder = v.holder;

@@ -2,8 +2,8 @@
 use Rattle.std.specs.Prelude.{ℕ, ◌+◌, ◌-◌, ◌^◌, min, ◌≡◌, ◌≢◌, ◌<◌, List, [], ◌∷◌, ◌++◌, Option}
 use Rattle.std.specs.Prelude.{Some, None, Bool, true, false, not, nat_eq, nat_lt, if◌then◌else◌}
 use Rattle.std.specs.List.{filter}
-use Rattle.schedule_core.specs.Machine.{root, left, right, Machine, Merged, Runs, Over, Goes, Beats}
-use Rattle.schedule_core.specs.Machine.{Ends, Asks, Forks}
+use Rattle.schedule_core.specs.Machine.{root, left, right, CoreMachine, Merged, Runs, Over, Goes}
+use Rattle.schedule_core.specs.Machine.{Beats, Ends, Asks, Forks}
 
 -- ---- configurations
 
@@ -178,7 +178,7 @@ module _ {Task Rest Ending : Type 0} where
   LeastFree K cells (Some k) = (k < K) × (cells k ≡ free) × ((j : ℕ) → j < k → cells j ≢ free)
 
 -- One event of W workers over K records, where each worker may be diverted N times.
-pub data CoreStep {Task Rest Ending : Type 0} (M : Machine Task Rest Ending)
+pub data CoreStep {Task Rest Ending : Type 0} (M : CoreMachine Task Rest Ending)
     (choice : Choice Task Rest Ending) (N K W : ℕ) (c : Config Task Rest Ending) : Event
     → Config Task Rest Ending → Type 0 where
   -- a worker's task takes one step

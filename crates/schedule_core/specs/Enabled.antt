@@ -1,6 +1,6 @@
 -- Which events are enabled.
 use Rattle.std.specs.Prelude.{ℕ, ◌≡◌, ◌≢◌, ◌<◌, Some, None}
-use Rattle.schedule_core.specs.Machine.{root, Machine}
+use Rattle.schedule_core.specs.Machine.{root, CoreMachine}
 use Rattle.schedule_core.specs.Core.{Seat, resting, running, forked, ended, holding, Cell, free}
 use Rattle.schedule_core.specs.Core.{taken, opened, met, Config, Event, Step, Open, Claim, Arrive}
 use Rattle.schedule_core.specs.Core.{Free, Finish}
@@ -65,7 +65,7 @@ module _ {Task Rest Ending : Type 0} where
   HasMet P cells (holding k) = MetWith P (cells k)
 
 -- the event can happen, among W workers and K records
-abbrev pub Enabled : {Task Rest Ending : Type 0} → Machine Task Rest Ending → ℕ → ℕ
+abbrev pub Enabled : {Task Rest Ending : Type 0} → CoreMachine Task Rest Ending → ℕ → ℕ
     → Config Task Rest Ending → Event → Type 0
 Enabled M K W c (Step w) = (w < W) × Runs (c.seats w)
 Enabled M K W c (Open w) = (w < W) × HasForked K (c.seats w)

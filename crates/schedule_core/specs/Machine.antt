@@ -38,7 +38,7 @@ pub data Merged (Task Ending : Type 0) : Type 0 where
 -- what a rest becomes and of an ending; the record that a task was given and hasn't used; the
 -- instructions that a task may pay for a fork with; and what a task owes, where a beat came for
 -- which no record was asked yet or none came.
-pub record Machine (Task Rest Ending : Type 0) : Type 1 where
+pub record CoreMachine (Task Rest Ending : Type 0) : Type 1 where
   pub turn : Bool → Task → Turn Task Rest Ending
   pub merges : Rest → Ending → Ending → Merged Task Ending → Type 0
   pub home : Task → ℕ
@@ -50,7 +50,7 @@ pub record Machine (Task Rest Ending : Type 0) : Type 1 where
 
 -- ---- what is owed
 
-module _ {Task Rest Ending : Type 0} (M : Machine Task Rest Ending) where
+module _ {Task Rest Ending : Type 0} (M : CoreMachine Task Rest Ending) where
   abbrev pub MergedOwes : Ending → Merged Task Ending → Type 0
   MergedOwes e (Runs task) = M.owes false task e
   MergedOwes e (Over other) = other ≡ e
@@ -122,7 +122,7 @@ module _ {Task Rest Ending : Type 0} (M : Machine Task Rest Ending) where
 
 -- The laws of a machine with heartbeat H, for K records: what a task owes shows at its step; what a
 -- step of a task that owes an ending keeps, and a merge; and that a merge comes to one thing.
-pub record Lawful {Task Rest Ending : Type 0} (M : Machine Task Rest Ending) (H K : ℕ) : Type 0
+pub record Lawful {Task Rest Ending : Type 0} (M : CoreMachine Task Rest Ending) (H K : ℕ) : Type 0
   where
     pub invert : (allowed due : Bool) (task : Task) (e : Ending)
         → M.owes due task e

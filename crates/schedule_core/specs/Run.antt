@@ -1,13 +1,13 @@
 -- Lists of events, and what is said of the configurations that they lead to.
 use Rattle.std.specs.Prelude.{ℕ, suc, ◌+◌, ◌*◌, ◌≡◌, ◌≤◌, List, [], ◌∷◌}
-use Rattle.schedule_core.specs.Machine.{Machine}
+use Rattle.schedule_core.specs.Machine.{CoreMachine}
 use Rattle.schedule_core.specs.Core.{resting, Config, Event, Choice, CoreStep, goes, beats, ends}
 use Rattle.schedule_core.specs.Core.{asks, forks, opens, claims, arrives_left, arrives_right, frees}
 use Rattle.schedule_core.specs.Core.{finishes, put}
 use Rattle.schedule_core.specs.Sound.{IsOpen, total}
 
 -- a list of events leads from a configuration to another
-pub data CoreRun {Task Rest Ending : Type 0} (M : Machine Task Rest Ending)
+pub data CoreRun {Task Rest Ending : Type 0} (M : CoreMachine Task Rest Ending)
     (choice : Choice Task Rest Ending) (N K W : ℕ) : Config Task Rest Ending
     → List Event → Config Task Rest Ending → Type 0 where
   here : (c : Config Task Rest Ending) → CoreRun M choice N K W c [] c
@@ -16,7 +16,7 @@ pub data CoreRun {Task Rest Ending : Type 0} (M : Machine Task Rest Ending)
       → CoreRun M choice N K W next events last
       → CoreRun M choice N K W c (event ∷ events) last
 
-module _ {Task Rest Ending : Type 0} (M : Machine Task Rest Ending)
+module _ {Task Rest Ending : Type 0} (M : CoreMachine Task Rest Ending)
     (choice : Choice Task Rest Ending) (N K W : ℕ) where
   -- each event of a list is such a one in the configuration in which it happens
   abbrev pub EachEvent : (Config Task Rest Ending → Event → Type 0)
@@ -48,7 +48,7 @@ one_left seen = (suc seen.0, seen.1)
 abbrev pub one_right : ℕ × ℕ → ℕ × ℕ
 one_right seen = (seen.0, suc seen.1)
 
-module _ {Task Rest Ending : Type 0} (M : Machine Task Rest Ending)
+module _ {Task Rest Ending : Type 0} (M : CoreMachine Task Rest Ending)
     (choice : Choice Task Rest Ending) (N K W : ℕ) where
   -- what one event adds
   abbrev pub counted : {c next : Config Task Rest Ending} {event : Event}

@@ -2,7 +2,7 @@
 -- order the records were opened, and what the counts have paid for.
 use Rattle.std.specs.Prelude.{ℕ, zero, suc, ◌+◌, ◌*◌, ◌≡◌, ◌≢◌, ◌⊎◌, ◌<◌, ◌≤◌, List, [], ◌∷◌}
 use Rattle.std.specs.Prelude.{Option, Some, None, Bool, true, false, nat_eq, if◌then◌else◌}
-use Rattle.schedule_core.specs.Machine.{root, left, right, Machine, MergeOwes}
+use Rattle.schedule_core.specs.Machine.{root, left, right, CoreMachine, MergeOwes}
 use Rattle.schedule_core.specs.Core.{Seat, resting, running, forked, ended, holding, Cell, free}
 use Rattle.schedule_core.specs.Core.{taken, opened, met, Config, top}
 
@@ -20,7 +20,7 @@ abbrev pub IsThere : {A : Type 0} → Option A → Type 0
 IsThere None = ⊥
 IsThere (Some a) = Unit {0}
 
-module _ {Task Rest Ending : Type 0} (M : Machine Task Rest Ending) where
+module _ {Task Rest Ending : Type 0} (M : CoreMachine Task Rest Ending) where
   -- the end that a worker holds: its running task's, its ended task's, or the one that the rest of
   -- a fork keeps
   abbrev pub SeatHas : Seat Task Rest Ending → ℕ → Type 0
@@ -40,7 +40,7 @@ module _ {Task Rest Ending : Type 0} (M : Machine Task Rest Ending) where
       ⊎ (((y ≡ left k) × IsThere p) ⊎ ((y ≡ right k) × (IsThere child ⊎ IsThere q)))
   CellHas k (met w rest p q) y = (y ≡ M.kept rest) ⊎ ((y ≡ left k) ⊎ (y ≡ right k))
 
-module _ {Task Rest Ending : Type 0} (M : Machine Task Rest Ending) (holder : ℕ → Holder) where
+module _ {Task Rest Ending : Type 0} (M : CoreMachine Task Rest Ending) (holder : ℕ → Holder) where
   -- what a worker has at an end is that end's holder; a fork's two tasks have the ends of its
   -- record
   abbrev pub SeatEnds : ℕ → Seat Task Rest Ending → Type 0
@@ -83,7 +83,7 @@ module _ {Task Rest Ending : Type 0} (M : Machine Task Rest Ending) (holder : �
   RootEnd (Some e) = holder root ≡ nobody
 
 -- each live end has exactly one holder, and no other end has one
-pub record Ends {Task Rest Ending : Type 0} (M : Machine Task Rest Ending) (holder : ℕ → Holder)
+pub record Ends {Task Rest Ending : Type 0} (M : CoreMachine Task Rest Ending) (holder : ℕ → Holder)
     (c : Config Task Rest Ending) : Type 0 where
   pub seats : (w : ℕ) → SeatEnds M holder w (c.seats w)
   pub records : (k : ℕ) → CellEnds M holder k (c.cells k)
@@ -93,7 +93,7 @@ pub record Ends {Task Rest Ending : Type 0} (M : Machine Task Rest Ending) (hold
 
 -- ---- what is owed
 
-module _ {Task Rest Ending : Type 0} (M : Machine Task Rest Ending) (ending : ℕ → Ending) where
+module _ {Task Rest Ending : Type 0} (M : CoreMachine Task Rest Ending) (ending : ℕ → Ending) where
   -- a rest, merged with the endings of its record's two ends, owes the ending of the end that it
   -- keeps
   abbrev pub RestOwes : ℕ → Rest → Type 0
@@ -124,7 +124,7 @@ module _ {Task Rest Ending : Type 0} (M : Machine Task Rest Ending) (ending : �
 
 -- each live end has one ending; who holds it owes that ending or is it, and that of the run is
 -- `out`
-pub record Owed {Task Rest Ending : Type 0} (M : Machine Task Rest Ending) (ending : ℕ → Ending)
+pub record Owed {Task Rest Ending : Type 0} (M : CoreMachine Task Rest Ending) (ending : ℕ → Ending)
     (out : Ending) (c : Config Task Rest Ending) : Type 0 where
   pub seats : (w : ℕ) → SeatOwes M ending (c.seats w)
   pub records : (k : ℕ) → CellOwes M ending k (c.cells k)
@@ -133,7 +133,7 @@ pub record Owed {Task Rest Ending : Type 0} (M : Machine Task Rest Ending) (endi
 
 -- ---- records
 
-module _ {Task Rest Ending : Type 0} (M : Machine Task Rest Ending) where
+module _ {Task Rest Ending : Type 0} (M : CoreMachine Task Rest Ending) where
   -- a pending record is taken by the task's worker
   abbrev pub IsPending : (ℕ → Cell Task Rest Ending) → ℕ → Option ℕ → Type 0
   IsPending cells w None = Unit {0}
@@ -176,7 +176,7 @@ module _ {Task Rest Ending : Type 0} (M : Machine Task Rest Ending) where
   CellRecord seats k (met w rest p q) = seats w ≡ holding k
 
 -- a free record is in no hand; a taken or met one is in exactly one; and there are K records
-pub record Records {Task Rest Ending : Type 0} (M : Machine Task Rest Ending) (K : ℕ)
+pub record Records {Task Rest Ending : Type 0} (M : CoreMachine Task Rest Ending) (K : ℕ)
     (c : Config Task Rest Ending) : Type 0 where
   pub seats : (w : ℕ) → SeatRecord M c.cells w (c.seats w)
   pub records : (k : ℕ) → CellRecord M c.seats k (c.cells k)
@@ -206,19 +206,19 @@ module _ {Task Rest Ending : Type 0} where
   IsOpen (met w rest p q) = Unit {0}
 
   -- the end that an open record's rest keeps
-  abbrev pub kept_of : Machine Task Rest Ending → Cell Task Rest Ending → ℕ
+  abbrev pub kept_of : CoreMachine Task Rest Ending → Cell Task Rest Ending → ℕ
   kept_of M free = root
   kept_of M (taken w) = root
   kept_of M (opened rest child p q) = M.kept rest
   kept_of M (met w rest p q) = M.kept rest
 
   -- the rest of a record keeps an end of record j
-  abbrev pub KeepsEndOf : Machine Task Rest Ending → Cell Task Rest Ending → ℕ → Type 0
+  abbrev pub KeepsEndOf : CoreMachine Task Rest Ending → Cell Task Rest Ending → ℕ → Type 0
   KeepsEndOf M x j = (kept_of M x ≡ left j) ⊎ (kept_of M x ≡ right j)
 
 -- the list of a configuration has the open records, each once; and where a record's rest keeps an
 -- end of another, the other was opened before
-pub record Order {Task Rest Ending : Type 0} (M : Machine Task Rest Ending)
+pub record Order {Task Rest Ending : Type 0} (M : CoreMachine Task Rest Ending)
     (cells : ℕ → Cell Task Rest Ending) (order : List ℕ) : Type 0 where
   pub listed : (k : ℕ) → IsOpen (cells k) → 0 < place order k
   pub is_open : (k : ℕ) → 0 < place order k → IsOpen (cells k)
@@ -239,7 +239,7 @@ abbrev pub one_there : Option ℕ → ℕ
 one_there None = 0
 one_there (Some k) = 1
 
-module _ {Task Rest Ending : Type 0} (M : Machine Task Rest Ending) (H : ℕ) where
+module _ {Task Rest Ending : Type 0} (M : CoreMachine Task Rest Ending) (H : ℕ) where
   -- the beats of a worker whose record is still to be asked for, or isn't open yet
   abbrev pub owing : Seat Task Rest Ending → ℕ
   owing resting = 0
@@ -256,7 +256,7 @@ module _ {Task Rest Ending : Type 0} (M : Machine Task Rest Ending) (H : ℕ) wh
   saved (ended e) = 0
   saved (holding k) = 0
 
-module _ {Task Rest Ending : Type 0} (M : Machine Task Rest Ending) where
+module _ {Task Rest Ending : Type 0} (M : CoreMachine Task Rest Ending) where
   -- a child that isn't running has counted nothing
   abbrev pub SeatFresh : Seat Task Rest Ending → Type 0
   SeatFresh resting = Unit {0}
@@ -278,7 +278,7 @@ Paid x n = (x ≤ n) ⊎ (n ≡ top)
 
 -- each beat is a task, skipped or still at work; H instructions pay for each task and what isn't
 -- used is saved; and no worker has more beats than it is allowed
-pub record Counts {Task Rest Ending : Type 0} (M : Machine Task Rest Ending) (H N W : ℕ)
+pub record Counts {Task Rest Ending : Type 0} (M : CoreMachine Task Rest Ending) (H N W : ℕ)
     (c : Config Task Rest Ending) : Type 0 where
   pub beats : total W c.beats ≡ c.tasks + c.skipped + total W (λ w. owing M H (c.seats w))
   pub paid : Paid (c.tasks * H + total W (λ w. saved M H (c.seats w))) c.instructions
@@ -290,7 +290,7 @@ pub record Counts {Task Rest Ending : Type 0} (M : Machine Task Rest Ending) (H 
 
 -- a configuration of W workers and K records, with heartbeat H and N beats allowed to each worker,
 -- is sound for what the run will end with
-pub record Sound {Task Rest Ending : Type 0} (M : Machine Task Rest Ending) (H N K W : ℕ)
+pub record Sound {Task Rest Ending : Type 0} (M : CoreMachine Task Rest Ending) (H N K W : ℕ)
     (out : Ending) (c : Config Task Rest Ending) : Type 0 where
   pub holder : ℕ → Holder
   pub ending : ℕ → Ending

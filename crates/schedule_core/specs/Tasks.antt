@@ -17,8 +17,8 @@ use Rattle.tpal_machine.specs.RestState.{RestState, end_of}
 use Rattle.tpal_machine.specs.State.{State}
 use Rattle.tpal_machine.specs.Step as machine
 use Rattle.tpal_machine.specs.Step.{step}
-use Rattle.schedule_core.specs.Machine.{root, left, right, Machine, Turn, Goes, Beats, Ends, Asks}
-use Rattle.schedule_core.specs.Machine.{Forks, Stuck, Merged, Runs, Over}
+use Rattle.schedule_core.specs.Machine.{root, left, right, CoreMachine, Turn, Goes, Beats, Ends}
+use Rattle.schedule_core.specs.Machine.{Asks, Forks, Stuck, Merged, Runs, Over}
 
 -- the number of an end
 abbrev pub side_number : ℕ → SideName → ℕ
@@ -60,7 +60,7 @@ MergesTo code rest (ending.At i Left p) (ending.Root outcome) both = ⊥
 MergesTo code rest (ending.Root outcome) e both = ⊥
 
 -- the tasks of a code at a heartbeat
-abbrev pub tasks : Listing → ℕ → Machine State RestState Ending
+abbrev pub tasks : Listing → ℕ → CoreMachine State RestState Ending
 tasks code heartbeat = record {
   turn = λ allowed state. turn_of (step code heartbeat allowed state);
   merges = MergesTo code;
