@@ -103,7 +103,7 @@ module _ (code : Listing) (heartbeat : ℕ) where
   merges_keep rest (ending.At i Left p) (ending.Root outcome) both m = absurd m
   merges_keep rest (ending.Root outcome) q both m = absurd m
 
-one_merge : (code : Listing) (rest : RestState) (p q : Ending) (both other : Merged State Ending) → MergesTo code rest p q both → MergesTo code rest p q other → both ≡ other
+pub one_merge : (code : Listing) (rest : RestState) (p q : Ending) (both other : Merged State Ending) → MergesTo code rest p q both → MergesTo code rest p q other → both ≡ other
 one_merge code rest (ending.At i Left p) (ending.At j Right q) both other a b = sym a.is ∙ (ap merged_of (sym a.merge.gives ∙ b.merge.gives) ∙ b.is)
 one_merge code rest (ending.At i Left p) (ending.At j Left q) both other a b = absurd a
 one_merge code rest (ending.At i Right p) (ending.At j side q) both other a b = absurd a

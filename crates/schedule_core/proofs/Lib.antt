@@ -48,3 +48,5 @@ pub mod Soloing
 pub mod Sharing
 -- a solo run comes to one end
 pub mod OneRun
+-- one worker's list of events to an outcome is one
+pub mod OneList

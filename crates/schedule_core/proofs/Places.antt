@@ -47,6 +47,35 @@ later_short : (n m : ℕ) → n ≤ m → later n ≤ suc m
 later_short zero m e = omega arith
 later_short (suc n) m e = omega (arith, e)
 
+later_same : (n m : ℕ) → later n ≡ later m → n ≡ m
+later_same zero zero e = refl
+later_same zero (suc m) e = absurd (omega (arith, e))
+later_same (suc n) zero e = absurd (omega (arith, e))
+later_same (suc n) (suc m) e = omega (arith, e)
+
+later_from : (n : ℕ) → 0 < later n → 0 < n
+later_from zero e = absurd (omega (arith, e))
+later_from (suc n) e = omega arith
+
+not_first : (n : ℕ) → later n ≡ 1 → ⊥
+not_first zero e = omega (arith, e)
+not_first (suc n) e = omega (arith, e)
+
+-- two records at one place are one
+pub place_one : (js : List ℕ) (k i : ℕ) → 0 < place js k → place js k ≡ place js i → k ≡ i
+place_one [] k i there same = absurd (omega (arith, there))
+place_one (j ∷ js) k i there same = ⊎_elim
+    (λ (e : j ≡ k). ⊎_elim
+    (λ (f : j ≡ i). sym e ∙ f)
+    (λ (n : j ≡ i → ⊥). absurd (not_first (place js i) (sym (place_next j i js n) ∙ (sym same ∙ place_here j k js e))))
+    (cases_eq j i))
+    (λ (ne : j ≡ k → ⊥). let a = place_next j k js ne in
+    ⊎_elim
+    (λ (f : j ≡ i). absurd (not_first (place js k) (sym a ∙ (same ∙ place_here j i js f))))
+    (λ (n : j ≡ i → ⊥). place_one js k i (later_from (place js k) (omega (arith, there, a))) (later_same (place js k) (place js i) (sym a ∙ (same ∙ place_next j i js n))))
+    (cases_eq j i))
+    (cases_eq j k)
+
 -- ---- one more at the end
 
 pub place_short : (js : List ℕ) (k : ℕ) → place js k ≤ length js

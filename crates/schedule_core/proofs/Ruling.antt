@@ -89,3 +89,7 @@ module _ (code : Listing) (is_code : IsCode code.tables code.blocks) (H N K W : 
 
   pub not_stuck : (w : ℕ) (out : Ending) (c : Config State RestState Ending) (task : State) (due allowed : Bool) → K ≤ 2 ^ 32 → W * N ≤ top → Sound (tasks code H) H N K W out c → c.seats w ≡ running task due → (tasks code H).turn allowed task ≡ Stuck → ⊥
   not_stuck w out c task due allowed few room so q st = never_stuck (tasks code H) H K N W out (lawful code H K is_code few) room c (view_of (tasks code H) H N K W out c so) allowed w task due q st
+
+  pub one_outcome : (fuel : ℕ) (held : List Holding) (out e : Ending) (last : Config State RestState Ending) (vs : List Event) → K ≤ 2 ^ 32 → W * N ≤ top → W * N * H ≤ top → 0 < W → Owes code H false 0 (first_state held fuel) out → CoreRun (tasks code H) AnyFree N K W (first (first_state held fuel)) vs last → last.outcome ≡ Some e → Finished H W out e last
+  one_outcome fuel held out e last vs few room paid some owes run is =
+      ends_owed code H N K W out e last paid (run_sound out (first (first_state held fuel)) last vs few room (begins_sound code H N K W held fuel out some owes) run) is

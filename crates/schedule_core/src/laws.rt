@@ -86,6 +86,26 @@ pub fn finished(code: &Code)
         → Finished heartbeat workers out e config }
 {}
 
+/// Whatever a list of events from the first configuration is, of any number of workers and with any
+/// free records given or none: once it has finished the root, the outcome is the one that the first
+/// task owes, no record is open, no worker has anything, each beat made a task or was skipped, and
+/// the instructions pay for the tasks.
+pub fn one_outcome(code: &Code)
+    ensures { (heartbeat forks records workers fuel : ℕ) (held : List Holding) (out e : Ending)
+        (last : core.Config State RestState Ending) (events : List core.Event)
+        → records ≤ 2 ^ 32
+        → workers * forks ≤ top
+        → workers * forks * heartbeat ≤ top
+        → 0 < workers
+        → Owes code.now heartbeat false 0 (first_state held fuel) out
+        → CoreRun (tasks code.now heartbeat) AnyFree forks records workers
+        (first (first_state held fuel)) events last
+        → last.outcome ≡ Some e
+        → Finished heartbeat workers out e last }
+{
+    let _blocks = code.blocks();
+}
+
 /// Over every list of events from the first configuration, a record that both sides have met has
 /// had one left and one right arrival since it was opened.
 #[tactic(auto, using(crate::proofs::Ruling::met_once))]

@@ -33,6 +33,22 @@ pub fn solo_run_of_events(code: &Code)
     let _blocks = code.blocks();
 }
 
+/// That list is one: where each claim is of the record that was opened last, of those whose child
+/// nobody has claimed, and each task that asks is given the least free record, one worker's events
+/// from a first task to an outcome, and what they come to, can't be others.
+pub fn one_list_of_events(code: &Code)
+    ensures { (heartbeat forks fuel : ℕ) (held : List Holding) (out outcome other : Outcome)
+        (tally later : Tally)
+        → forks * heartbeat ≤ top
+        → forks ≤ top
+        → Owes code.now heartbeat false 0 (first_state held fuel) (ending.Root out)
+        → (one : SharedRun code.now heartbeat forks (first_state held fuel) outcome tally)
+        (two : SharedRun code.now heartbeat forks (first_state held fuel) other later)
+        → (one.events ≡ two.events) × (one.last ≡ two.last) }
+{
+    let _blocks = code.blocks();
+}
+
 /// At the end of a solo run each diversion made a task or was skipped, and so many instructions as
 /// the heartbeat were executed for each task.
 pub fn solo_run_counts(code: &Code)
