@@ -86,7 +86,7 @@ module _ {T R E : Type 0} (w k : ℕ) (e : E) where
   right_was_open (opened r ch p q) o = tt
   right_was_open (met i r p q) o = tt
 
-module _ {T R E : Type 0} (M : CoreMachine T R E) (H K N W : ℕ) (L : Lawful M H K) (room : W * N ≤ top) (out : E) where
+module _ {T R E : Type 0} (M : CoreMachine T R E) (H K N W : ℕ) (L : Lawful M H K) (room : W * N ≤ top) (out : M.Promise) where
   module _ (c : Config T R E) (s : View M H N K W out c) (w k : ℕ) (e : E) (qs : c.seats w ≡ ended e) where
     no_left : (x : Cell T R E) → M.end_of e ≡ left k → c.cells k ≡ x → NoLeft x
     no_left free qe qc = seat_nobody w (at_seat M H K N W out L room c s w (ended e) qs).0 (ap s.holder qe ∙ (at_cell M H K N W out L room c s k free qc).0)

@@ -33,7 +33,7 @@ NotHand i (taken j) = j ≡ i → ⊥
 NotHand i (opened r ch p q) = Unit {0}
 NotHand i (met j r p q) = j ≡ i → ⊥
 
-module _ {T R E : Type 0} (M : CoreMachine T R E) (h h' : ℕ → Holder) (e : ℕ → E) (w k : ℕ) (st : Still w k h h') (nb : (x : ℕ) → (x ≡ 0 → ⊥) → (x ≡ left k → ⊥) → (x ≡ right k → ⊥) → h' x ≡ nobody → h x ≡ nobody) where
+module _ {T R E : Type 0} (M : CoreMachine T R E) (h h' : ℕ → Holder) (e : ℕ → M.Promise) (w k : ℕ) (st : Still w k h h') (nb : (x : ℕ) → (x ≡ 0 → ⊥) → (x ≡ left k → ⊥) → (x ≡ right k → ⊥) → h' x ≡ nobody → h x ≡ nobody) where
   still_seat : (x i : ℕ) → (i ≡ w → ⊥) → h x ≡ by_seat i → h' x ≡ by_seat i
   still_seat x i ne q = st x (subst (Untouched w k x) (sym q) ne) ∙ q
 
@@ -77,7 +77,7 @@ module _ {T R E : Type 0} (M : CoreMachine T R E) (h h' : ℕ → Holder) (e : �
   cell_frame j (opened r ch p q) ne o = ((still_record (M.kept r) j ne o.0.0, o.0.1), child_frame j ch q ne o.1, side_frame j (left j) p (inl refl) ne o.2, side_frame j (right j) q (inr refl) ne o.3)
   cell_frame j (met i r p q) ne o = ((still_record (M.kept r) j ne o.0.0, o.0.1), side_frame j (left j) (Some p) (inl refl) ne o.1, side_frame j (right j) (Some q) (inr refl) ne o.2)
 
-  pub root_frame : (out : E) (o : Option E) → (h' 0 ≡ nobody → h 0 ≡ nobody) → RootOk M h e out o → RootOk M h' e out o
+  pub root_frame : (out : M.Promise) (o : Option E) → (h' 0 ≡ nobody → h 0 ≡ nobody) → RootOk M h e out o → RootOk M h' e out o
   root_frame out None b r = λ q. r (b q)
   root_frame out (Some x) b r = (r.0, still_nobody 0 (λ q. omega (arith, q)) (λ q. omega (arith, q)) r.1)
 
@@ -208,7 +208,7 @@ pub dead_right : (w k : ℕ) (h : ℕ → Holder) → h (right k) ≡ nobody →
 dead_right w k h q u = (subst (Untouched w k (right k)) q u).1 refl
 
 -- the end that a record's rest keeps is held by the record
-pub held_up : {T R E : Type 0} (M : CoreMachine T R E) (h : ℕ → Holder) (e : ℕ → E) (i y : ℕ) (c : Cell T R E) → CellOk M h e i c → kept_of M c ≡ suc y → h (suc y) ≡ by_record i
+pub held_up : {T R E : Type 0} (M : CoreMachine T R E) (h : ℕ → Holder) (e : ℕ → M.Promise) (i y : ℕ) (c : Cell T R E) → CellOk M h e i c → kept_of M c ≡ suc y → h (suc y) ≡ by_record i
 held_up M h e i y free o q = absurd (omega (arith, q))
 held_up M h e i y (taken w) o q = absurd (omega (arith, q))
 held_up M h e i y (opened r ch p s) o q = ap h (sym q) ∙ o.0.0

@@ -22,8 +22,8 @@ use Rattle.tpal_machine.specs.Within.{JoinedOwes, NextOwes}
 use Rattle.tpal_machine.proofs.Keeping.{step_keeps, answer_keeps, merge_keeps}
 use Rattle.tpal_machine.proofs.Owed.{after_step}
 use Rattle.tpal_machine.proofs.Undiverted.{agrees}
-use Rattle.schedule_core.specs.Machine.{left, right, Merged, MergedOwes, TurnOwes, KeepsTurn}
-use Rattle.schedule_core.specs.Machine.{KeepsMerge, Lawful}
+use Rattle.schedule_core.specs.Machine.{left, right, Merged, MergedOwes, MergeOwes, MergesWell}
+use Rattle.schedule_core.specs.Machine.{TurnOwes, KeepsTurn, KeepsMerge, Lawful}
 use Rattle.schedule_core.specs.Tasks.{end_number, turn_of, merged_of, MergesSides, MergesTo, tasks}
 
 other_record : (g : Goal) (k : ℕ) → k < 2 ^ 32 → end_number (end_of g) ≢ left k → end_number (end_of g) ≢ right k → IsOtherRecord g k
@@ -118,29 +118,38 @@ module _ (code : Listing) (heartbeat K : ℕ) (is_code : IsCode code.tables code
   joined_owed e (merging.Goes task) o = o
   joined_owed e (merging.Ends other) o = o
 
+  -- a rest merges with the endings that its sides owe alone
+  merged_owed : (e : Ending) (rest : RestState) (p q : Ending) (both : Merged State Ending) → MergesTo code rest p q both → MergedOwes (tasks code heartbeat) e both → MergeOwes (tasks code heartbeat) e rest p q
+  merged_owed e rest p q both m o x y xp yq =
+      subst (λ u. MergesWell (tasks code heartbeat) e rest u y) (sym xp) (subst (λ u. MergesWell (tasks code heartbeat) e rest p u) (sym yq) (record {
+        both = both;
+        merges = m;
+        owes = λ other n. subst (MergedOwes (tasks code heartbeat) e) (one_merge code rest p q both other m n) o;
+      }))
+
   module _ (due : Bool) (task : State) (e : Ending) where
     abbrev Owed : Step → Type 0
     Owed x = TurnOwes (tasks code heartbeat) K (end_number (end_of task.goal)) due e (turn_of x)
 
     owed_by : (x : Step) → NextOwes code heartbeat (owing code heartbeat) due task e x → StepKeeps heartbeat task x → (x ≡ machine.Strays → ⊥) → Owed x
     owed_by (machine.Goes after) o k n = o
-    owed_by (machine.Beats diverted) o k n = (o.0, o.1.diverted_owes)
-    owed_by (machine.Ends other) o k n = o
+    owed_by (machine.Beats diverted) o k n = (λ strict. o.0, o.1.diverted_owes)
+    owed_by (machine.Ends other) o k n = (λ strict. o.0, o.1)
     owed_by (machine.Asks waits) o k n = (
-      o.0,
+      λ strict. o.0,
       o.1 None tt,
       λ j is.
           o.1 (Some j) (other_record waits.goal j (let lt = is.0 in omega (arith, lt, few))
           (λ q. is.1 (ap (λ g. end_number (end_of g)) (sym k.goal) ∙ q)) (λ q. is.2 (ap (λ g. end_number (end_of g)) (sym k.goal) ∙ q))),
     )
     owed_by (machine.Forks parts) o k n = (
-      o.0,
+      λ strict. o.0,
       record {
         p = ending.At parts.rec Left o.1.left;
         q = ending.At parts.rec Right o.1.right;
         on_owes = o.1.left_owes;
         child_owes = o.1.child_owes;
-        merged = record { both = merged_of o.1.both; merges = record { joined = o.1.both; merge = o.1.merged; is = refl }; owes = joined_owed e o.1.both o.1.joined_owes };
+        merged = merged_owed e parts.rest (ending.At parts.rec Left o.1.left) (ending.At parts.rec Right o.1.right) (merged_of o.1.both) (record { joined = o.1.both; merge = o.1.merged; is = refl }) (joined_owed e o.1.both o.1.joined_owes);
       },
     )
     owed_by (machine.Stuck fault) o k n = o
@@ -149,7 +158,7 @@ module _ (code : Listing) (heartbeat K : ℕ) (is_code : IsCode code.tables code
     calm_by : (x : Step) → NextOwes code heartbeat (owing code heartbeat) due task e x → StepKeeps heartbeat task x → IsUndiverted x (step code heartbeat false task) → Owed (step code heartbeat false task)
     calm_by (machine.Goes after) o k is = subst Owed (sym is) o
     calm_by (machine.Beats diverted) o k is = subst Owed (sym o.1.goes) (subst (λ (d : Bool). Owes code heartbeat d 0 o.1.after e) (sym o.0) o.1.after_owes)
-    calm_by (machine.Ends other) o k is = subst Owed (sym is) o
+    calm_by (machine.Ends other) o k is = subst Owed (sym is) (λ strict. o.0, o.1)
     calm_by (machine.Asks waits) o k is = subst Owed (sym is) (owed_by (machine.Asks waits) o k (λ q. step_clash _ _ q (λ z. omega (arith, z))))
     calm_by (machine.Forks parts) o k is = subst Owed (sym is) (owed_by (machine.Forks parts) o k (λ q. step_clash _ _ q (λ z. omega (arith, z))))
     calm_by (machine.Stuck fault) o k is = absurd o
@@ -167,5 +176,4 @@ module _ (code : Listing) (heartbeat K : ℕ) (is_code : IsCode code.tables code
     invert = λ allowed due task e o. owed_at due task e allowed o;
     keeps = λ allowed due task e o. keeps_at code heartbeat allowed task;
     merged = λ rest p q both m. merges_keep code heartbeat rest p q both m;
-    one_merge = λ rest p q both other a b. one_merge code rest p q both other a b;
   }

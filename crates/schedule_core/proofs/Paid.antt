@@ -16,6 +16,12 @@ min_right a b le = min-eq_right {n = b} {m = a} le
 pub counts : (n : ℕ) → n < top → one_more n ≡ suc n
 counts n lt = let a = min_left (n + 1) top (omega (arith, lt)) in omega (arith, a)
 
+pub one_more_le : (n : ℕ) → one_more n ≤ suc n
+one_more_le n = ⊎_elim
+    (λ (lt : n < top). let a = counts n lt in omega (arith, a))
+    (λ (ge : top ≤ n). let a = min_right (n + 1) top (omega (arith, ge)) in omega (arith, a, ge))
+    (cases_lt n top)
+
 pub paid_more : (x y n : ℕ) → Paid x n → y ≤ suc x → Paid y (one_more n)
 paid_more x y n p le = ⊎_elim
     (λ (lt : n < top). ⊎_elim

@@ -23,7 +23,7 @@ use Rattle.schedule_core.specs.Standing.{Standing, IsStanding, stands}
 use Rattle.schedule_core.specs.Tasks.{tasks, MergesTo}
 use Rattle.schedule_core.proofs.Arrivals.{one_each}
 use Rattle.schedule_core.proofs.Asked.{roomy}
-use Rattle.schedule_core.proofs.Every.{first_sound, every_event, every_run, finished}
+use Rattle.schedule_core.proofs.Every.{first_sound, every_event, every_run, few_tasks, finished}
 use Rattle.schedule_core.proofs.Instance.{lawful}
 use Rattle.schedule_core.proofs.Keeps.{merge_at, never_stuck}
 use Rattle.schedule_core.proofs.View.{view_of, sound_of}
@@ -78,7 +78,9 @@ module _ (code : Listing) (H N K W : ℕ) where
   begins_sound held fuel out some owes = sound_of (tasks code H) H N K W out (first (first_state held fuel)) (first_sound (tasks code H) H K N W out (first_state held fuel) some refl refl refl owes)
 
   pub ends_owed : (out e : Ending) (c : Config State RestState Ending) → W * N * H ≤ top → Sound (tasks code H) H N K W out c → c.outcome ≡ Some e → Finished H W out e c
-  ends_owed out e c le so q = finished (tasks code H) H K N W out c (view_of (tasks code H) H N K W out c so) le e q
+  ends_owed out e c le so q =
+      let settled = finished (tasks code H) H K N W out c (view_of (tasks code H) H N K W out c so) (λ at_top. few_tasks (tasks code H) H N W c so.counts tt le) e q in
+      record { owed = settled.owed; closed = settled.closed; rest = settled.rest; beats = settled.beats tt; paid = settled.paid }
 
 module _ (code : Listing) (is_code : IsCode code.tables code.blocks) (H N K W : ℕ) where
   pub event_sound : (out : Ending) (c next : Config State RestState Ending) (v : Event) → K ≤ 2 ^ 32 → W * N ≤ top → Sound (tasks code H) H N K W out c → CoreStep (tasks code H) AnyFree N K W c v next → Sound (tasks code H) H N K W out next

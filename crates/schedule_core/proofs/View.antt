@@ -1,5 +1,5 @@
 -- Soundness as one record, the form in which events are followed.
-use Rattle.std.proofs.Common.{◌≡◌, ℕ, ◌+◌, ◌*◌, ◌≤◌, Option, Some, None, refl, sym, ap, ◌∙◌, subst}
+use Rattle.std.proofs.Common.{◌≡◌, ℕ, ◌+◌, ◌*◌, ◌≤◌, Option, Some, None, refl, sym, ap, subst}
 use Rattle.std.specs.Prelude.{false}
 use Rattle.schedule_core.specs.Machine.{left, right, CoreMachine, MergeOwes}
 use Rattle.schedule_core.specs.Core.{Seat, resting, running, forked, ended, holding, Cell, free}
@@ -10,27 +10,27 @@ use Rattle.schedule_core.specs.Sound.{ChildOwes, SideIs, CellOwes, IsPending, Se
 use Rattle.schedule_core.specs.Sound.{ChildRecord, CellRecord, Order, total, owing, saved}
 use Rattle.schedule_core.specs.Sound.{SeatFresh, CellFresh, Paid, Sound}
 
-module _ {T R E : Type 0} (M : CoreMachine T R E) (holder : ℕ → Holder) (ending : ℕ → E) where
+module _ {T R E : Type 0} (M : CoreMachine T R E) (holder : ℕ → Holder) (promise : ℕ → M.Promise) where
   abbrev pub SeatOk : (ℕ → Cell T R E) → ℕ → Seat T R E → Type 0
   SeatOk cells w resting = Unit {0}
-  SeatOk cells w (running t d) = (holder (M.home t) ≡ by_seat w) × M.owes d t (ending (M.home t)) × IsPending M cells w (M.pending t)
+  SeatOk cells w (running t d) = (holder (M.home t) ≡ by_seat w) × M.owes d t (promise (M.home t)) × IsPending M cells w (M.pending t)
   SeatOk cells w (forked k l c r) = (holder (M.kept r) ≡ by_seat w) × (cells k ≡ taken w)
-      × (M.home l ≡ left k) × (M.pending l ≡ None) × M.owes false l (ending (left k))
-      × (M.home c ≡ right k) × (M.pending c ≡ None) × (M.credit c ≡ 0) × M.owes false c (ending (right k))
-      × MergeOwes M (ending (M.kept r)) r (ending (left k)) (ending (right k))
-  SeatOk cells w (ended e) = (holder (M.end_of e) ≡ by_seat w) × (e ≡ ending (M.end_of e))
+      × (M.home l ≡ left k) × (M.pending l ≡ None) × M.owes false l (promise (left k))
+      × (M.home c ≡ right k) × (M.pending c ≡ None) × (M.credit c ≡ 0) × M.owes false c (promise (right k))
+      × MergeOwes M (promise (M.kept r)) r (promise (left k)) (promise (right k))
+  SeatOk cells w (ended e) = (holder (M.end_of e) ≡ by_seat w) × M.meets e (promise (M.end_of e))
   SeatOk cells w (holding k) = (r : R) × (p : E) × (q : E) × (cells k ≡ met w r p q)
 
   abbrev pub SideOk : ℕ → ℕ → Option E → Type 0
   SideOk k x None = holder x ≡ nobody → ⊥
-  SideOk k x (Some e) = (holder x ≡ by_record k) × (e ≡ ending x)
+  SideOk k x (Some e) = (holder x ≡ by_record k) × M.meets e (promise x)
 
   abbrev pub ChildOk : ℕ → Option T → Option E → Type 0
   ChildOk k None q = Unit {0}
-  ChildOk k (Some c) q = (q ≡ None) × (holder (right k) ≡ by_record k) × (M.home c ≡ right k) × (M.pending c ≡ None) × (M.credit c ≡ 0) × M.owes false c (ending (right k))
+  ChildOk k (Some c) q = (q ≡ None) × (holder (right k) ≡ by_record k) × (M.home c ≡ right k) × (M.pending c ≡ None) × (M.credit c ≡ 0) × M.owes false c (promise (right k))
 
   abbrev pub RestOk : ℕ → R → Type 0
-  RestOk k r = (holder (M.kept r) ≡ by_record k) × MergeOwes M (ending (M.kept r)) r (ending (left k)) (ending (right k))
+  RestOk k r = (holder (M.kept r) ≡ by_record k) × MergeOwes M (promise (M.kept r)) r (promise (left k)) (promise (right k))
 
   abbrev pub CellOk : ℕ → Cell T R E → Type 0
   CellOk k free = (holder (left k) ≡ nobody) × (holder (right k) ≡ nobody)
@@ -38,9 +38,9 @@ module _ {T R E : Type 0} (M : CoreMachine T R E) (holder : ℕ → Holder) (end
   CellOk k (opened r ch p q) = RestOk k r × ChildOk k ch q × SideOk k (left k) p × SideOk k (right k) q
   CellOk k (met w r p q) = RestOk k r × SideOk k (left k) (Some p) × SideOk k (right k) (Some q)
 
-  abbrev pub RootOk : E → Option E → Type 0
+  abbrev pub RootOk : M.Promise → Option E → Type 0
   RootOk out None = holder 0 ≡ nobody → ⊥
-  RootOk out (Some e) = (e ≡ out) × (holder 0 ≡ nobody)
+  RootOk out (Some e) = M.meets e out × (holder 0 ≡ nobody)
 
 module _ {T R E : Type 0} (M : CoreMachine T R E) where
   -- a record that is taken or met is in its worker's hand
@@ -50,25 +50,25 @@ module _ {T R E : Type 0} (M : CoreMachine T R E) where
   HandOk seats k (opened r ch p q) = Unit {0}
   HandOk seats k (met w r p q) = seats w ≡ holding k
 
-pub record View {T R E : Type 0} (M : CoreMachine T R E) (H N K W : ℕ) (out : E) (c : Config T R E) : Type 0 where
+pub record View {T R E : Type 0} (M : CoreMachine T R E) (H N K W : ℕ) (out : M.Promise) (c : Config T R E) : Type 0 where
   pub holder : ℕ → Holder
-  pub ending : ℕ → E
-  pub root_is : ending 0 ≡ out
-  pub seat_ok : (w : ℕ) → SeatOk M holder ending c.cells w (c.seats w)
-  pub cell_ok : (k : ℕ) → CellOk M holder ending k (c.cells k)
+  pub promise : ℕ → M.Promise
+  pub root_is : promise 0 ≡ out
+  pub seat_ok : (w : ℕ) → SeatOk M holder promise c.cells w (c.seats w)
+  pub cell_ok : (k : ℕ) → CellOk M holder promise k (c.cells k)
   pub has_seat : (y w : ℕ) → holder y ≡ by_seat w → SeatHas M (c.seats w) y
   pub has_record : (y k : ℕ) → holder y ≡ by_record k → CellHas M k (c.cells k) y
   pub in_hand : (k : ℕ) → HandOk M c.seats k (c.cells k)
-  pub root_ok : RootOk M holder ending out c.outcome
+  pub root_ok : RootOk M holder promise out c.outcome
   pub beyond : (k : ℕ) → K ≤ k → c.cells k ≡ free
   pub order : Order M c.cells c.order
   pub allowed : (w : ℕ) → c.beats w ≤ N
-  pub beats_ok : total W c.beats ≡ c.tasks + c.skipped + total W (λ w. owing M H (c.seats w))
+  pub beats_ok : M.Strict → total W c.beats ≡ c.tasks + c.skipped + total W (λ w. owing M H (c.seats w))
   pub saved_ok : Paid (c.tasks * H + total W (λ w. saved M H (c.seats w))) c.instructions
 
 -- ---- from soundness
 
-module _ {T R E : Type 0} (M : CoreMachine T R E) (h : ℕ → Holder) (e : ℕ → E) where
+module _ {T R E : Type 0} (M : CoreMachine T R E) (h : ℕ → Holder) (e : ℕ → M.Promise) where
   seat_in : (cells : ℕ → Cell T R E) (w : ℕ) (x : Seat T R E) → SeatEnds M h w x → SeatOwes M e x → SeatRecord M cells w x → SeatFresh M x → SeatOk M h e cells w x
   seat_in cells w resting a b c d = tt
   seat_in cells w (running t due) a b c d = (a, b, c)
@@ -96,22 +96,22 @@ module _ {T R E : Type 0} (M : CoreMachine T R E) (h : ℕ → Holder) (e : ℕ 
   hand_in seats k (opened r ch p q) c = tt
   hand_in seats k (met w r p q) c = c
 
-  root_in : (out : E) (o : Option E) → RootEnd M h o → ((x : E) → o ≡ Some x → x ≡ out) → RootOk M h e out o
+  root_in : (out : M.Promise) (o : Option E) → RootEnd M h o → ((x : E) → o ≡ Some x → M.meets x out) → RootOk M h e out o
   root_in out None a b = a
   root_in out (Some x) a b = (b x refl, a)
 
-module _ {T R E : Type 0} (M : CoreMachine T R E) (H N K W : ℕ) (out : E) (c : Config T R E) where
+module _ {T R E : Type 0} (M : CoreMachine T R E) (H N K W : ℕ) (out : M.Promise) (c : Config T R E) where
   pub view_of : Sound M H N K W out c → View M H N K W out c
   view_of s = record {
     holder = s.holder;
-    ending = s.ending;
+    promise = s.promise;
     root_is = s.owed.run;
-    seat_ok = λ w. seat_in M s.holder s.ending c.cells w (c.seats w) (s.ends.seats w) (s.owed.seats w) (s.records.seats w) (s.counts.seats w);
-    cell_ok = λ k. cell_in M s.holder s.ending c.seats k (c.cells k) (s.ends.records k) (s.owed.records k) (s.records.records k) (s.counts.records k);
+    seat_ok = λ w. seat_in M s.holder s.promise c.cells w (c.seats w) (s.ends.seats w) (s.owed.seats w) (s.records.seats w) (s.counts.seats w);
+    cell_ok = λ k. cell_in M s.holder s.promise c.seats k (c.cells k) (s.ends.records k) (s.owed.records k) (s.records.records k) (s.counts.records k);
     has_seat = s.ends.of_seat;
     has_record = s.ends.of_record;
-    in_hand = λ k. hand_in M s.holder s.ending c.seats k (c.cells k) (s.records.records k);
-    root_ok = root_in M s.holder s.ending out c.outcome s.ends.run s.owed.outcome;
+    in_hand = λ k. hand_in M s.holder s.promise c.seats k (c.cells k) (s.records.records k);
+    root_ok = root_in M s.holder s.promise out c.outcome s.ends.run s.owed.outcome;
     beyond = s.records.beyond;
     order = s.order;
     allowed = s.counts.allowed;
@@ -121,7 +121,7 @@ module _ {T R E : Type 0} (M : CoreMachine T R E) (H N K W : ℕ) (out : E) (c :
 
 -- ---- and back
 
-module _ {T R E : Type 0} (M : CoreMachine T R E) (h : ℕ → Holder) (e : ℕ → E) where
+module _ {T R E : Type 0} (M : CoreMachine T R E) (h : ℕ → Holder) (e : ℕ → M.Promise) where
   ends_out : (cells : ℕ → Cell T R E) (w : ℕ) (x : Seat T R E) → SeatOk M h e cells w x → SeatEnds M h w x
   ends_out cells w resting o = tt
   ends_out cells w (running t due) o = o.0
@@ -192,43 +192,43 @@ module _ {T R E : Type 0} (M : CoreMachine T R E) (h : ℕ → Holder) (e : ℕ 
   cell_fresh k (opened r (Some x) p q) o = o.1.4
   cell_fresh k (met w r p q) o = tt
 
-  root_end : (out : E) (o : Option E) → RootOk M h e out o → RootEnd M h o
+  root_end : (out : M.Promise) (o : Option E) → RootOk M h e out o → RootEnd M h o
   root_end out None r = r
   root_end out (Some x) r = r.1
 
-  root_owed : (out : E) (o : Option E) → RootOk M h e out o → (x : E) → o ≡ Some x → x ≡ out
+  root_owed : (out : M.Promise) (o : Option E) → RootOk M h e out o → (x : E) → o ≡ Some x → M.meets x out
   root_owed out None r x q = absurd (subst Is (sym q) tt)
     where
       Is : Option E → Type 0
       Is None = ⊥
       Is (Some y) = Unit {0}
-  root_owed out (Some y) r x q = ap (of y) (sym q) ∙ r.0
+  root_owed out (Some y) r x q = subst (λ u. M.meets u out) (ap (of y) q) r.0
     where
       of : E → Option E → E
       of z None = z
       of z (Some u) = u
 
-module _ {T R E : Type 0} (M : CoreMachine T R E) (H N K W : ℕ) (out : E) (c : Config T R E) where
+module _ {T R E : Type 0} (M : CoreMachine T R E) (H N K W : ℕ) (out : M.Promise) (c : Config T R E) where
   pub sound_of : View M H N K W out c → Sound M H N K W out c
   sound_of v = record {
     holder = v.holder;
-    ending = v.ending;
+    promise = v.promise;
     ends = record {
-      seats = λ w. ends_out M v.holder v.ending c.cells w (c.seats w) (v.seat_ok w);
-      records = λ k. cell_ends M v.holder v.ending k (c.cells k) (v.cell_ok k);
+      seats = λ w. ends_out M v.holder v.promise c.cells w (c.seats w) (v.seat_ok w);
+      records = λ k. cell_ends M v.holder v.promise k (c.cells k) (v.cell_ok k);
       of_seat = v.has_seat;
       of_record = v.has_record;
-      run = root_end M v.holder v.ending out c.outcome v.root_ok;
+      run = root_end M v.holder v.promise out c.outcome v.root_ok;
     };
     owed = record {
-      seats = λ w. owes_out M v.holder v.ending c.cells w (c.seats w) (v.seat_ok w);
-      records = λ k. cell_owes M v.holder v.ending k (c.cells k) (v.cell_ok k);
+      seats = λ w. owes_out M v.holder v.promise c.cells w (c.seats w) (v.seat_ok w);
+      records = λ k. cell_owes M v.holder v.promise k (c.cells k) (v.cell_ok k);
       run = v.root_is;
-      outcome = root_owed M v.holder v.ending out c.outcome v.root_ok;
+      outcome = root_owed M v.holder v.promise out c.outcome v.root_ok;
     };
     records = record {
-      seats = λ w. record_out M v.holder v.ending c.cells w (c.seats w) (v.seat_ok w);
-      records = λ k. cell_record M v.holder v.ending c.seats k (c.cells k) (v.cell_ok k) (v.in_hand k);
+      seats = λ w. record_out M v.holder v.promise c.cells w (c.seats w) (v.seat_ok w);
+      records = λ k. cell_record M v.holder v.promise c.seats k (c.cells k) (v.cell_ok k) (v.in_hand k);
       beyond = v.beyond;
     };
     order = v.order;
@@ -236,7 +236,7 @@ module _ {T R E : Type 0} (M : CoreMachine T R E) (H N K W : ℕ) (out : E) (c :
       beats = v.beats_ok;
       paid = v.saved_ok;
       allowed = v.allowed;
-      seats = λ w. fresh_out M v.holder v.ending c.cells w (c.seats w) (v.seat_ok w);
-      records = λ k. cell_fresh M v.holder v.ending k (c.cells k) (v.cell_ok k);
+      seats = λ w. fresh_out M v.holder v.promise c.cells w (c.seats w) (v.seat_ok w);
+      records = λ k. cell_fresh M v.holder v.promise k (c.cells k) (v.cell_ok k);
     };
   }

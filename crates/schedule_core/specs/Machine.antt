@@ -36,8 +36,10 @@ pub data Merged (Task Ending : Type 0) : Type 0 where
 -- A machine, for one code and one heartbeat: its step, where a diversion is allowed or not; its
 -- merge, which gives nothing where two endings aren't of the rest's record; the end of a task, of
 -- what a rest becomes and of an ending; the record that a task was given and hasn't used; the
--- instructions that a task may pay for a fork with; and what a task owes, where a beat came for
--- which no record was asked yet or none came.
+-- instructions that a task may pay for a fork with; and what may be promised at an end: that a task
+-- keeps a promise, where a beat came for which no record was asked yet or none came, and that an
+-- ending meets it. `Strict`: tasks that keep a promise ask for a record once a beat. `Sticks`: their
+-- step may be stuck.
 pub record CoreMachine (Task Rest Ending : Type 0) : Type 1 where
   pub turn : Bool → Task → Turn Task Rest Ending
   pub merges : Rest → Ending → Ending → Merged Task Ending → Type 0
@@ -46,25 +48,33 @@ pub record CoreMachine (Task Rest Ending : Type 0) : Type 1 where
   pub end_of : Ending → ℕ
   pub pending : Task → Option ℕ
   pub credit : Task → ℕ
-  pub owes : Bool → Task → Ending → Type 0
+  pub Promise : Type 0
+  pub owes : Bool → Task → Promise → Type 0
+  pub meets : Ending → Promise → Type 0
+  pub Strict : Type 0
+  pub Sticks : Type 0
 
 -- ---- what is owed
 
 module _ {Task Rest Ending : Type 0} (M : CoreMachine Task Rest Ending) where
-  abbrev pub MergedOwes : Ending → Merged Task Ending → Type 0
+  abbrev pub MergedOwes : M.Promise → Merged Task Ending → Type 0
   MergedOwes e (Runs task) = M.owes false task e
-  MergedOwes e (Over other) = other ≡ e
+  MergedOwes e (Over other) = M.meets other e
 
-  -- a rest, merged with these endings, owes an ending or is it
-  pub record MergeOwes (e : Ending) (rest : Rest) (p q : Ending) : Type 0 where
+  -- a rest and two endings can be merged, and whatever they come to keeps a promise
+  pub record MergesWell (e : M.Promise) (rest : Rest) (p q : Ending) : Type 0 where
     pub both : Merged Task Ending
     pub merges : M.merges rest p q both
-    pub owes : MergedOwes e both
+    pub owes : (other : Merged Task Ending) → M.merges rest p q other → MergedOwes e other
 
-  -- the two sides of a fork owe what each ends with, and with these the rest owes an ending
-  pub record ForkOwes (e : Ending) (on child : Task) (rest : Rest) : Type 0 where
-    pub p : Ending
-    pub q : Ending
+  -- a rest, merged with any endings that meet these promises, keeps a promise
+  abbrev pub MergeOwes : M.Promise → Rest → M.Promise → M.Promise → Type 0
+  MergeOwes e rest p q = (x y : Ending) → M.meets x p → M.meets y q → MergesWell e rest x y
+
+  -- the two sides of a fork keep a promise each, and with these the rest keeps one
+  pub record ForkOwes (e : M.Promise) (on child : Task) (rest : Rest) : Type 0 where
+    pub p : M.Promise
+    pub q : M.Promise
     pub on_owes : M.owes false on p
     pub child_owes : M.owes false child q
     pub merged : MergeOwes e rest p q
@@ -73,17 +83,21 @@ module _ {Task Rest Ending : Type 0} (M : CoreMachine Task Rest Ending) where
   abbrev pub IsOther : ℕ → ℕ → ℕ → Type 0
   IsOther K y k = (k < K) × (y ≢ left k) × (y ≢ right k)
 
+  -- whether a beat came for which no record was asked yet shows where a record is asked once a beat
+  abbrev pub IsDue : Bool → Bool → Type 0
+  IsDue due wanted = M.Strict → due ≡ wanted
+
   -- what a task at an end owes by its step, where there are K records
-  abbrev pub TurnOwes : ℕ → ℕ → Bool → Ending → Turn Task Rest Ending → Type 0
+  abbrev pub TurnOwes : ℕ → ℕ → Bool → M.Promise → Turn Task Rest Ending → Type 0
   TurnOwes K y due e (Goes next) = M.owes due next e
-  TurnOwes K y due e (Beats diverted) = (due ≡ false) × M.owes true diverted e
-  TurnOwes K y due e (Ends other) = (due ≡ false) × (other ≡ e)
+  TurnOwes K y due e (Beats diverted) = IsDue due false × M.owes true diverted e
+  TurnOwes K y due e (Ends other) = IsDue due false × M.meets other e
   TurnOwes K y due e (Asks answered) =
-      (due ≡ true)
+      IsDue due true
       × M.owes false (answered None) e
       × ((k : ℕ) → IsOther K y k → M.owes false (answered (Some k)) e)
-  TurnOwes K y due e (Forks k on child rest) = (due ≡ false) × ForkOwes e on child rest
-  TurnOwes K y due e Stuck = ⊥
+  TurnOwes K y due e (Forks k on child rest) = IsDue due false × ForkOwes e on child rest
+  TurnOwes K y due e Stuck = M.Sticks
 
   -- ---- what a step keeps
 
@@ -121,16 +135,14 @@ module _ {Task Rest Ending : Type 0} (M : CoreMachine Task Rest Ending) where
   KeepsMerge rest (Over e) = M.end_of e ≡ M.kept rest
 
 -- The laws of a machine with heartbeat H, for K records: what a task owes shows at its step; what a
--- step of a task that owes an ending keeps, and a merge; and that a merge comes to one thing.
+-- step of a task that keeps a promise keeps, and a merge.
 pub record Lawful {Task Rest Ending : Type 0} (M : CoreMachine Task Rest Ending) (H K : ℕ) : Type 0
   where
-    pub invert : (allowed due : Bool) (task : Task) (e : Ending)
+    pub invert : (allowed due : Bool) (task : Task) (e : M.Promise)
         → M.owes due task e
         → TurnOwes M K (M.home task) due e (M.turn allowed task)
-    pub keeps : (allowed due : Bool) (task : Task) (e : Ending)
+    pub keeps : (allowed due : Bool) (task : Task) (e : M.Promise)
         → M.owes due task e
         → KeepsTurn M H allowed task (M.turn allowed task)
     pub merged : (rest : Rest) (p q : Ending) (both : Merged Task Ending) → M.merges rest p q both
         → KeepsMerge M rest both
-    pub one_merge : (rest : Rest) (p q : Ending) (both other : Merged Task Ending)
-        → M.merges rest p q both → M.merges rest p q other → both ≡ other

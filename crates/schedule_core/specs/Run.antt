@@ -36,6 +36,16 @@ pub record Finished {Task Rest Ending : Type 0} (H W : ℕ) (out e : Ending)
   pub beats : c.tasks + c.skipped ≡ total W c.beats
   pub paid : c.tasks * H ≤ c.instructions
 
+-- the same of any machine: the outcome meets what was promised, and each beat made a task or was
+-- skipped where a record is asked once a beat
+pub record Settled {Task Rest Ending : Type 0} (M : CoreMachine Task Rest Ending) (H W : ℕ)
+    (out : M.Promise) (e : Ending) (c : Config Task Rest Ending) : Type 0 where
+  pub owed : M.meets e out
+  pub closed : (k : ℕ) → IsOpen (c.cells k) → ⊥
+  pub rest : (w : ℕ) → c.seats w ≡ resting
+  pub beats : M.Strict → c.tasks + c.skipped ≡ total W c.beats
+  pub paid : c.tasks * H ≤ c.instructions
+
 -- ---- arrivals
 
 -- for each record, the left and the right arrivals since it was opened last

@@ -1,4 +1,4 @@
--- Sound configurations: who holds each end, what each end comes to, whose each record is, in which
+-- Sound configurations: who holds each end, what is promised at each, whose each record is, in which
 -- order the records were opened, and what the counts have paid for.
 use Rattle.std.specs.Prelude.{ℕ, zero, suc, ◌+◌, ◌*◌, ◌≡◌, ◌≢◌, ◌⊎◌, ◌<◌, ◌≤◌, List, [], ◌∷◌}
 use Rattle.std.specs.Prelude.{Option, Some, None, Bool, true, false, nat_eq, if◌then◌else◌}
@@ -93,43 +93,45 @@ pub record Ends {Task Rest Ending : Type 0} (M : CoreMachine Task Rest Ending) (
 
 -- ---- what is owed
 
-module _ {Task Rest Ending : Type 0} (M : CoreMachine Task Rest Ending) (ending : ℕ → Ending) where
-  -- a rest, merged with the endings of its record's two ends, owes the ending of the end that it
-  -- keeps
-  abbrev pub RestOwes : ℕ → Rest → Type 0
-  RestOwes k rest = MergeOwes M (ending (M.kept rest)) rest (ending (left k)) (ending (right k))
+module _ {Task Rest Ending : Type 0} (M : CoreMachine Task Rest Ending) (promise : ℕ → M.Promise)
+  where
+    -- a rest, merged with endings that meet the promises of its record's two ends, keeps that of the
+    -- end that it keeps
+    abbrev pub RestOwes : ℕ → Rest → Type 0
+    RestOwes k rest = MergeOwes M (promise (M.kept rest)) rest (promise (left k)) (promise (right k))
 
-  abbrev pub SeatOwes : Seat Task Rest Ending → Type 0
-  SeatOwes resting = Unit {0}
-  SeatOwes (running task due) = M.owes due task (ending (M.home task))
-  SeatOwes (forked k on child rest) =
-      M.owes false on (ending (left k)) × M.owes false child (ending (right k)) × RestOwes k rest
-  SeatOwes (ended e) = e ≡ ending (M.end_of e)
-  SeatOwes (holding k) = Unit {0}
+    abbrev pub SeatOwes : Seat Task Rest Ending → Type 0
+    SeatOwes resting = Unit {0}
+    SeatOwes (running task due) = M.owes due task (promise (M.home task))
+    SeatOwes (forked k on child rest) =
+        M.owes false on (promise (left k)) × M.owes false child (promise (right k)) × RestOwes k rest
+    SeatOwes (ended e) = M.meets e (promise (M.end_of e))
+    SeatOwes (holding k) = Unit {0}
 
-  abbrev pub ChildOwes : ℕ → Option Task → Type 0
-  ChildOwes k None = Unit {0}
-  ChildOwes k (Some child) = M.owes false child (ending (right k))
+    abbrev pub ChildOwes : ℕ → Option Task → Type 0
+    ChildOwes k None = Unit {0}
+    ChildOwes k (Some child) = M.owes false child (promise (right k))
 
-  abbrev pub SideIs : ℕ → Option Ending → Type 0
-  SideIs y None = Unit {0}
-  SideIs y (Some e) = e ≡ ending y
+    abbrev pub SideIs : ℕ → Option Ending → Type 0
+    SideIs y None = Unit {0}
+    SideIs y (Some e) = M.meets e (promise y)
 
-  abbrev pub CellOwes : ℕ → Cell Task Rest Ending → Type 0
-  CellOwes k free = Unit {0}
-  CellOwes k (taken w) = Unit {0}
-  CellOwes k (opened rest child p q) =
-      RestOwes k rest × ChildOwes k child × SideIs (left k) p × SideIs (right k) q
-  CellOwes k (met w rest p q) = RestOwes k rest × (p ≡ ending (left k)) × (q ≡ ending (right k))
+    abbrev pub CellOwes : ℕ → Cell Task Rest Ending → Type 0
+    CellOwes k free = Unit {0}
+    CellOwes k (taken w) = Unit {0}
+    CellOwes k (opened rest child p q) =
+        RestOwes k rest × ChildOwes k child × SideIs (left k) p × SideIs (right k) q
+    CellOwes k (met w rest p q) =
+        RestOwes k rest × M.meets p (promise (left k)) × M.meets q (promise (right k))
 
--- each live end has one ending; who holds it owes that ending or is it, and that of the run is
--- `out`
-pub record Owed {Task Rest Ending : Type 0} (M : CoreMachine Task Rest Ending) (ending : ℕ → Ending)
-    (out : Ending) (c : Config Task Rest Ending) : Type 0 where
-  pub seats : (w : ℕ) → SeatOwes M ending (c.seats w)
-  pub records : (k : ℕ) → CellOwes M ending k (c.cells k)
-  pub run : ending root ≡ out
-  pub outcome : (e : Ending) → c.outcome ≡ Some e → e ≡ out
+-- each live end has one promise; who holds it keeps that promise or meets it, and that of the run
+-- is `out`
+pub record Owed {Task Rest Ending : Type 0} (M : CoreMachine Task Rest Ending)
+    (promise : ℕ → M.Promise) (out : M.Promise) (c : Config Task Rest Ending) : Type 0 where
+  pub seats : (w : ℕ) → SeatOwes M promise (c.seats w)
+  pub records : (k : ℕ) → CellOwes M promise k (c.cells k)
+  pub run : promise root ≡ out
+  pub outcome : (e : Ending) → c.outcome ≡ Some e → M.meets e out
 
 -- ---- records
 
@@ -276,11 +278,13 @@ module _ {Task Rest Ending : Type 0} (M : CoreMachine Task Rest Ending) where
 abbrev pub Paid : ℕ → ℕ → Type 0
 Paid x n = (x ≤ n) ⊎ (n ≡ top)
 
--- each beat is a task, skipped or still at work; H instructions pay for each task and what isn't
--- used is saved; and no worker has more beats than it is allowed
+-- where a record is asked once a beat, each beat is a task, skipped or still at work; H
+-- instructions pay for each task and what isn't used is saved; and no worker has more beats than it
+-- is allowed
 pub record Counts {Task Rest Ending : Type 0} (M : CoreMachine Task Rest Ending) (H N W : ℕ)
     (c : Config Task Rest Ending) : Type 0 where
-  pub beats : total W c.beats ≡ c.tasks + c.skipped + total W (λ w. owing M H (c.seats w))
+  pub beats : M.Strict
+      → total W c.beats ≡ c.tasks + c.skipped + total W (λ w. owing M H (c.seats w))
   pub paid : Paid (c.tasks * H + total W (λ w. saved M H (c.seats w))) c.instructions
   pub allowed : (w : ℕ) → c.beats w ≤ N
   pub seats : (w : ℕ) → SeatFresh M (c.seats w)
@@ -289,13 +293,13 @@ pub record Counts {Task Rest Ending : Type 0} (M : CoreMachine Task Rest Ending)
 -- ---- soundness
 
 -- a configuration of W workers and K records, with heartbeat H and N beats allowed to each worker,
--- is sound for what the run will end with
+-- is sound for what is promised of the run's end
 pub record Sound {Task Rest Ending : Type 0} (M : CoreMachine Task Rest Ending) (H N K W : ℕ)
-    (out : Ending) (c : Config Task Rest Ending) : Type 0 where
+    (out : M.Promise) (c : Config Task Rest Ending) : Type 0 where
   pub holder : ℕ → Holder
-  pub ending : ℕ → Ending
+  pub promise : ℕ → M.Promise
   pub ends : Ends M holder c
-  pub owed : Owed M ending out c
+  pub owed : Owed M promise out c
   pub records : Records M K c
   pub order : Order M c.cells c.order
   pub counts : Counts M H N W c

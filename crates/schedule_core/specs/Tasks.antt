@@ -59,7 +59,7 @@ MergesTo code rest (ending.At i Right p) (ending.Root outcome) both = ⊥
 MergesTo code rest (ending.At i Left p) (ending.Root outcome) both = ⊥
 MergesTo code rest (ending.Root outcome) e both = ⊥
 
--- the tasks of a code at a heartbeat
+-- the tasks of a code at a heartbeat. What is promised at an end is what its task will end with
 abbrev pub tasks : Listing → ℕ → CoreMachine State RestState Ending
 tasks code heartbeat = record {
   turn = λ allowed state. turn_of (step code heartbeat allowed state);
@@ -69,5 +69,9 @@ tasks code heartbeat = record {
   end_of = λ e. end_number (place_of e);
   pending = λ state. number_of state.pending;
   credit = λ state. credit heartbeat state.beat;
+  Promise = Ending;
   owes = λ due state e. Owes code heartbeat due 0 state e;
+  meets = λ e promised. e ≡ promised;
+  Strict = Unit {0};
+  Sticks = ⊥;
 }

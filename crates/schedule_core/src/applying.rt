@@ -56,7 +56,7 @@ fn tried(config: Config, code: &Code, event: Event) -> Result<Config, ApplyFault
 }
 
 /// What is true of every configuration.
-fn known(config: &Config)
+pub(crate) fn known(config: &Config)
     ensures { IsStanding config.now }
 {
     let _heartbeat = config.heartbeat;

@@ -15,6 +15,7 @@ ghost use Rattle.schedule_core.specs.Run.{CoreRun, Finished, Arrivals, counted_i
 ghost use Rattle.schedule_core.specs.Sound.{Sound};
 ghost use Rattle.schedule_core.specs.Tasks.{tasks};
 
+use crate::applying::known;
 use crate::config::Config;
 use crate::event::Event;
 use tpal_syntax::Code;
@@ -127,11 +128,11 @@ pub fn arrives_once(code: &Code)
 }
 
 /// On a sound configuration the two sides of a record that is freed are those of its rest's record.
-#[tactic(auto, using(crate::proofs::Ruling::sides_fit))]
 pub fn sides_fit(config: &Config, code: &Code, event: Event)
     ensures { (out : Ending)
         → IsSound code.now config.now out
         → SidesFit code.now config.now event }
 {
     let _blocks = code.blocks();
+    known(config);
 }
