@@ -23,20 +23,20 @@ use Rattle.tpal_syntax.specs.declared.instructions.Value.TheVariants as value
 use Rattle.expr_lower.specs.declared.scope.Scope.{Scope}
 use Rattle.expr_lower.specs.Bodies.{literal, can_trap, may_be_zero, trap_count, calculation, turned}
 use Rattle.expr_lower.specs.Bodies.{division, operation, below_test, row_test, col_test}
-use Rattle.expr_lower.specs.Bodies.{operand_at, operand_body, variable_read, body_of}
+use Rattle.expr_lower.specs.Bodies.{operand_at, operand_body, range_tests, variable_read, body_of}
 use Rattle.expr_lower.specs.Scopes.{IsIn, home_of, cell_in, register_in, number_in, has_table_in}
 use Rattle.expr_lower.proofs.Law.{Fits, fits}
 
 -- ---- tests
 
-both : (a b : Bool) → a ≡ true → b ≡ true → (a && b) ≡ true
+pub both : (a b : Bool) → a ≡ true → b ≡ true → (a && b) ≡ true
 both a b first second = ap (λ x. x && b) first ∙ second
 
 -- the cells of a scope can be named in a code
 abbrev pub AreOffsets : List (Vec ℕ Global × ℕ) → Type 0
 AreOffsets cells = AllByRecursion (λ c. c.1 ≤ 511) cells
 
-offset_low : (cells : List (Vec ℕ Global × ℕ)) (x : List ℕ) → AreOffsets cells → cell_in cells x ≤ 511
+pub offset_low : (cells : List (Vec ℕ Global × ℕ)) (x : List ℕ) → AreOffsets cells → cell_in cells x ≤ 511
 offset_low [] x are = omega arith
 offset_low (c ∷ cs) x (is, are) = by_name (bytes_eq c.0.items x) (offset_low cs x are)
   where
@@ -48,11 +48,11 @@ offset_low (c ∷ cs) x (is, are) = by_name (bytes_eq c.0.items x) (offset_low c
 abbrev pub AreRegisters : List (Vec ℕ Global × ℕ) → Type 0
 AreRegisters regs = AllByRecursion (λ r. r.1 < 32) regs
 
-abbrev IsRegister : Option ℕ → Type 0
+abbrev pub IsRegister : Option ℕ → Type 0
 IsRegister None = ⊤
 IsRegister (Some r) = r < 32
 
-register_low : (regs : List (Vec ℕ Global × ℕ)) (x : List ℕ) → AreRegisters regs
+pub register_low : (regs : List (Vec ℕ Global × ℕ)) (x : List ℕ) → AreRegisters regs
     → IsRegister (register_in regs x)
 register_low [] x are = tt
 register_low (r ∷ rs) x (is, are) = by_name (bytes_eq r.0.items x) (register_low rs x are)
@@ -63,7 +63,7 @@ register_low (r ∷ rs) x (is, are) = by_name (bytes_eq r.0.items x) (register_l
     by_name false low = low
 
 -- the register of an operand
-home_low : (scope : Scope) (e : Expr) → AreRegisters scope.regs.items → IsRegister (home_of scope e)
+pub home_low : (scope : Scope) (e : Expr) → AreRegisters scope.regs.items → IsRegister (home_of scope e)
 home_low scope (Int n place) are = tt
 home_low scope (Var x) are = register_low scope.regs.items x.text.items are
 home_low scope (Cell' t p a q b) are = tt
@@ -76,7 +76,7 @@ operand_low : (home : Option ℕ) (to : ℕ) → to < 32 → IsRegister home →
 operand_low None to low is = low
 operand_low (Some r) to low is = is
 
-number_low : (tables : List (Vec ℕ Global)) (t : List ℕ) → has_table_in tables t ≡ true → number_in tables t < length tables
+pub number_low : (tables : List (Vec ℕ Global)) (t : List ℕ) → has_table_in tables t ≡ true → number_in tables t < length tables
 number_low [] t has = cc
 number_low (u ∷ us) t has = by_name (bytes_eq u.items t) has (number_low us t)
   where
@@ -84,16 +84,16 @@ number_low (u ∷ us) t has = by_name (bytes_eq u.items t) has (number_low us t)
     by_name true found low = omega arith
     by_name false found low = let below : number_in us t < length us = low found in omega arith
 
-number_fits : (n : ℤ) → InRange n → is_number n ≡ true
+pub number_fits : (n : ℤ) → InRange n → is_number n ≡ true
 number_fits (pos n) within = lt-ltb n 9223372036854775808 within.sfits
 number_fits (negsuc n) within = lt-ltb n 9223372036854775808 within.sfits
 
 -- a literal is a number of 64 bits
-abbrev IsFitting : Option ℤ → Type 0
+abbrev pub IsFitting : Option ℤ → Type 0
 IsFitting None = ⊤
 IsFitting (Some n) = is_number n ≡ true
 
-literal_fits : (e : Expr) → ExprInRange e → IsFitting (literal e)
+pub literal_fits : (e : Expr) → ExprInRange e → IsFitting (literal e)
 literal_fits (Int n place) within = number_fits n within
 literal_fits (Var x) within = tt
 literal_fits (Cell' t p a q b) within = tt
@@ -103,21 +103,21 @@ literal_fits (Neg' p a place) within = tt
 literal_fits (Bin' o place p a q b) within = tt
 
 module _ (tables blocks : ℕ) where
-  abbrev AreFitting : List Instr → Type 0
+  abbrev pub AreFitting : List Instr → Type 0
   AreFitting body = list_all (is_instr tables blocks) body ≡ true
 
-  joined : (xs ys : List Instr) → AreFitting xs → AreFitting ys → AreFitting (xs ++ ys)
+  pub joined : (xs ys : List Instr) → AreFitting xs → AreFitting ys → AreFitting (xs ++ ys)
   joined xs ys first second = list_all-append (is_instr tables blocks) xs ys ∙ both _ _ first second
 
   -- ---- single instructions
 
-  low : (r : ℕ) → r < 32 → is_register r ≡ true
+  pub low : (r : ℕ) → r < 32 → is_register r ≡ true
   low r h = lt-ltb r 32 h
 
-  calc_fits : (to left : ℕ) (o : Alu) (right : operands.Value) → to < 32 → left < 32 → is_value blocks right ≡ true → is_instr tables blocks (instr.Calc to left o right) ≡ true
+  pub calc_fits : (to left : ℕ) (o : Alu) (right : operands.Value) → to < 32 → left < 32 → is_value blocks right ≡ true → is_instr tables blocks (instr.Calc to left o right) ≡ true
   calc_fits to left o right first second third = both _ _ (both _ _ (low to first) (low left second)) third
 
-  jump_fits : (test label : ℕ) → test < 32 → label < blocks → is_instr tables blocks (instr.IfJump test label) ≡ true
+  pub jump_fits : (test label : ℕ) → test < 32 → label < blocks → is_instr tables blocks (instr.IfJump test label) ≡ true
   jump_fits test label first second = both _ _ (low test first) (lt-ltb label blocks second)
 
   size_fits : (to table : ℕ) → to < 32 → table < tables → (is_register to && nat_lt table tables) ≡ true
@@ -196,6 +196,16 @@ module _ (tables blocks : ℕ) where
   col_fits : (table col test trap : ℕ) → table < tables → col < 32 → test < 32 → trap < blocks → AreFitting (col_test table col test trap)
   col_fits table col test trap first second third known =
       both _ _ (size_fits test table third first) (both _ _ (calc_fits test test alu.Le (value.Reg col) third third (low col second)) (both _ _ (jump_fits test trap third known) refl))
+
+  pub range_fits : (table row col test trap : ℕ) → table < tables → row < 32 → col < 32 → test < 32
+      → trap < blocks → AreFitting (range_tests table row col test trap)
+  range_fits table row col test trap named first second third known =
+      joined (below_test row col test trap)
+      (row_test table row test trap ++ col_test table col test trap)
+      (below_fits row col test trap first second third known)
+      (joined (row_test table row test trap) (col_test table col test trap)
+      (row_fits table row test trap named first third known)
+      (col_fits table col test trap named second third known))
 
   cell_fits : (table to row_at col_at trap : ℕ) (row col : List Instr) → table < tables → ArePlaces to row_at col_at → trap < blocks → AreFitting row → AreFitting col → (form : Bool) → AreFitting (cond form
       (row ++ (col ++ (below_test row_at col_at (to + 2) trap ++ (row_test table row_at (to + 2) trap ++ (col_test table col_at (to + 2) trap ++ instr.Fetch to table row_at col_at ∷ [])))))

@@ -8,4 +8,5 @@ pub mod Law
 pub mod Coming
 pub mod Counting
 pub mod Fitting
+pub mod FittingBlocks
 pub mod Pushing

@@ -14,3 +14,5 @@ pub mod Standing
 pub mod Holding
 -- what the code of an expression comes to
 pub mod Leaving
+-- the conditions of a code, and what they ask of an expression
+pub mod Fitting

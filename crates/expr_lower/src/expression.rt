@@ -11,12 +11,15 @@ ghost use Rattle.loop_syntax.specs.declared.Expr.{Expr};
 ghost use Rattle.loop_meaning.specs.declared.value.Variable.{Variable};
 ghost use Rattle.loop_meaning.specs.Expressions.{eval};
 ghost use Rattle.loop_meaning.specs.InRange.{ExprInRange};
+ghost use Rattle.tpal_syntax.specs.declared.blocks.Block.{Block};
+ghost use Rattle.tpal_syntax.specs.declared.blocks.CodeTable.{CodeTable};
 ghost use Rattle.tpal_syntax.specs.Listing.{Listing};
 ghost use Rattle.tpal_machine.specs.State.{State};
 ghost use Rattle.expr_lower.specs.Bodies.{can_trap, trap_block, operation, cell_read, body_of};
 ghost use Rattle.expr_lower.specs.Bodies.{operand_at, operand_body, variable_read};
 ghost use Rattle.expr_lower.specs.Bodies.{traps_of, trap_count, blocks_of};
 ghost use Rattle.tp_value.specs.declared.TrapKind.TheVariants.{Divide, Index};
+ghost use Rattle.expr_lower.specs.Fitting.{AreBlocksOf, AreInstrsOf, CanStand, IsPlaced};
 ghost use Rattle.expr_lower.specs.Holding.{Holds};
 ghost use Rattle.expr_lower.specs.Leaving.{ComesTo};
 ghost use Rattle.expr_lower.specs.Nodes.{IsNode, operation_height, operation_traps};
@@ -200,16 +203,15 @@ fn push_operand(
     match home_of(scope, expr) {
         Some(register) => Ok(register),
         None => {
-            push_expr(alloc, body, traps, expr, scope, at)?;
+            append_expr(alloc, body, traps, expr, scope, at)?;
             Ok(at.to)
         }
     }
 }
 
-/// Appends to a body the instructions of an operation, and its trap blocks to those that are there,
-/// as `push_expr` does with an expression.
+// Appends the instructions of an operation, and its trap blocks.
 #[cycle(push)]
-pub fn push_binary(
+fn append_binary(
     alloc: Global,
     body: &mut Vec<Instr>,
     traps: &mut Vec<Block>,
@@ -248,11 +250,9 @@ pub fn push_binary(
     Ok(())
 }
 
-/// Appends to a body the instructions that leave an expression's value in register `at.to`, and its
-/// trap blocks to those that are there. The first of all these trap blocks has the label
-/// `at.first`.
+// Appends the instructions that leave an expression's value in a register, and its trap blocks.
 #[cycle(push)]
-pub fn push_expr(
+fn append_expr(
     alloc: Global,
     body: &mut Vec<Instr>,
     traps: &mut Vec<Block>,
@@ -314,9 +314,92 @@ pub fn push_expr(
                 left: a,
                 right: b,
             };
-            push_binary(alloc, body, traps, operation, scope, at)?;
+            append_binary(alloc, body, traps, operation, scope, at)?;
         }
     }
+    Ok(())
+}
+
+/// Appends to a body the instructions that leave an expression's value in register `at.to`, and its
+/// trap blocks to those that are there. The first of all these trap blocks has the label
+/// `at.first`. They are instructions of each code that has the scope's tables and these labels, and
+/// blocks of each code, where the expression's places have a line and a column.
+pub fn push_expr(
+    alloc: Global,
+    body: &mut Vec<Instr>,
+    traps: &mut Vec<Block>,
+    expr: &Expr,
+    scope: &Scope,
+    at: Site,
+) -> Result<(), NoMemory>
+    requires few_tables { length scope.now.tables.items ≤ MAX_TABLES }
+    requires registers { at.to + height expr.now ≤ MAX_EXPRESSION_HEIGHT }
+    requires labels { at.first + length traps.old.items + trap_count expr.now < 2 ^ 32 }
+    ensures body { OnOk result
+        (body.new.items
+        ≡ body.old.items
+        ++ body_of scope.now (at.first + length traps.old.items) expr.now at.to) }
+    ensures traps { OnOk result
+        (traps.new.items
+        ≡ traps.old.items ++ traps_of (at.first + length traps.old.items) expr.now) }
+    ensures count { OnOk result (length traps.new.items
+        ≡ length traps.old.items + trap_count expr.now) }
+    ensures literals { OnOk result (ExprInRange expr.now) }
+    ensures body_fits { OnOk result
+        ((tables blocks : ℕ)
+        → CanStand tables scope.now expr.now
+        → at.first + length traps.new.items ≤ blocks
+        → AreInstrsOf tables blocks body.old.items
+        → AreInstrsOf tables blocks body.new.items) }
+    ensures traps_fit { OnOk result
+        ((tables : List CodeTable) (all : List Block)
+        → IsPlaced expr.now
+        → AreBlocksOf tables all traps.old.items
+        → AreBlocksOf tables all traps.new.items) }
+{
+    append_expr(alloc, body, traps, expr, scope, at)?;
+    Ok(())
+}
+
+/// Appends to a body the instructions of an operation, and its trap blocks to those that are there,
+/// as `push_expr` does with an expression.
+pub fn push_binary(
+    alloc: Global,
+    body: &mut Vec<Instr>,
+    traps: &mut Vec<Block>,
+    operation: Operation,
+    scope: &Scope,
+    at: Site,
+) -> Result<(), NoMemory>
+    requires few_tables { length scope.now.tables.items ≤ MAX_TABLES }
+    requires registers { at.to + operation_height operation ≤ MAX_EXPRESSION_HEIGHT }
+    requires labels { at.first + length traps.old.items + operation_traps operation < 2 ^ 32 }
+    ensures body { OnOk result
+        ((e : Expr) → IsNode operation.entry e
+        → body.new.items
+        ≡ body.old.items ++ body_of scope.now (at.first + length traps.old.items) e at.to) }
+    ensures traps { OnOk result
+        ((e : Expr) → IsNode operation.entry e
+        → traps.new.items ≡ traps.old.items ++ traps_of (at.first + length traps.old.items) e) }
+    ensures count { OnOk result
+        (length traps.new.items ≡ length traps.old.items + operation_traps operation.entry) }
+    ensures literals { OnOk result
+        (ExprInRange operation.entry.left.now × ExprInRange operation.entry.right.now) }
+    ensures body_fits { OnOk result
+        ((tables blocks : ℕ) (e : Expr)
+        → IsNode operation.entry e
+        → CanStand tables scope.now e
+        → at.first + length traps.new.items ≤ blocks
+        → AreInstrsOf tables blocks body.old.items
+        → AreInstrsOf tables blocks body.new.items) }
+    ensures traps_fit { OnOk result
+        ((tables : List CodeTable) (all : List Block) (e : Expr)
+        → IsNode operation.entry e
+        → IsPlaced e
+        → AreBlocksOf tables all traps.old.items
+        → AreBlocksOf tables all traps.new.items) }
+{
+    append_binary(alloc, body, traps, operation, scope, at)?;
     Ok(())
 }
 
@@ -325,7 +408,8 @@ fn blocks_of(alloc: Global, expr: &Expr, scope: &Scope, to: u8) -> Result<Vec<Bl
     requires few_tables { length scope.now.tables.items ≤ MAX_TABLES }
     requires registers { to + height expr.now ≤ MAX_EXPRESSION_HEIGHT }
     requires label { scope.now.next_label < MAX_BLOCKS }
-    ensures { IfOk result (λ blocks. blocks.items ≡ blocks_of scope.now expr.now to) }
+    ensures blocks { IfOk result (λ blocks. blocks.items ≡ blocks_of scope.now expr.now to) }
+    ensures literals { IfOk result (λ blocks. ExprInRange expr.now) }
 {
     let mut body = Vec::new(alloc);
     let mut traps = Vec::new(alloc);
@@ -354,7 +438,8 @@ fn blocks_of(alloc: Global, expr: &Expr, scope: &Scope, to: u8) -> Result<Vec<Bl
 /// The blocks of an expression, which stand from `scope.next_label` on. A task that begins at the
 /// first of them, and holds the scope's variables and tables, leaves the expression's value in
 /// register `to` and goes on at the label behind the last of them, or it traps as the expression
-/// does. It changes no register below `to` or above 23, no cell of the stack and no table.
+/// does. It changes no register below `to` or above 23, no cell of the stack and no table. In a code
+/// that has the scope's tables, and a block behind the last of them, they are blocks of that code.
 pub fn lower_expr(alloc: Global, expr: &Expr, scope: &Scope, to: u8) -> Result<Vec<Block>, NoMemory>
     requires few_tables { length scope.now.tables.items ≤ MAX_TABLES }
     requires registers { to + height expr.now ≤ MAX_EXPRESSION_HEIGHT }
@@ -369,6 +454,10 @@ pub fn lower_expr(alloc: Global, expr: &Expr, scope: &Scope, to: u8) -> Result<V
         → Holds scope.now vars tables (eval vars tables expr.now).notes state
         → ComesTo code heartbeat (scope.now.next_label + length blocks.items) to
         (eval vars tables expr.now).answer state) }
+    ensures fit { IfOk result (λ blocks. (tables : List CodeTable) (all : List Block)
+        → CanStand (length tables) scope.now expr.now
+        → scope.now.next_label + length blocks.items < length all → length all ≤ MAX_BLOCKS
+        → AreBlocksOf tables all blocks.items) }
 {
     let blocks = blocks_of(alloc, expr, scope, to)?;
     Ok(blocks)

@@ -1,7 +1,11 @@
 // Blocks that trap, and the names of blocks.
 
-ghost use Rattle.std.specs.Prelude.{◌≡◌, ◌+◌, ◌++◌, [], ◌∷◌, IfOk, OnOk};
+ghost use Rattle.std.specs.Prelude.{◌≡◌, ◌+◌, ◌++◌, [], ◌∷◌, List, IfOk, IsTrue, OnOk};
+ghost use Rattle.tpal_syntax.specs.Parts.{is_place};
+ghost use Rattle.tpal_syntax.specs.declared.blocks.Block.{Block};
+ghost use Rattle.tpal_syntax.specs.declared.blocks.CodeTable.{CodeTable};
 ghost use Rattle.expr_lower.specs.Bodies.{name_of, trap_block};
+ghost use Rattle.expr_lower.specs.Fitting.{AreBlocksOf};
 
 use itoa::Buffer;
 use std::alloc::Global;
@@ -33,7 +37,8 @@ fn trap_block(alloc: Global, label: u32, kind: TrapKind, place: Place) -> Result
     })
 }
 
-/// Appends the block that traps, which stands at a label.
+/// Appends the block that traps, which stands at a label. It is one of any code, where the place
+/// has a line and a column.
 pub fn push_trap(
     alloc: Global,
     traps: &mut Vec<Block>,
@@ -41,7 +46,12 @@ pub fn push_trap(
     kind: TrapKind,
     place: Place,
 ) -> Result<(), NoMemory>
-    ensures { OnOk result (traps.new.items ≡ traps.old.items ++ trap_block label kind place ∷ []) }
+    ensures traps { OnOk result
+        (traps.new.items ≡ traps.old.items ++ trap_block label kind place ∷ []) }
+    ensures fit { OnOk result ((tables : List CodeTable) (all : List Block)
+        → IsTrue (is_place place)
+        → AreBlocksOf tables all traps.old.items
+        → AreBlocksOf tables all traps.new.items) }
 {
     let block = trap_block(alloc, label, kind, place)?;
     traps.push(block)?;

@@ -1,11 +1,8 @@
 -- The blocks of handlers meet the conditions on blocks of a code.
-use Rattle.std.proofs.Common.{◌≡◌, ℕ, suc, ◌+◌, ◌%◌, ◌<◌, ◌≤◌, ◌^◌, Bool, true, All, List, [], ◌∷◌}
+use Rattle.std.proofs.Common.{◌≡◌, ℕ, suc, ◌+◌, ◌<◌, ◌≤◌, Bool, true, All, List, [], ◌∷◌}
 use Rattle.std.proofs.Common.{◌++◌, length, refl, ◌∙◌, arith}
-use Rattle.std.proofs.lemmas.Bool.Decides.{nat_tests}
-use Rattle.std.proofs.lemmas.Fmt.{decimal_by_steps}
 use Rattle.std.proofs.lemmas.List.Elements.{All-head, All-tail}
 use Rattle.std.proofs.lemmas.List.Folds.{list_all-append}
-use Rattle.std.specs.Fmt.{decimal}
 use Rattle.std.specs.List.{AllByRecursion, list_all}
 use Rattle.std.specs.Prelude.{pos, ◌&&◌, nat_lt, nat_le}
 use Rattle.reduce_ops.specs.Reduction.{unit}
@@ -21,17 +18,18 @@ use Rattle.tpal_syntax.specs.declared.notes.CarryAt.{CarryAt}
 use Rattle.tpal_syntax.specs.declared.notes.CarryAt.TheVariants as carry
 use Rattle.tpal_syntax.specs.declared.sites.CallSite.{CallSite}
 use Rattle.tpal_syntax.specs.declared.sites.LoopSite.{LoopSite}
-use Rattle.tpal_syntax.specs.Parts.{is_word, is_word_byte, is_instr, is_number}
-use Rattle.expr_lower.specs.Bodies.{name_of}
+use Rattle.tpal_syntax.specs.Parts.{is_instr, is_number}
+use Rattle.expr_lower.proofs.FittingBlocks.{name_is}
 use Rattle.handler_gen.specs.Blocks.{ask, middle, cut_places, left_begins, units, left_returns}
 use Rattle.handler_gen.specs.Blocks.{dispatch_block, loop_cut_block, back_block, loop_child_block}
 use Rattle.handler_gen.specs.Blocks.{loop_handler_blocks, call_cut_block, call_child_block}
 use Rattle.handler_gen.specs.Blocks.{call_handler_blocks}
 use Rattle.tpal_syntax.specs.declared.sites.LeafSite.{LeafSite}
-use Rattle.handler_gen.specs.Fitting.{AreBlocksOf, HasLoopPlaces, HasLeafPlaces, HasCallPlaces}
-use Rattle.handler_gen.specs.LeafBlocks.{leaf_handler_blocks, loads_of, stores_of}
+use Rattle.expr_lower.specs.Fitting.{AreBlocksOf}
+use Rattle.handler_gen.specs.Fitting.{HasLoopPlaces, HasLeafPlaces, HasCallPlaces}
+use Rattle.handler_gen.specs.LeafBlocks.{leaf_handler_blocks, loads_of, start_block, stores_of}
 use Rattle.handler_gen.specs.LeafSites.{IsLeafSite, head_label, registers_from, registers_of}
-use Rattle.handler_gen.specs.LeafSites.{reload_label, stored_loop}
+use Rattle.handler_gen.specs.LeafSites.{reload_label, start_label, stored_loop}
 use Rattle.handler_gen.specs.Sites.{at_of, IsLowCarry, IsLoopSite, IsCallSite, back_label}
 use Rattle.handler_gen.specs.Sites.{child_label, target_label, left_end_label, first_label}
 use Rattle.handler_gen.specs.Sites.{none_label, split_label}
@@ -49,21 +47,6 @@ joined_all p xs ys h k = list_all-append p xs ys ∙ both (list_all p xs) (list_
 -- an offset of an activation
 pub offset_is : (off cells : ℕ) → off < cells → cells ≤ 512 → nat_le off 511 ≡ true
 offset_is off cells inside few = le_true off 511 (omega (arith, inside, few))
-
--- ---- names
-
-digit_is : (n : ℕ) → n < 10 → is_word_byte (48 + n) ≡ true
-digit_is n below = grind (arith, nat_tests)
-
-digits_are : (n : ℕ) → n < 2 ^ 64 → list_all is_word_byte (decimal n) ≡ true
-digits_are n small =
-    decimal_by_steps (λ m ds. list_all is_word_byte ds ≡ true)
-    (λ m below. both (is_word_byte (48 + m)) true (digit_is m below) refl)
-    (λ m ds from h. joined_all is_word_byte ds ((48 + m % 10) ∷ []) h (both (is_word_byte (48 + m % 10)) true (digit_is (m % 10) (omega arith)) refl))
-    n small
-
-pub name_is : (label : ℕ) → label < 65536 + 16 → is_word (name_of label) ≡ true
-name_is label small = digits_are label (omega (arith, small))
 
 -- ---- instructions
 
@@ -184,20 +167,31 @@ module _ (tables : List CodeTable) (all : List Block) where
           → fits (instr.Load r 31 off) ≡ true
       load_fits r off first second = rw first second
 
-  module _ (site : LeafSite) (right : IsLeafSite site) (places : HasLeafPlaces site tables all)
-    where
+  module _ (site : LeafSite) (right : IsLeafSite site) where
+    are_right : AreRight site.cells (registers_of site)
+    are_right = (
+      (cursor_in (stored_loop site) right.loop, omega arith),
+      (
+        (bound_in (stored_loop site) right.loop, omega arith),
+        accs_right site.accs 26 site.cells (omega (arith, right.few_accs))
+            (accs_in (stored_loop site) right.loop),
+      ),
+    )
+
+    pub leaf_stores_fit : list_all fits (stores_of (registers_of site)) ≡ true
+    leaf_stores_fit = stores_fit (registers_of site) site.cells right.loop.cells are_right
+
+    pub leaf_start_fits : (first : ℕ) → first < blocks → IsBlock tables all (start_block site first)
+    leaf_start_fits first known = record {
+      name = name_is (start_label site) (omega (arith, right.loop.label));
+      note = tt;
+      body = loads_fit (registers_of site) site.cells right.loop.cells are_right;
+      term = lt_true first blocks known;
+    }
+
+    module _ (places : HasLeafPlaces site tables all) where
       abbrev stored : LoopSite
       stored = stored_loop site
-
-      are_right : AreRight site.cells (registers_of site)
-      are_right = (
-        (cursor_in stored right.loop, omega arith),
-        (
-          (bound_in stored right.loop, omega arith),
-          accs_right site.accs 26 site.cells (omega (arith, right.few_accs))
-              (accs_in stored right.loop),
-        ),
-      )
 
       leaving_fit : list_all fits (instr.Move 30 (value.Label (reload_label site.label))
           ∷ instr.PrmSplit 28 29 ∷ []) ≡ true
@@ -212,7 +206,7 @@ module _ (tables : List CodeTable) (all : List Block) where
           note = tt;
           body = joined_all fits (stores_of (registers_of site))
               (instr.Move 30 (value.Label (reload_label site.label)) ∷ instr.PrmSplit 28 29 ∷ [])
-              (stores_fit (registers_of site) site.cells right.loop.cells are_right) leaving_fit;
+              leaf_stores_fit leaving_fit;
           term = refl;
         },
         (

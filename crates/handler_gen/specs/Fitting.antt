@@ -1,7 +1,5 @@
--- The conditions of a code on the blocks of a site.
+-- What the conditions of a code ask of it round a site, where it has the site's blocks.
 use Rattle.std.specs.Prelude.{◌<◌, List, length, All}
-use Rattle.std.specs.List.{AllByRecursion}
-use Rattle.tpal_syntax.specs.Conditions.{IsBlock}
 use Rattle.tpal_syntax.specs.declared.blocks.Block.{Block}
 use Rattle.tpal_syntax.specs.declared.blocks.CodeTable.{CodeTable}
 use Rattle.tpal_syntax.specs.declared.sites.CallSite.{CallSite}
@@ -10,10 +8,6 @@ use Rattle.tpal_syntax.specs.Parts.{table_of}
 use Rattle.tpal_syntax.specs.declared.sites.LeafSite.{LeafSite}
 use Rattle.handler_gen.specs.LeafSites.{stored_loop, head_label}
 use Rattle.handler_gen.specs.Sites.{joined_label, none_label, split_label}
-
--- these blocks meet the conditions on those of a code with such tables and blocks
-abbrev pub AreBlocksOf : List CodeTable → List Block → List Block → Type 0
-AreBlocksOf tables all blocks = AllByRecursion (IsBlock tables all) blocks
 
 -- a code has blocks at the labels of a loop's site and round it, and the tables that are carried
 pub record HasLoopPlaces (site : LoopSite) (tables : List CodeTable) (all : List Block) : Type 0

@@ -7,7 +7,8 @@ ghost use Rattle.expr_lower.specs.Standing.{AreAt};
 ghost use Rattle.tpal_syntax.specs.Listing.{Listing};
 ghost use Rattle.handler_gen.specs.Blocks as blocks;
 ghost use Rattle.handler_gen.specs.CallCuts.{IsRoundCalls, CutsCalls};
-ghost use Rattle.handler_gen.specs.Fitting.{AreBlocksOf, HasCallPlaces};
+ghost use Rattle.expr_lower.specs.Fitting.{AreBlocksOf};
+ghost use Rattle.handler_gen.specs.Fitting.{HasCallPlaces};
 ghost use Rattle.handler_gen.specs.Sites.{IsCallSite};
 
 use crate::blocks::{back_block, block_of, push_ask};

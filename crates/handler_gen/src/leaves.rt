@@ -3,11 +3,13 @@
 
 ghost use Rattle.std.specs.Prelude.{◌≡◌, ℕ, ◌+◌, ◌++◌, ◌<◌, ◌≤◌, List, Some, length, IfOk, OnOk};
 ghost use Rattle.tp_value.specs.declared.limits.TheConstants.{MAX_BLOCKS};
+ghost use Rattle.tpal_syntax.specs.Conditions.{IsBlock};
 ghost use Rattle.tpal_syntax.specs.declared.blocks.CodeTable.{CodeTable};
 ghost use Rattle.expr_lower.specs.Standing.{AreAt};
 ghost use Rattle.tpal_syntax.specs.Listing.{Listing};
 ghost use Rattle.tpal_machine.specs.Reading.{block_at};
-ghost use Rattle.handler_gen.specs.Fitting.{AreBlocksOf, HasLeafPlaces};
+ghost use Rattle.expr_lower.specs.Fitting.{AreBlocksOf};
+ghost use Rattle.handler_gen.specs.Fitting.{HasLeafPlaces};
 ghost use Rattle.handler_gen.specs.LeafBlocks as blocks;
 ghost use Rattle.handler_gen.specs.LeafCuts.{CutsLeaf, StartsLeaf};
 ghost use Rattle.handler_gen.specs.LeafSites as sites;
@@ -163,6 +165,9 @@ pub fn leaf_start(alloc: Global, site: &LeafSite, first: u32) -> Result<Block, N
     ensures starts { IfOk result (λ block. (code : Listing) (heartbeat : ℕ)
         → block_at code (sites.start_label site.now) ≡ Some block
         → StartsLeaf code heartbeat site.now first) }
+    ensures fit { IfOk result (λ block. (tables : List CodeTable) (all : List Block)
+        → first < length all
+        → IsBlock tables all block) }
 {
     let block = loads_block(alloc, site, start_label(site), first)?;
     Ok(block)

@@ -17,11 +17,13 @@ use Rattle.tpal_syntax.specs.declared.sites.CallSite.{CallSite}
 use Rattle.tpal_syntax.specs.declared.sites.LoopSite.{LoopSite}
 use Rattle.tpal_syntax.specs.Parts.{is_instr, is_carry, is_number, table_of}
 use Rattle.handler_gen.specs.Blocks.{renames_from, loop_target, call_target}
-use Rattle.handler_gen.specs.Fitting.{AreBlocksOf, HasLoopPlaces, HasCallPlaces}
+use Rattle.expr_lower.specs.Fitting.{AreBlocksOf}
+use Rattle.handler_gen.specs.Fitting.{HasLoopPlaces, HasCallPlaces}
 use Rattle.handler_gen.specs.Sites.{IsLowCarry, IsLoopSite, IsCallSite, call_cells, target_label}
 use Rattle.handler_gen.specs.Sites.{comb_label, side_label, over_label, child_end_label}
 use Rattle.handler_gen.specs.Sites.{left_end_label, joined_label}
-use Rattle.handler_gen.proofs.Fits.{both, offset_is, name_is}
+use Rattle.expr_lower.proofs.FittingBlocks.{name_is}
+use Rattle.handler_gen.proofs.Fits.{both, offset_is}
 use Rattle.handler_gen.proofs.Marks.{lt_true}
 use Rattle.handler_gen.proofs.Offsets.{cells_of, accs_in}
 use Rattle.join_gen.specs.Blocks.{loads_from, combines_from, loop_join_blocks, call_join_blocks}

@@ -10,9 +10,9 @@ use Rattle.expr_lower.specs.Scopes.{home_of}
 use Rattle.expr_lower.proofs.Pushing.{code_behind, label_behind, operation_same, traps_behind}
 use Rattle.expr_lower.proofs.expression.+push.Goals as goal
 
-pub push_expr-returns-in_ok-push_cell-in-Cell-clause-traps :
-    goal.push_expr-returns-in_ok-push_cell-in-Cell-clause-traps
-push_expr-returns-in_ok-push_cell-in-Cell-clause-traps t c =
+pub append_expr-returns-in_ok-push_cell-in-Cell-clause-traps :
+    goal.append_expr-returns-in_ok-push_cell-in-Cell-clause-traps
+append_expr-returns-in_ok-push_cell-in-Cell-clause-traps t c =
     let first = c.args.at.first in
     let before = c.args.traps.now.items in
     let one = c.push_operand.new.traps.items in
@@ -32,8 +32,8 @@ push_expr-returns-in_ok-push_cell-in-Cell-clause-traps t c =
     c.in_ok-push_cell-in-Cell.ensures.traps
     ∙ ap (λ (e : Expr). before ++ traps_of (first + length before) e) (sym c.in-Cell.is)
 
-pub push_binary-returns-clause-body : goal.push_binary-returns-clause-body
-push_binary-returns-clause-body t c e node =
+pub append_binary-returns-clause-body : goal.append_binary-returns-clause-body
+append_binary-returns-clause-body t c e node =
     let scope = c.args.scope.now in
     let to = c.args.at.to in
     let first = c.args.at.first in
@@ -71,8 +71,8 @@ push_binary-returns-clause-body t c e node =
     right_at (c.deref.ensures.value ∙ right_is) c.literal-number.ensures.number last)
     ∙ ap (λ (x : Expr). before ++ body_of scope start x to) (sym node.is)
 
-pub push_binary-returns-clause-traps : goal.push_binary-returns-clause-traps
-push_binary-returns-clause-traps t c e node =
+pub append_binary-returns-clause-traps : goal.append_binary-returns-clause-traps
+append_binary-returns-clause-traps t c e node =
     let first = c.args.at.first in
     let before = c.args.traps.now.items in
     let one = c.push_operand.new.traps.items in

@@ -1,7 +1,7 @@
 use Rattle.std.proofs.Common.{List, sym, subst}
 use Rattle.tpal_syntax.specs.declared.blocks.Block.{Block}
 use Rattle.expr_lower.specs.Standing.{AreAt}
-use Rattle.handler_gen.specs.Fitting.{AreBlocksOf}
+use Rattle.expr_lower.specs.Fitting.{AreBlocksOf}
 use Rattle.handler_gen.proofs.Fits.{leaf_handler_fits}
 use Rattle.handler_gen.proofs.LeafCutting.{cuts_leaf}
 use Rattle.handler_gen.proofs.leaves.leaf_handler.Goals as goal

@@ -2,7 +2,7 @@ use Rattle.std.proofs.Common.{List, sym, subst}
 use Rattle.tpal_syntax.specs.declared.blocks.Block.{Block}
 use Rattle.expr_lower.specs.Standing.{AreAt}
 use Rattle.handler_gen.proofs.LoopCutting.{cuts_loop}
-use Rattle.handler_gen.specs.Fitting.{AreBlocksOf}
+use Rattle.expr_lower.specs.Fitting.{AreBlocksOf}
 use Rattle.handler_gen.proofs.Fits.{loop_handler_fits}
 use Rattle.handler_gen.proofs.loops.loop_handler.Goals as goal
 

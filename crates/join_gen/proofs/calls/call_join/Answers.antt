@@ -1,7 +1,7 @@
 use Rattle.std.proofs.Common.{List, sym, subst}
 use Rattle.tpal_syntax.specs.declared.blocks.Block.{Block}
 use Rattle.expr_lower.specs.Standing.{AreAt}
-use Rattle.handler_gen.specs.Fitting.{AreBlocksOf}
+use Rattle.expr_lower.specs.Fitting.{AreBlocksOf}
 use Rattle.handler_gen.specs.Sites.{target_label}
 use Rattle.join_gen.proofs.CallJoining.{joins_calls}
 use Rattle.join_gen.proofs.Fits.{call_join_fits}
