@@ -9,10 +9,10 @@ use Rattle.tpal_verify.specs.declared.kinds.EndFact.TheVariants.{Root, Side, Eit
 use Rattle.tpal_verify.specs.declared.kinds.MarkFact.{MarkFact}
 use Rattle.tpal_verify.specs.declared.kinds.MarkFact.TheVariants.{Marked, Clear, Maybe}
 use Rattle.tpal_verify.specs.Kinds.{kind_below, end_below, mark_below, grant_below, met_below}
-use Rattle.tpal_verify.specs.Shapes.{Shape}
+use Rattle.tpal_verify.specs.Shapes.{Shape, kinds_below}
 use Rattle.tpal_verify.specs.Walk.{Flow}
 use Rattle.tpal_verify.specs.Rounds.{Shapes, with_flows, holds_all}
-use Rattle.tpal_verify.proofs.Order.{KindBelow, same, to_any, own_up, nil_up, is_below, KindsBelow, met_some}
+use Rattle.tpal_verify.proofs.Order.{KindBelow, same, to_any, own_up, nil_up, is_below, KindsBelow, kinds_of, met_some}
 use Rattle.tpal_verify.proofs.ShapeOrder.{Below}
 use Rattle.tpal_verify.proofs.Kept.{made}
 use Rattle.tpal_verify.proofs.Assigned.{ShapeBelow, AllBelow, flows_below, flows_grow}
@@ -39,6 +39,10 @@ kinds_both e f [] (y ∷ ys) v w = absurd v
 kinds_both e f (x ∷ xs) [] v w = absurd w
 kinds_both e f (x ∷ xs) (y ∷ ys) v w =
     ap (λ k. k ∷ xs) (kind_both e f x y v.0 w.0) ∙ ap (λ ks. y ∷ ks) (kinds_both e f xs ys v.1 w.1)
+
+-- lists of which each is below the other are the same
+pub same_kinds : (xs ys : List Kind) → kinds_below Either xs ys ≡ true → kinds_below Either ys xs ≡ true → xs ≡ ys
+same_kinds xs ys p q = kinds_both Either Either xs ys (kinds_of Either xs ys p) (kinds_of Either ys xs q)
 
 end_both : (e f : EndFact) → end_below e f ≡ true → end_below f e ≡ true → e ≡ f
 end_both Root Root p q = refl

@@ -10,3 +10,10 @@ pub mod Kept
 pub mod Tried
 pub mod Zipped
 pub mod Least
+pub mod Staging
+pub mod Stepping
+pub mod Agreeing
+pub mod Rounded
+pub mod Combining
+pub mod Labels
+pub mod Naming

@@ -28,10 +28,15 @@ pub record Ground : Type 0 where
 
 -- ---- the activation and the mark
 
--- the number of a `salloc` that comes first
+-- the number of a `salloc`
+abbrev pub salloc_of : Instr → ℕ
+salloc_of (Salloc n) = n
+salloc_of _ = 0
+
+-- that of a `salloc` that comes first
 abbrev pub first_cells : List Instr → ℕ
-first_cells (Salloc n ∷ body) = n
-first_cells body = 0
+first_cells [] = 0
+first_cells (instr ∷ body) = salloc_of instr
 
 -- the cells of the activation, which block 0 makes with its first instruction
 abbrev pub cells_of : List Block → ℕ

@@ -6,13 +6,25 @@ pub mod Kinds
 pub mod Shapes
 -- flat codes: one activation, one mark
 pub mod Flat
+-- handlers whose labels fit into kinds
+pub mod Fitting
 -- the rules of an instruction
 pub mod Rules
 -- one walk over a block
 pub mod Walk
 -- assignments, rounds, and the least assignment
 pub mod Rounds
+-- the shapes of all blocks within a round
+pub mod Board
+-- a walk that stands somewhere in a block
+pub mod Walking
+-- one join that stands for all
+pub mod Agreement
+-- rounds in which only due blocks are walked
+pub mod Rounding
 -- the first rule that a code breaks; accepted codes
 pub mod Breaks
+-- what is answered of a code
+pub mod Verdict
 -- codes by which the definitions were tried
 pub mod Sample

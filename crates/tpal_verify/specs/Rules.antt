@@ -109,19 +109,50 @@ marks_rightly s _ = true
 
 -- ---- rule 4: what stands behind a `jralloc`
 
--- moves, calculations, loads and stores that leave a register alone, and then a fork under it
+-- a move, a calculation, a load or a store that leaves a register alone
+abbrev pub leaves_alone : ℕ → Instr → Bool
+leaves_alone r (Move to value) = not (to == r)
+leaves_alone r (Calc to left alu right) = not (to == r)
+leaves_alone r (Load to base off) = not (to == r)
+leaves_alone r (Store base off value) = true
+leaves_alone r _ = false
+
+-- the record of a fork
+abbrev pub forked_under : Instr → Option ℕ
+forked_under (Fork rec child) = Some rec
+forked_under _ = None
+
+-- instructions that leave a register alone, and then a fork under it
+abbrev pub leads_by : ℕ → Option ℕ → Bool → Bool
+leads_by r (Some rec) later = rec == r
+leads_by r None later = later
+
 abbrev pub leads_to_fork : ℕ → List Instr → Bool
-leads_to_fork r (Fork rec child ∷ body) = rec == r
-leads_to_fork r (Move to value ∷ body) = not (to == r) && leads_to_fork r body
-leads_to_fork r (Calc to left alu right ∷ body) = not (to == r) && leads_to_fork r body
-leads_to_fork r (Load to base off ∷ body) = not (to == r) && leads_to_fork r body
-leads_to_fork r (Store base off value ∷ body) = leads_to_fork r body
-leads_to_fork r _ = false
+leads_to_fork r [] = false
+leads_to_fork r (instr ∷ body) =
+    leads_by r (forked_under instr) (leaves_alone r instr && leads_to_fork r body)
+
+abbrev pub is_eq : Alu → Bool
+is_eq Eq = true
+is_eq _ = false
+
+abbrev pub is_nil : Value → Bool
+is_nil Nil = true
+is_nil _ = false
+
+-- the register that holds the answer of a test of another one against nil
+abbrev pub truth_of : ℕ → Instr → Option ℕ
+truth_of r (Calc x left alu right) =
+    if left == r && not (x == r) && is_eq alu && is_nil right then Some x else None
+truth_of r _ = None
+
+abbrev pub jumps_by : Option ℕ → Instr → Bool
+jumps_by (Some x) (IfJump y label) = y == x
+jumps_by _ _ = false
 
 -- a test of a register against nil, a jump by it, and what leads to a fork
 abbrev pub tests_first : ℕ → List Instr → Bool
-tests_first r (Calc x left Eq Nil ∷ IfJump y label ∷ body) =
-    left == r && not (x == r) && y == x && leads_to_fork r body
+tests_first r (test ∷ jump ∷ body) = jumps_by (truth_of r test) jump && leads_to_fork r body
 tests_first r _ = false
 
 abbrev pub asks_rightly : Ground → Instr → List Instr → Bool

@@ -1,21 +1,37 @@
-//! A verifier of code that was written by hand: what can be known of a flat code at each place, and
-//! the rules that it must meet. It stands on `tp_value` and `tpal_syntax`.
+//! A verifier of code that was written by hand: `verify` accepts a flat code, or names the first rule
+//! that it breaks. It stands on `tp_value` and `tpal_syntax`.
 //! `specs/` has the definitions: kinds and shapes, the rules, one walk over a block, rounds up to
 //! the least assignment of shapes, the first rule that a code breaks. `laws` says how these hang
-//! together. Start with `kinds` and `shape`.
+//! together. Start with `kinds`, `shape` and `rules`; `walk` and `blocks` walk over a block, `rounds`
+//! finds the least assignment, `breaks` what it breaks.
 #![tactic(auto)]
 
+mod agreement;
+mod blocks;
+mod board;
+mod breaks;
+mod combs;
+mod fault;
+mod flat;
 mod kinds;
 mod laws;
 mod phases;
+mod rounds;
+mod rules;
+mod safe;
 mod shape;
+#[cfg(test)]
+mod tests;
 mod trace;
+mod walk;
 
+pub use fault::VerifyFault;
 pub use kinds::{EndFact, Kind, MarkFact};
 pub use laws::{
     accepted_where_rules_are_met, flows_come_in_any_order, joins_are_least, least_assignment,
     samples,
 };
 pub use phases::Phase;
+pub use safe::{SafeCode, verify};
 pub use shape::Shape;
 pub use trace::Trace;

@@ -50,7 +50,7 @@ fn pairs_below(end: EndFact, lower: &[Kind], upper: &[Kind]) -> bool
 }
 
 /// Whether each kind is below the one at its place.
-fn are_below(end: EndFact, lower: &[Kind], upper: &[Kind]) -> bool
+pub(crate) fn are_below(end: EndFact, lower: &[Kind], upper: &[Kind]) -> bool
     ensures { result ≡ kinds_below end lower.now upper.now }
 {
     if lower.len() < upper.len() {
@@ -94,13 +94,13 @@ fn unmet_kinds(alloc: Global, kinds: &[Kind]) -> Result<Vec<Kind>, AllocError>
     kinds.iter().map(|kind| unmet(*kind)).collect(alloc)
 }
 
-fn copied(alloc: Global, kinds: &[Kind]) -> Result<Vec<Kind>, AllocError>
+pub(crate) fn copied(alloc: Global, kinds: &[Kind]) -> Result<Vec<Kind>, AllocError>
     ensures { IfOk result (λ copy. copy.items ≡ kinds.now) }
 {
     kinds.iter().copied().collect(alloc)
 }
 
-fn set(kinds: &mut Vec<Kind>, at: usize, kind: Kind)
+pub(crate) fn set(kinds: &mut Vec<Kind>, at: usize, kind: Kind)
     ensures { kinds.new.items ≡ slice_set kinds.old.items at kind }
 {
     if at < kinds.len() {
@@ -108,7 +108,7 @@ fn set(kinds: &mut Vec<Kind>, at: usize, kind: Kind)
     }
 }
 
-fn kind_in(kinds: &[Kind], at: usize) -> Kind
+pub(crate) fn kind_in(kinds: &[Kind], at: usize) -> Kind
     ensures { result ≡ slice_index_or kinds.now at Kind.Any }
 {
     match kinds.get(at) {
