@@ -1,14 +1,13 @@
 -- One join that stands for all finds what they find.
-use Rattle.std.proofs.Common.{◌≡◌, ℕ, zero, suc, List, [], ◌∷◌, ◌++◌, Option, Some, None, refl, sym, ap, subst, ◌∙◌, map, slice_index_or, slice_set, Bool, true, false, ◌&&◌, if◌then◌else◌, not, replicate}
+use Rattle.std.proofs.Common.{◌≡◌, ℕ, zero, suc, List, [], ◌∷◌, ◌++◌, Option, Some, None, refl, sym, ap, subst, ◌∙◌, slice_index_or, slice_set, Bool, true, false, ◌&&◌, if◌then◌else◌, not, replicate}
 use Rattle.std.proofs.lemmas.Bool.{false≢true}
-use Rattle.std.specs.List.{zip}
 use Rattle.tpal_syntax.specs.declared.notes.Note.{Note}
 use Rattle.tpal_syntax.specs.declared.notes.Note.TheVariants as note
 use Rattle.tpal_syntax.specs.declared.notes.Target.{Target}
 use Rattle.tpal_verify.specs.declared.kinds.Kind.{Kind}
 use Rattle.tpal_verify.specs.declared.kinds.Kind.TheVariants.{Number, Empty, Own, Up, Pend, Met, Back, Any}
 use Rattle.tpal_verify.specs.declared.trace.Trace.{Trace}
-use Rattle.tpal_verify.specs.Kinds.{kind_eq, kept}
+use Rattle.tpal_verify.specs.Kinds.{kind_eq}
 use Rattle.tpal_verify.specs.Shapes.{Shape}
 use Rattle.tpal_verify.specs.Flat.{Ground}
 use Rattle.tpal_verify.specs.Rules.{note_at}

@@ -1,17 +1,15 @@
 -- A round in which only due blocks are walked is a round, and what holds between rounds is kept.
-use Rattle.std.proofs.Common.{◌≡◌, ◌≢◌, ◌⊎◌, inl, inr, append_assoc, ℕ, zero, suc, ◌+◌, ◌<◌, ◌≤◌, List, [], ◌∷◌, ◌++◌, Option, Some, None, refl, sym, ap, subst, ◌∙◌, length, map, slice_index_or, slice_set, slice_get, replicate, Bool, true, false, ◌||◌, ◌==◌, arith}
+use Rattle.std.proofs.Common.{◌≡◌, ◌≢◌, ◌⊎◌, inl, inr, ℕ, zero, suc, ◌+◌, ◌≤◌, List, [], ◌∷◌, ◌++◌, Option, Some, None, refl, sym, ap, subst, ◌∙◌, length, map, slice_index_or, slice_set, slice_get, replicate, Bool, true, false, ◌||◌, ◌==◌, arith}
 use Rattle.std.proofs.lemmas.Bool.{false≢true}
 use Rattle.std.proofs.Math.ListN.{length-set, length-replicate, get_or-map}
 use Rattle.std.proofs.lemmas.List.{get_or-set_other}
 use Rattle.tpal_syntax.specs.declared.blocks.Block.{Block}
-use Rattle.tpal_syntax.specs.declared.notes.Note.{Note}
 use Rattle.tpal_verify.specs.declared.kinds.Kind.{Kind}
 use Rattle.tpal_verify.specs.declared.trace.Trace.{Trace}
-use Rattle.tpal_verify.specs.Shapes.{Shape, first_shape}
+use Rattle.tpal_verify.specs.Shapes.{first_shape}
 use Rattle.tpal_verify.specs.Flat.{Ground}
-use Rattle.tpal_verify.specs.Rules.{note_at}
 use Rattle.tpal_verify.specs.Walk.{Flow, Walked}
-use Rattle.tpal_verify.specs.Rounds.{Shapes, walk_of, walks_from, walks, all_flows, trace_of, forks_of, join_in, with_join, all_joins, all_forks, traces, comb_flow, each_comb_flow, comb_flows, flows_of, with_flows, shape_at, holds_all, or_later, settled, round, least, start, height}
+use Rattle.tpal_verify.specs.Rounds.{Shapes, walk_of, walks_from, walks, all_flows, trace_of, forks_of, join_in, with_join, all_joins, all_forks, traces, comb_flows, flows_of, with_flows, shape_at, holds_all, or_later, settled, round, least, start, height}
 use Rattle.tpal_verify.specs.Board.{is_in, AreSameBut}
 use Rattle.tpal_verify.specs.Walking.{walk_in, walk_at, flows_in}
 use Rattle.tpal_verify.specs.Agreement.{StandsFor}

@@ -1,5 +1,5 @@
 -- What staging a shape and putting it in place keep.
-use Rattle.std.proofs.Common.{◌≡◌, ◌≢◌, ℕ, zero, suc, ◌+◌, ◌<◌, ◌≤◌, List, [], ◌∷◌, ◌++◌, Option, Some, None, refl, sym, ap, subst, ◌∙◌, length, map, slice_index_or, slice_set, Bool, true, false, ◌||◌, ◌==◌, replicate, arith}
+use Rattle.std.proofs.Common.{◌≡◌, ◌≢◌, ℕ, zero, suc, ◌+◌, ◌<◌, ◌≤◌, List, [], ◌∷◌, ◌++◌, Some, None, refl, sym, ap, subst, ◌∙◌, length, map, slice_index_or, slice_set, Bool, true, false, ◌||◌, ◌==◌, replicate, arith}
 use Rattle.std.proofs.lemmas.Bool.{false≢true}
 use Rattle.std.proofs.lemmas.List.{map-set, get_or-set_other, set_past, replicate-append-replicate}
 use Rattle.std.proofs.Math.Seq.{map-set_same}

@@ -2,14 +2,13 @@
 use Rattle.std.proofs.Common.{◌≡◌, ℕ, ◌+◌, List, [], ◌∷◌, ◌++◌, Option, Some, None, refl, sym, ap, ◌∙◌, append-nil, append_assoc, Bool, false}
 use Rattle.tpal_syntax.specs.declared.instructions.Instr.{Instr}
 use Rattle.tpal_syntax.specs.declared.instructions.Term.{Term}
-use Rattle.tpal_verify.specs.declared.kinds.Kind.{Kind}
 use Rattle.tpal_verify.specs.declared.blocks.Found.{Found}
 use Rattle.tpal_verify.specs.declared.phases.Phase.{Phase}
 use Rattle.tpal_verify.specs.declared.trace.Trace.{Trace}
 use Rattle.tpal_verify.specs.Shapes.{Shape}
 use Rattle.tpal_verify.specs.Flat.{Ground}
 use Rattle.tpal_verify.specs.Rules.{broken_rule}
-use Rattle.tpal_verify.specs.Walk.{Flow, Going, Walked, going, walk, walk_on, with_going, with_forks, unless_broken}
+use Rattle.tpal_verify.specs.Walk.{Flow, Walked, going, walk, walk_on, with_going, with_forks, unless_broken}
 use Rattle.tpal_verify.specs.Rounds.{Shapes, with_flow, with_flows}
 use Rattle.tpal_verify.specs.Walking.{Walking, Went, Ended, stands}
 

@@ -1,5 +1,5 @@
 -- Rounds in which only some blocks are walked: those whose shapes changed in the round before.
-use Rattle.std.specs.Prelude.{◌≡◌, ◌⊎◌, ℕ, Bool, true, false, List, [], ◌∷◌, ◌++◌, length, Option, Some, None}
+use Rattle.std.specs.Prelude.{◌≡◌, ◌⊎◌, ℕ, Bool, true, false, List, [], ◌∷◌, ◌++◌, length, Option, None}
 use Rattle.std.specs.Prelude.{slice_index_or, slice_set}
 use Rattle.tpal_verify.specs.declared.kinds.Kind.{Kind}
 use Rattle.tpal_verify.specs.declared.trace.Trace.{Trace}

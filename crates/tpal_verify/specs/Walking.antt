@@ -4,10 +4,9 @@ use Rattle.tpal_syntax.specs.declared.blocks.Block.{Block}
 use Rattle.tpal_verify.specs.declared.blocks.Found.{Found}
 use Rattle.tpal_verify.specs.declared.phases.Phase.{Phase}
 use Rattle.tpal_verify.specs.declared.phases.Phase.TheVariants.{Calm}
-use Rattle.tpal_verify.specs.declared.trace.Trace.{Trace}
 use Rattle.tpal_verify.specs.Shapes.{Shape, left_shape, child_shape}
 use Rattle.tpal_verify.specs.Flat.{Ground}
-use Rattle.tpal_verify.specs.Walk.{Flow, Going, Walked, with_forks}
+use Rattle.tpal_verify.specs.Walk.{Flow, Going, Walked}
 use Rattle.tpal_verify.specs.Rounds.{Shapes, shape_at, with_flow, with_flows, walk_of}
 
 -- the shapes before the round, those that it has come to, the shape where the walk stands, and the

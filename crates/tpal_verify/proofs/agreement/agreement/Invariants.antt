@@ -1,4 +1,4 @@
-use Rattle.std.proofs.Common.{[], length}
+use Rattle.std.proofs.Common.{length}
 use Rattle.tpal_verify.specs.Rounds.{with_join, all_joins}
 use Rattle.tpal_verify.specs.Agreement.{StandsFor}
 use Rattle.tpal_verify.proofs.agreement.agreement.Given as goal

@@ -1,4 +1,4 @@
-use Rattle.std.proofs.Common.{rules, ◌≡◌, ◌≤◌, ◌∙◌, ◌-◌, sym, subst, suc, arith, true, List}
+use Rattle.std.proofs.Common.{rules, ◌≡◌, ◌≤◌, ◌∙◌, ◌-◌, sym, subst, suc, arith, true}
 use Rattle.tpal_verify.specs.Rounding.{Round, Stands, IsOver, retraced}
 use Rattle.tpal_verify.proofs.Rounded.{is_least}
 use Rattle.tpal_verify.proofs.rounds.least_traces.Goals as goal

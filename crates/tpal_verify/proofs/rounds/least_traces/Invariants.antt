@@ -1,4 +1,3 @@
-use Rattle.std.proofs.Common.{ℕ}
 use Rattle.tpal_verify.specs.Rounding.{Stands}
 use Rattle.tpal_verify.proofs.rounds.least_traces.Given as goal
 

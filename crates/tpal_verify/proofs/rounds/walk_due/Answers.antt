@@ -1,4 +1,4 @@
-use Rattle.std.proofs.Common.{rules, ◌≡◌, ◌∙◌, sym, ◌∷◌, ℕ, List, slice_set, map}
+use Rattle.std.proofs.Common.{rules, ◌≡◌, ◌∙◌, sym, ◌∷◌, slice_set}
 use Rattle.std.proofs.lemmas.Bool.{false≢true}
 use Rattle.tpal_verify.specs.Rounds.{with_flows, trace_of}
 use Rattle.tpal_verify.specs.Rounding.{flows_due, retraced}

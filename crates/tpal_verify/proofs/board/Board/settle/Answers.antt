@@ -1,5 +1,4 @@
-use Rattle.std.proofs.Common.{rules, ◌≡◌, ◌∙◌, sym, ℕ, List, map}
-use Rattle.tpal_verify.specs.Board.{next_in}
+use Rattle.std.proofs.Common.{rules, ◌∙◌, sym, map}
 use Rattle.tpal_verify.proofs.Staging.{all_in_place, settled_same}
 use Rattle.tpal_verify.proofs.board.Board.settle.Goals as goal
 

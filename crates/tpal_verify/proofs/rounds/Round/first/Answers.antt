@@ -1,6 +1,6 @@
-use Rattle.std.proofs.Common.{rules, ◌≡◌, subst, sym, None, [], ◌∷◌, length, replicate}
-use Rattle.tpal_verify.specs.Rounds.{start, height}
-use Rattle.tpal_verify.specs.Rounding.{Round, Stands}
+use Rattle.std.proofs.Common.{rules, subst}
+use Rattle.tpal_verify.specs.Rounds.{height}
+use Rattle.tpal_verify.specs.Rounding.{Stands}
 use Rattle.tpal_verify.proofs.Rounded.{round_first}
 use Rattle.tpal_verify.proofs.rounds.Round.first.Goals as goal
 

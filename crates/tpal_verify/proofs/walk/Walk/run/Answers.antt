@@ -1,4 +1,4 @@
-use Rattle.std.proofs.Common.{rules, arith, ◌≡◌, ◌∙◌, ap, sym, ℕ, List, ◌∷◌, length, None}
+use Rattle.std.proofs.Common.{rules, arith, ◌≡◌, ◌∙◌, ap, sym, ◌∷◌, length, None}
 use Rattle.tpal_verify.specs.Rules.{broken_rule}
 use Rattle.tpal_verify.specs.Walk.{walk, going}
 use Rattle.tpal_verify.specs.Walking.{Went}
