@@ -108,6 +108,8 @@ mutual
     NBoth : Spelled → AppTree → Spelled → AppTree → Node
     NPrint : Place → Tree → Node
     NEmit : Place → Spelled → Node
+    NLeave : Spelled → Tree → Node
+    NFill : Spelled → Spelled → Spelled → List Tree → Node
 
   pub data Nodes : Type 0 where
     Last : Nodes
@@ -133,6 +135,9 @@ stmt_step (layers.Call x f) = NCall (spelled x) (app_of f)
 stmt_step (layers.Both x f y g) = NBoth (spelled x) (app_of f) (spelled y) (app_of g)
 stmt_step (layers.Print p e) = NPrint p (tree_of e)
 stmt_step (layers.Emit p t) = NEmit p (spelled t)
+stmt_step (layers.Leave x e) = NLeave (spelled x) (tree_of e)
+stmt_step (layers.Fill f t r es) =
+    NFill (spelled f) (spelled t) (spelled r) (map tree_of es.items)
 
 abbrev pub par_step : ParLoop-F Node (ParHead × Nodes) → ParHead × Nodes
 par_step p = (

@@ -116,4 +116,17 @@ pub enum Stmt {
     Print(Place, Expr),
     /// `emit t;`, at the word.
     Emit(Place, Name),
+    /// `leave x = e;`: the variable that the nearest `par` sets, and the value.
+    Leave(Name, Expr),
+    /// A row function's body for one row of a table. No text has it yet, and it does nothing.
+    Fill {
+        /// The row function's name.
+        callee: Name,
+        /// The table.
+        table: Name,
+        /// The variable that names the row.
+        row: Name,
+        /// The arguments in order.
+        args: Vec<Expr>,
+    },
 }

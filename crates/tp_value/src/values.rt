@@ -32,6 +32,8 @@ pub enum TrapKind {
 pub enum Stop {
     /// It came to its end.
     Done,
+    /// An iteration of a parallel loop left the loop with this number.
+    Left(i64),
     /// It trapped, at this place of the source.
     Trap(TrapKind, Place),
     /// A tick exceeded the fuel.
