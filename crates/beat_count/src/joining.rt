@@ -23,6 +23,7 @@ pub fn join_stops(
     ensures within { result.1 ≤ limit + 1 }
 {
     match left {
+        Stop::Left(number) => (Stop::Left(number), left_ticks),
         Stop::Trap(kind, place) => (Stop::Trap(kind, place), left_ticks),
         Stop::NoFuel => (Stop::NoFuel, left_ticks),
         Stop::Done => {

@@ -45,6 +45,12 @@ fn stops_join_left_first(rt: HostRuntime) {
         (Stop::Done, 6, trap, 4, (trap, 10)),
         (Stop::Done, 6, trap, 5, (Stop::NoFuel, 11)),
         (trap, 6, Stop::NoFuel, 11, (trap, 6)),
+        (Stop::Left(5), 3, trap, 1, (Stop::Left(5), 3)),
+        (Stop::Left(5), 3, Stop::Done, 9, (Stop::Left(5), 3)),
+        (Stop::Left(5), 3, Stop::Left(6), 9, (Stop::Left(5), 3)),
+        (Stop::Done, 6, Stop::Left(5), 4, (Stop::Left(5), 10)),
+        (Stop::Done, 6, Stop::Left(5), 5, (Stop::NoFuel, 11)),
+        (trap, 6, Stop::Left(5), 4, (trap, 6)),
     ];
     for (left, left_ticks, right, right_ticks, want) in cases {
         assert_eq!(rt; join_stops(left, left_ticks, right, right_ticks, 10), want);
