@@ -8,7 +8,7 @@ use Rattle.loop_syntax.specs.declared.Expr.TheVariants.{Int, Var, Cell', Rows, C
 use Rattle.loop_syntax.specs.declared.App.{App}
 use Rattle.loop_syntax.specs.declared.Stmt.{Stmt, Row_of-Stmt, end_of-Stmt, more_of-Stmt}
 use Rattle.loop_syntax.specs.declared.Stmt.TheVariants.{Let, Set, Put, If', While', Loop', Par'}
-use Rattle.loop_syntax.specs.declared.Stmt.TheVariants.{Fold, Call, Both, Print, Emit}
+use Rattle.loop_syntax.specs.declared.Stmt.TheVariants.{Fold, Call, Both, Print, Emit, Leave, Fill}
 use Rattle.loop_rules.specs.declared.fault.Fault.{Fault}
 use Rattle.loop_rules.specs.Sites.{Site, Spot, in_expr, in_whole, in_args, in_app, in_carries}
 use Rattle.loop_rules.specs.Sites.{in_stmt, in_all, in_list, in_loop, in_par, spot_after}
@@ -77,16 +77,18 @@ mutual
   stmt_apart w (Loop' x a b p body) =
       same_cons _ _ _ _ (λ b. refl) (same_append _ _ _ _ (whole_apart w a) (same_append _ _ _ _ (whole_apart w b) (all_apart (in_loop w x) body)))
   stmt_apart w (Par' place x a b carry_place carries reduces p body) =
-      same_cons _ _ _ _ (λ b. refl) (same_cons _ _ _ _ (λ b. refl)
+      same_cons _ _ _ _ (λ b. refl) (same_cons _ _ _ _ (λ b. refl) (same_cons _ _ _ _ (λ b. refl)
       (same_append _ _ _ _ (whole_apart w a) (same_append _ _ _ _ (whole_apart w b)
       (same_append _ _ _ _ (carries_apart w carries.items)
-      (two_bare _ _ _ (all_apart (in_par w x carries.items reduces.items) body) (all_apart (in_par (bare w) x carries.items reduces.items) body))))))
+      (two_bare _ _ _ (all_apart (in_par w x carries.items reduces.items) body) (all_apart (in_par (bare w) x carries.items reduces.items) body)))))))
   stmt_apart w (Fold x e) = same_cons _ _ _ _ (λ b. refl) (whole_apart w e)
   stmt_apart w (Call x f) = same_cons _ _ _ _ (λ b. refl) (app_apart w f)
   stmt_apart w (Both x f y g) =
       same_cons _ _ _ _ (λ b. refl) (same_append _ _ _ _ (app_apart w f) (same_cons _ _ _ _ (λ b. refl) (same_cons _ _ _ _ (λ b. refl) (app_apart w g))))
   stmt_apart w (Print place e) = same_cons _ _ _ _ (λ b. refl) (whole_apart w e)
   stmt_apart w (Emit place t) = record { at = λ b. refl }
+  stmt_apart w (Leave x e) = same_cons _ _ _ _ (λ b. refl) (whole_apart w e)
+  stmt_apart w (Fill f t r es) = none
 
   all_apart : {m : _} (w : Spot) (row : Row_of-Stmt m) → Same (in_all w row) (in_all (bare w) row)
   all_apart w end_of-Stmt = none

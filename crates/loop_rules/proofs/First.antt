@@ -6,7 +6,7 @@ use Rattle.loop_rules.specs.declared.rule.Rule.{Rule}
 use Rattle.loop_rules.specs.declared.rule.Rule.TheVariants.{Names, OuterVariables, Reductions}
 use Rattle.loop_rules.specs.declared.rule.Rule.TheVariants.{TableWrites, TableReads, CarryLists}
 use Rattle.loop_rules.specs.declared.rule.Rule.TheVariants.{Functions, ReadingCalls, Output}
-use Rattle.loop_rules.specs.declared.rule.Rule.TheVariants.{LoopVariables, Limits}
+use Rattle.loop_rules.specs.declared.rule.Rule.TheVariants.{LoopVariables, Limits, Leaves}
 use Rattle.loop_rules.specs.declared.fault.Fault.{Fault}
 use Rattle.loop_rules.specs.Broken.{BreaksAt, Broken}
 use Rattle.loop_rules.specs.Resolving.{IsFirstBroken}
@@ -31,6 +31,7 @@ module _ (p : Program) (s : Site) where
   at_site TableReads q u h = absurd u
   at_site CarryLists q u h = absurd u
   at_site ReadingCalls q u h = absurd u
+  at_site Leaves q u h = absurd u
 
   abbrev Breaks : Rule → Place → Type 0
   Breaks r q = IsOfResolve r × BreaksAt p r s q

@@ -14,14 +14,14 @@ use Rattle.loop_syntax.specs.declared.statement.Stmt.TheFolds.{fold-ParLoop, fol
 use Rattle.loop_syntax.specs.declared.statement.Stmt.TheFolds.{fold-roll-ParLoop}
 use Rattle.loop_syntax.specs.declared.statement.Stmt.TheVariants.{Let, Set, Put, If', While', Loop'}
 use Rattle.loop_syntax.specs.declared.statement.Stmt.TheVariants.{Par', Fold, Call, Both, Print}
-use Rattle.loop_syntax.specs.declared.statement.Stmt.TheVariants.{Emit}
+use Rattle.loop_syntax.specs.declared.statement.Stmt.TheVariants.{Emit, Leave, Fill}
 use Rattle.loop_syntax.specs.declared.statement.Stmt.TheBlock.{shown-the_row-Stmt-0}
 use Rattle.loop_syntax.specs.declared.Stmt.{items_shown-the_row-Stmt-0}
 use Rattle.loop_syntax.specs.declared.statement.ParLoop.{ParLoop, roll-ParLoop}
 use Rattle.loop_syntax.specs.Tree.{spelled, tree_of, app_of, carry_of, reduce_of, Node, NLet, NSet}
 use Rattle.loop_syntax.specs.Tree.{NPut, NIf, NWhile, NLoop, NPar, NFold, NCall, NBoth, NPrint}
-use Rattle.loop_syntax.specs.Tree.{NEmit, Nodes, Last, Then, ParHead, stmt_step, par_step, nodes}
-use Rattle.loop_syntax.specs.Tree.{node_of, nodes_of}
+use Rattle.loop_syntax.specs.Tree.{NEmit, NLeave, NFill, Nodes, Last, Then, ParHead, stmt_step}
+use Rattle.loop_syntax.specs.Tree.{par_step, nodes, node_of, nodes_of}
 
 abbrev pub node_step : Stmt → Node
 node_step s = stmt_step (map-Stmt Stmt (layers.ParLoop-F Stmt (Unit {0})) Node (ParHead × Nodes) node_of (fold-ParLoop Node (ParHead × Nodes) stmt_step par_step) (out-Stmt s))
@@ -48,6 +48,8 @@ node_rows (Call x f) = NCall (spelled x) (app_of f)
 node_rows (Both x f y g) = NBoth (spelled x) (app_of f) (spelled y) (app_of g)
 node_rows (Print place e) = NPrint place (tree_of e)
 node_rows (Emit place t) = NEmit place (spelled t)
+node_rows (Leave x e) = NLeave (spelled x) (tree_of e)
+node_rows (Fill f t r es) = NFill (spelled f) (spelled t) (spelled r) (map tree_of es.items)
 
 par_rows : (l : layers.ParLoop-F Stmt ParLoop) → fold-ParLoop Node (ParHead × Nodes) stmt_step par_step (roll-ParLoop l)
     ≡ (record { place = l.place; var = spelled l.var; from = tree_of l.from; to = tree_of l.to; carry_place = l.carry_place; carries = map carry_of l.carries.items; reduces = map reduce_of l.reduces.items }, nodes_of l.body.items)
@@ -73,6 +75,8 @@ step_rows (Call x f) = refl
 step_rows (Both x f y g) = refl
 step_rows (Print place e) = refl
 step_rows (Emit place t) = refl
+step_rows (Leave x e) = refl
+step_rows (Fill f t r es) = refl
 
 pub rows_of : (s : Stmt) → node_of s ≡ node_rows s
 rows_of s = node_of-step s ∙ step_rows s

@@ -13,7 +13,7 @@ use Rattle.loop_syntax.specs.declared.statement.Stmt.{Stmt, Row_of-Stmt, end_of-
 use Rattle.loop_syntax.specs.declared.statement.Stmt.TheViews.{out-Stmt}
 use Rattle.loop_syntax.specs.declared.statement.Stmt.TheVariants.{Let, Set, Put, If', While', Loop'}
 use Rattle.loop_syntax.specs.declared.statement.Stmt.TheVariants.{Par', Fold, Call, Both, Print}
-use Rattle.loop_syntax.specs.declared.statement.Stmt.TheVariants.{Emit}
+use Rattle.loop_syntax.specs.declared.statement.Stmt.TheVariants.{Emit, Leave, Fill}
 use Rattle.loop_syntax.specs.declared.program.Func.{Func}
 use Rattle.loop_syntax.specs.declared.program.TableDecl.{TableDecl}
 use Rattle.loop_syntax.specs.declared.program.TableDecl.TheVariants.{Input, Made}
@@ -62,6 +62,8 @@ mutual
   vars_step (Both x f y g) = refl
   vars_step (Print place e) = refl
   vars_step (Emit place t) = refl
+  vars_step (Leave x e) = refl
+  vars_step (Fill f t r es) = refl
 
   vars_row : {m : _} (row : Row_of-Stmt m) → map spelled (declared_all row) ≡ vars_in (row_nodes row)
   vars_row end_of-Stmt = refl

@@ -10,8 +10,8 @@ use Rattle.tp_value.specs.declared.limits.TheConstants.{MAX_REDUCTIONS, MAX_CARR
 use Rattle.loop_syntax.specs.Tree.{Spelled, Tree, TInt, TVar, TCell, TRows, TCols, TNeg, TBin, RVar}
 use Rattle.loop_syntax.specs.Tree.{RInt, CarryTree, CRows, CCells, ReduceTree, AppTree, ParHead}
 use Rattle.loop_syntax.specs.Tree.{Node, NLet, NSet, NPut, NIf, NWhile, NLoop, NPar, NFold, NCall}
-use Rattle.loop_syntax.specs.Tree.{NBoth, NPrint, NEmit, Nodes, Last, Then, TableTree, TInput}
-use Rattle.loop_syntax.specs.Tree.{TMade, FuncTree, ProgramTree}
+use Rattle.loop_syntax.specs.Tree.{NBoth, NPrint, NEmit, NLeave, NFill, Nodes, Last, Then}
+use Rattle.loop_syntax.specs.Tree.{TableTree, TInput, TMade, FuncTree, ProgramTree}
 use Rattle.loop_rules.specs.declared.rule.Rule.TheVariants.{Names, Functions, Output, LoopVariables}
 use Rattle.loop_rules.specs.declared.rule.Rule.TheVariants.{Limits}
 use Rattle.loop_rules.specs.declared.fault.Fault.{Fault}
@@ -198,6 +198,8 @@ abbrev mutual
   low_node v b (NBoth x f y g) = low_app v (low_both (low_assigns v (low_app v (low_assigns v b x) f) y) x y) g
   low_node v b (NPrint p e) = low_whole v (low_shows v b p) e
   low_node v b (NEmit p t) = low_table v (low_shows v b p) t
+  low_node v b (NLeave x e) = low_whole v (low_uses v b x) e
+  low_node v b (NFill f t r es) = b
 
   pub low_nodes : TreeSpot → Option Fault → Nodes → Option Fault
   low_nodes v b Last = b
@@ -221,6 +223,8 @@ abbrev mutual
   vars_of (NBoth x f y g) = []
   vars_of (NPrint p e) = []
   vars_of (NEmit p t) = []
+  vars_of (NLeave x e) = []
+  vars_of (NFill f t r es) = []
 
   pub vars_in : Nodes → List Spelled
   vars_in Last = []

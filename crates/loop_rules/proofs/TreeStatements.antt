@@ -7,20 +7,23 @@ use Rattle.loop_syntax.specs.declared.statement.Stmt.{Stmt, Row_of-Stmt, end_of-
 use Rattle.loop_syntax.specs.declared.statement.Stmt.TheViews.{out-Stmt}
 use Rattle.loop_syntax.specs.declared.statement.Stmt.TheVariants.{Let, Set, Put, If', While', Loop'}
 use Rattle.loop_syntax.specs.declared.statement.Stmt.TheVariants.{Par', Fold, Call, Both, Print}
-use Rattle.loop_syntax.specs.declared.statement.Stmt.TheVariants.{Emit}
+use Rattle.loop_syntax.specs.declared.statement.Stmt.TheVariants.{Emit, Leave, Fill}
 use Rattle.loop_syntax.specs.Tree.{spelled, tree_of, app_of, carry_of, reduce_of, ParHead, Node}
 use Rattle.loop_syntax.specs.Tree.{Nodes, node_of, nodes_of}
 use Rattle.loop_rules.specs.declared.fault.Fault.{Fault}
 use Rattle.loop_rules.specs.Declarations.{declared_in, declared_all, declared_list}
 use Rattle.loop_rules.specs.Search.{lowest_at, lowest_in, resolved_rules}
 use Rattle.loop_rules.specs.Sites.{Site, Spot, site, the_loop, Assigns, Folds, AssignsBoth}
-use Rattle.loop_rules.specs.Sites.{Declares, NamesTable, WritesCell, Shows, Parallel, in_whole}
+use Rattle.loop_rules.specs.Sites.{Declares, NamesTable, WritesCell, Shows, Parallel, Leaves}
+use Rattle.loop_rules.specs.Sites.{LeavesAll, in_whole}
 use Rattle.loop_rules.specs.Sites.{in_app, in_carries, in_stmt, in_all, in_list, in_loop, in_par}
 use Rattle.loop_rules.specs.Sites.{spot_after, spot_of_list}
+use Rattle.loop_rules.specs.Targets.{targets_all}
 use Rattle.loop_rules.proofs.TreeParts.{spot_tree, chain, first, table_low, whole_low, app_low}
 use Rattle.loop_rules.proofs.TreeParts.{carries_low, declares_low, par_low}
 use Rattle.loop_rules.proofs.TreeNodes.{node_rows, rows_of, row_nodes}
-use Rattle.loop_rules.proofs.TreeRules.{TreeSpot, low_table, low_whole, low_app, low_carries}
+use Rattle.loop_rules.proofs.TreeRules.{TreeSpot, low_uses, low_table, low_whole, low_app}
+use Rattle.loop_rules.proofs.TreeRules.{low_carries}
 use Rattle.loop_rules.proofs.TreeRules.{low_par, low_declares, low_assigns, low_both, low_put}
 use Rattle.loop_rules.proofs.TreeRules.{low_shows, behind, behind_all, low_node, low_nodes}
 use Rattle.loop_rules.proofs.TreeRules.{with_loop, with_par}
@@ -40,6 +43,8 @@ after_step w (Call x f) = refl
 after_step w (Both x f y g) = refl
 after_step w (Print place e) = refl
 after_step w (Emit place t) = refl
+after_step w (Leave x e) = refl
+after_step w (Fill f t r es) = refl
 
 pub after_low : (w : Spot) (s : Stmt) → spot_tree (spot_after w s) ≡ behind (spot_tree w) (node_of s)
 after_low w s = after_step w s ∙ ap (behind (spot_tree w)) (sym (rows_of s))
@@ -87,12 +92,14 @@ mutual
       let three = low_whole (spot_tree w) two (tree_of c) in
       let four = low_carries (spot_tree w) three (map carry_of carries.items) in
       let five = low_nodes (with_par (spot_tree w) (spelled x)) four (row_nodes body) in
-      first b zero five par (site w (Declares x) ∷ in_whole w a ++ (in_whole w c ++ (in_carries w carries.items ++ in_all v body)))
+      let left = site w (LeavesAll (targets_all body)) in
+      first b zero five par (left ∷ site w (Declares x) ∷ in_whole w a ++ (in_whole w c ++ (in_carries w carries.items ++ in_all v body)))
       (par_low w b place carry_place x (tree_of a) (tree_of c) carries.items reduces.items)
+      (first zero zero five left (site w (Declares x) ∷ in_whole w a ++ (in_whole w c ++ (in_carries w carries.items ++ in_all v body))) refl
       (first zero one five (site w (Declares x)) (in_whole w a ++ (in_whole w c ++ (in_carries w carries.items ++ in_all v body))) (declares_low w zero x)
       (chain one two five (in_whole w a) (in_whole w c ++ (in_carries w carries.items ++ in_all v body)) (whole_low w one a)
       (chain two three five (in_whole w c) (in_carries w carries.items ++ in_all v body) (whole_low w two c)
-      (chain three four five (in_carries w carries.items) (in_all v body) (carries_low w carries.items three) (row_low v four body)))))
+      (chain three four five (in_carries w carries.items) (in_all v body) (carries_low w carries.items three) (row_low v four body))))))
   step_low w b (Fold x e) = first b _ _ (site w (Folds x)) (in_whole w e) refl (whole_low w (low_assigns (spot_tree w) b (spelled x)) e)
   step_low w b (Call x f) = first b _ _ (site w (Assigns x)) (in_app w f) refl (app_low w (low_assigns (spot_tree w) b (spelled x)) f)
   step_low w b (Both x f y g) =
@@ -108,6 +115,8 @@ mutual
   step_low w b (Print place e) = first b _ _ (site w (Shows place)) (in_whole w e) refl (whole_low w (low_shows (spot_tree w) b place) e)
   step_low w b (Emit place t) =
       first b (low_shows (spot_tree w) b place) _ (site w (Shows place)) (site w (NamesTable t) ∷ []) refl (table_low w (low_shows (spot_tree w) b place) t)
+  step_low w b (Leave x e) = first b _ _ (site w (Leaves x)) (in_whole w e) refl (whole_low w (low_uses (spot_tree w) b (spelled x)) e)
+  step_low w b (Fill f t r es) = refl
 
   row_low : {m : _} (w : Spot) (b : Option Fault) (row : Row_of-Stmt m) → lowest_in resolved_rules b (in_all w row) ≡ low_nodes (spot_tree w) b (row_nodes row)
   row_low w b end_of-Stmt = refl

@@ -15,9 +15,10 @@ use Rattle.loop_syntax.specs.declared.Stmt.TheBlock.{hidden-the_row-Stmt-0}
 use Rattle.loop_syntax.specs.declared.Stmt.TheVariants.{Let, Put, If, While, Loop, Par, Both}
 use Rattle.loop_rules.specs.declared.fault.Fault.{Fault}
 use Rattle.loop_rules.specs.Sites.{Site, Spot, site, Declares, Assigns, AssignsBoth, NamesTable}
-use Rattle.loop_rules.specs.Sites.{WritesCell, Parallel, in_whole, in_app, in_carries, in_stmt}
-use Rattle.loop_rules.specs.Sites.{in_all, in_list, in_loop, in_par, the_loop, spot_after}
+use Rattle.loop_rules.specs.Sites.{WritesCell, Parallel, LeavesAll, in_whole, in_app, in_carries}
+use Rattle.loop_rules.specs.Sites.{in_stmt, in_all, in_list, in_loop, in_par, the_loop, spot_after}
 use Rattle.loop_rules.specs.Sites.{spot_of_list}
+use Rattle.loop_rules.specs.Targets.{targets_in, targets_all, targets_list}
 use Rattle.loop_rules.specs.Search.{Asked, lowest_at, lowest_in, resolved_rules}
 use Rattle.loop_rules.proofs.Apart.{bare, rounds_apart}
 use Rattle.loop_rules.proofs.Searching.{lowest_in_append}
@@ -58,6 +59,13 @@ pub rows_list : {m : _} (w : Spot) (row : Row_of-Stmt m) → in_all w row ≡ in
 rows_list w end_of-Stmt = refl
 rows_list w (more_of-Stmt b rest) = ap (λ r. in_stmt w b ++ r) (rows_list (spot_after w b) rest)
 
+pub rows_targets : {m : _} (row : Row_of-Stmt m) → targets_all row ≡ targets_list (items-the_row-Stmt _ row)
+rows_targets end_of-Stmt = refl
+rows_targets (more_of-Stmt b rest) = ap (λ r. targets_in b ++ r) (rows_targets rest)
+
+pub vec_targets : (v : Vec Stmt Global) → targets_all (hidden-the_row-Stmt-0 v) ≡ targets_list v.items
+vec_targets v = rows_targets (hidden-the_row-Stmt-0 v) ∙ ap targets_list (items_hidden-the_row-Stmt-0 v)
+
 pub vec_list : (w : Spot) (v : Vec Stmt Global) → in_all w (hidden-the_row-Stmt-0 v) ≡ in_list w v.items
 vec_list w v = rows_list w (hidden-the_row-Stmt-0 v) ∙ ap (in_list w) (items_hidden-the_row-Stmt-0 v)
 
@@ -76,12 +84,15 @@ in_looped w x a b body =
 
 pub in_parallel : (w : Spot) (l : ParLoop) → in_stmt w (Par l)
     ≡ site w (Parallel l.place l.carry_place (the_loop w l.var l.carries.items l.reduces.items))
+    ∷ site w (LeavesAll (targets_list l.body.items))
     ∷ ((site w (Declares l.var) ∷ in_whole w l.from ++ in_whole w l.to) ++ (in_carries w l.carries.items ++ in_list (in_par w l.var l.carries.items l.reduces.items) l.body.items))
 in_parallel w l =
     let p = site w (Parallel l.place l.carry_place (the_loop w l.var l.carries.items l.reduces.items)) in
     let v = in_par w l.var l.carries.items l.reduces.items in
-    ap (λ r. p ∷ site w (Declares l.var) ∷ in_whole w l.from ++ (in_whole w l.to ++ (in_carries w l.carries.items ++ r))) (vec_list v l.body)
-    ∙ ap (λ r. p ∷ site w (Declares l.var) ∷ r) (sym (append_assoc (in_whole w l.from) (in_whole w l.to) (in_carries w l.carries.items ++ in_list v l.body.items)))
+    let q = site w (LeavesAll (targets_list l.body.items)) in
+    ap (λ ts. p ∷ site w (LeavesAll ts) ∷ site w (Declares l.var) ∷ in_whole w l.from ++ (in_whole w l.to ++ (in_carries w l.carries.items ++ in_all v (hidden-the_row-Stmt-0 l.body)))) (vec_targets l.body)
+    ∙ ap (λ r. p ∷ q ∷ site w (Declares l.var) ∷ in_whole w l.from ++ (in_whole w l.to ++ (in_carries w l.carries.items ++ r))) (vec_list v l.body)
+    ∙ ap (λ r. p ∷ q ∷ site w (Declares l.var) ∷ r) (sym (append_assoc (in_whole w l.from) (in_whole w l.to) (in_carries w l.carries.items ++ in_list v l.body.items)))
 
 -- ---- a list of statements
 
@@ -165,6 +176,8 @@ par_found w l f0 f1 f2 f3 f4 p q r u =
     let bounds : List Site = site w (Declares l.var) ∷ in_whole w l.from ++ in_whole w l.to in
     let carried : List Site = in_carries w l.carries.items in
     let body : List Site = in_list v l.body.items in
-    site_first resolved_rules f0 f1 f4 s (bounds ++ (carried ++ body)) p
-    (two_parts resolved_rules f1 f2 f4 bounds (carried ++ body) q (two_parts resolved_rules f2 f3 f4 carried body r (u ∙ sym (rounds_apart f3 v l.body.items))))
+    let left : Site = site w (LeavesAll (targets_list l.body.items)) in
+    site_first resolved_rules f0 f1 f4 s (left ∷ (bounds ++ (carried ++ body))) p
+    (site_first resolved_rules f1 f1 f4 left (bounds ++ (carried ++ body)) refl
+    (two_parts resolved_rules f1 f2 f4 bounds (carried ++ body) q (two_parts resolved_rules f2 f3 f4 carried body r (u ∙ sym (rounds_apart f3 v l.body.items)))))
     ∙ ap (lowest_in resolved_rules f0) (sym (in_parallel w l))

@@ -6,7 +6,7 @@ use Rattle.loop_rules.specs.declared.rule.Rule.{Rule}
 use Rattle.loop_rules.specs.declared.rule.Rule.TheVariants.{Names, OuterVariables, Reductions}
 use Rattle.loop_rules.specs.declared.rule.Rule.TheVariants.{TableWrites, TableReads, CarryLists}
 use Rattle.loop_rules.specs.declared.rule.Rule.TheVariants.{Functions, ReadingCalls, Output}
-use Rattle.loop_rules.specs.declared.rule.Rule.TheVariants.{LoopVariables, Limits}
+use Rattle.loop_rules.specs.declared.rule.Rule.TheVariants.{LoopVariables, Limits, Leaves}
 use Rattle.loop_rules.specs.Sites.{Site, sites}
 use Rattle.loop_rules.specs.Scopes.{misnamed, loop_variable_set}
 use Rattle.loop_rules.specs.Limits.{over_limits}
@@ -14,6 +14,7 @@ use Rattle.loop_rules.specs.Keeps.{unfit_for_functions, shown_in_par}
 use Rattle.loop_rules.specs.Reductions.{outer_set, misreduced}
 use Rattle.loop_rules.specs.Carries.{miswritten, misread, miscarried}
 use Rattle.loop_rules.specs.Reading.{CallsReader}
+use Rattle.loop_rules.specs.Leaves.{misleft}
 
 -- what stands at that site breaks the rule at that place
 abbrev pub BreaksAt : Program → Rule → Site → Place → Type 0
@@ -28,6 +29,7 @@ BreaksAt program ReadingCalls site place = CallsReader program site place
 BreaksAt program Output site place = Contains (shown_in_par site.act site.spot) place
 BreaksAt program LoopVariables site place = Contains (loop_variable_set site.act site.spot) place
 BreaksAt program Limits site place = Contains (over_limits site.act site.spot) place
+BreaksAt program Leaves site place = Contains (misleft site.act site.spot) place
 
 pub record Broken (program : Program) (rule : Rule) (place : Place) : Type 0 where
   pub where_at : Site

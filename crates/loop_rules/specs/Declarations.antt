@@ -3,7 +3,7 @@ use Rattle.std.specs.Prelude.{List, [], ◌∷◌, ◌++◌}
 use Rattle.loop_syntax.specs.declared.Name.{Name}
 use Rattle.loop_syntax.specs.declared.Stmt.{Stmt, Row_of-Stmt, end_of-Stmt, more_of-Stmt}
 use Rattle.loop_syntax.specs.declared.Stmt.TheVariants.{Let, Set, Put, If', While', Loop', Par'}
-use Rattle.loop_syntax.specs.declared.Stmt.TheVariants.{Fold, Call, Both, Print, Emit}
+use Rattle.loop_syntax.specs.declared.Stmt.TheVariants.{Fold, Call, Both, Print, Emit, Leave, Fill}
 use Rattle.loop_syntax.specs.declared.TableDecl.{TableDecl}
 pub use Rattle.loop_syntax.specs.Naming.{table_of_decl}
 
@@ -28,6 +28,8 @@ abbrev mutual
   declared_in (Both first first_call second second_call) = []
   declared_in (Print place value) = []
   declared_in (Emit place table) = []
+  declared_in (Leave target value) = []
+  declared_in (Fill callee table row_variable arguments) = []
 
   pub declared_all : {m : _} → Row_of-Stmt m → List Name
   declared_all end_of-Stmt = []

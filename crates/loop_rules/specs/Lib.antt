@@ -4,6 +4,8 @@
 pub mod Names
 -- Declarations: the tables and the variables that are declared, in order
 pub mod Declarations
+-- Targets: the targets of the `leave` statements of a `par`, in order
+pub mod Targets
 -- Sites: each place of a program that a rule speaks of, with what is round it
 pub mod Sites
 -- Scopes: names and calls (C1), variables of loops (C10)
@@ -18,6 +20,8 @@ pub mod Reductions
 pub mod Carries
 -- Reading: calls to functions that read a carried table (C8)
 pub mod Reading
+-- Leaves: how a `par` may be left (C12)
+pub mod Leaves
 -- Rules: their numbers
 pub mod Rules
 -- Broken: where a program breaks a rule

@@ -7,7 +7,8 @@ use Rattle.tp_value.specs.declared.Op.{Op}
 use Rattle.tp_value.specs.declared.Op.TheVariants.{Add, Mul, Min, Max, Affine}
 use Rattle.loop_syntax.specs.declared.Reduce.{Reduce}
 use Rattle.loop_rules.specs.Names.{is_in, operator_of}
-use Rattle.loop_rules.specs.Sites.{Loop, Act, Declares, Uses, Assigns, Folds, Parallel, Spot}
+use Rattle.loop_rules.specs.Sites.{Loop, Act, Declares, Uses, Assigns, Folds, Parallel, Leaves}
+use Rattle.loop_rules.specs.Sites.{Spot}
 use Rattle.loop_rules.specs.Scopes.{at}
 
 abbrev pub any_loop : (Loop → Bool) → List Loop → Bool
@@ -73,6 +74,8 @@ misreduced (Uses variable) spot = at variable (any_loop (reduced variable.text.i
 misreduced (Assigns variable) spot =
     at variable (any_loop (reduced variable.text.items) spot.rounds)
 misreduced (Declares variable) spot =
+    at variable (any_loop (reduced variable.text.items) spot.rounds)
+misreduced (Leaves variable) spot =
     at variable (any_loop (reduced variable.text.items) spot.rounds)
 misreduced (Folds variable) spot =
     at variable (not (nearest_reduces spot.rounds variable.text.items))

@@ -8,7 +8,7 @@ use Rattle.loop_syntax.specs.declared.Reduce.{Reduce}
 use Rattle.loop_syntax.specs.declared.Func.{Func}
 use Rattle.loop_rules.specs.Names.{is_in, texts, func_names, first_named, func_of}
 use Rattle.loop_rules.specs.Sites.{Act, DeclaresTable, DeclaresFunc, Declares, Uses, Assigns, Folds}
-use Rattle.loop_rules.specs.Sites.{AssignsBoth, NamesTable, Calls, Parallel, Spot}
+use Rattle.loop_rules.specs.Sites.{AssignsBoth, NamesTable, Calls, Parallel, Leaves, Spot}
 
 -- the place of a name, where the test holds
 abbrev pub at : Name → Bool → List Place
@@ -59,6 +59,7 @@ misnamed (Declares name) spot = at name (is_visible spot name.text.items)
 misnamed (Uses name) spot = at name (not (is_in spot.scope name.text.items))
 misnamed (Assigns name) spot = at name (not (is_in spot.scope name.text.items))
 misnamed (Folds name) spot = at name (not (is_in spot.scope name.text.items))
+misnamed (Leaves name) spot = at name (not (is_in spot.scope name.text.items))
 misnamed (AssignsBoth name other) spot = at other (bytes_eq name.text.items other.text.items)
 misnamed (NamesTable table) spot = at table (not (is_in (texts spot.tables) table.text.items))
 misnamed (Calls func arguments) spot =

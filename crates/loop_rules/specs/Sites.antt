@@ -12,7 +12,7 @@ use Rattle.loop_syntax.specs.declared.Reduce.{Reduce}
 use Rattle.loop_syntax.specs.declared.App.{App}
 use Rattle.loop_syntax.specs.declared.Stmt.{Stmt, Row_of-Stmt, end_of-Stmt, more_of-Stmt}
 use Rattle.loop_syntax.specs.declared.Stmt.TheVariants.{Let, Set, Put, If', While', Loop', Par'}
-use Rattle.loop_syntax.specs.declared.Stmt.TheVariants.{Fold, Call, Both, Print, Emit}
+use Rattle.loop_syntax.specs.declared.Stmt.TheVariants.{Fold, Call, Both, Print, Emit, Leave, Fill}
 use Rattle.loop_syntax.specs.declared.Func.{Func}
 use Rattle.loop_syntax.specs.declared.TableDecl.{TableDecl}
 use Rattle.loop_syntax.specs.declared.TableDecl.TheVariants.{Input, Made}
@@ -21,6 +21,7 @@ use Rattle.loop_rules.specs.declared.part.Part.{Part}
 use Rattle.loop_rules.specs.declared.part.Part.TheVariants.{OfSize, OfFunc, OfMain}
 use Rattle.loop_rules.specs.Declarations.{declared_list, table_of_decl, tables_of_decls}
 use Rattle.loop_rules.specs.Names.{texts}
+use Rattle.loop_rules.specs.Targets.{targets_all}
 
 -- a `par`: the variables that are declared outside its body, and its own variable, carry list and
 -- reduce list
@@ -56,6 +57,9 @@ pub data Act : Type 0 where
   Shows : Place → Act
   -- a `par`, with its place and that of its word `carry`
   Parallel : Place → Place → Loop → Act
+  -- the target of a `leave`, and those of all whose nearest `par` stands here
+  Leaves : Name → Act
+  LeavesAll : List Name → Act
 
 -- the part of the program; the visible tables, functions and variables; those of the variables that
 -- are a loop's; the number of `par` loops round, and these loops, nearest first
@@ -157,6 +161,7 @@ abbrev mutual
       ++ (in_whole spot to ++ in_all (in_loop spot variable) body)
   in_stmt spot (Par' place variable from to carry_place carries reduces p body) =
       site spot (Parallel place carry_place (the_loop spot variable carries.items reduces.items))
+      ∷ site spot (LeavesAll (targets_all body))
       ∷ site spot (Declares variable)
       ∷ in_whole spot from
       ++ (in_whole spot to
@@ -170,6 +175,8 @@ abbrev mutual
       ∷ in_app spot second_call)
   in_stmt spot (Print place value) = site spot (Shows place) ∷ in_whole spot value
   in_stmt spot (Emit place table) = site spot (Shows place) ∷ site spot (NamesTable table) ∷ []
+  in_stmt spot (Leave target value) = site spot (Leaves target) ∷ in_whole spot value
+  in_stmt spot (Fill callee table row_variable arguments) = []
 
   pub in_all : {m : _} → Spot → Row_of-Stmt m → List Site
   in_all spot end_of-Stmt = []

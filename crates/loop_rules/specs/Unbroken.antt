@@ -5,7 +5,7 @@ use Rattle.loop_rules.specs.declared.rule.Rule.{Rule}
 use Rattle.loop_rules.specs.declared.rule.Rule.TheVariants.{Names, OuterVariables, Reductions}
 use Rattle.loop_rules.specs.declared.rule.Rule.TheVariants.{TableWrites, TableReads, CarryLists}
 use Rattle.loop_rules.specs.declared.rule.Rule.TheVariants.{Functions, ReadingCalls, Output}
-use Rattle.loop_rules.specs.declared.rule.Rule.TheVariants.{LoopVariables, Limits}
+use Rattle.loop_rules.specs.declared.rule.Rule.TheVariants.{LoopVariables, Limits, Leaves}
 use Rattle.loop_rules.specs.Broken.{Broken}
 
 -- whether `resolve` looks at a rule
@@ -21,6 +21,7 @@ IsOfResolve ReadingCalls = ⊥
 IsOfResolve Output = Unit {0}
 IsOfResolve LoopVariables = Unit {0}
 IsOfResolve Limits = Unit {0}
+IsOfResolve Leaves = ⊥
 
 -- none of these rules is broken anywhere
 pub record IsResolved (program : Program) : Type 0 where

@@ -38,6 +38,8 @@ fn push_declared<'a>(names: &mut Vec<&'a Name>, statement: &'a Stmt) -> Result<(
         Stmt::Both(_, _, _, _) => Ok(()),
         Stmt::Print(_, _) => Ok(()),
         Stmt::Emit(_, _) => Ok(()),
+        Stmt::Leave(_, _) => Ok(()),
+        Stmt::Fill { .. } => Ok(()),
     }
 }
 

@@ -28,10 +28,13 @@ pub enum Rule {
     LoopVariables,
     /// Counts and heights are within their limits.
     Limits,
+    /// A `par` that carries and reduces nothing is left with one variable, which is declared
+    /// outside its body and inside those round it.
+    Leaves,
 }
 
 impl Rule {
-    /// The number in the rule's printed name, from 1 to 11.
+    /// The number in the rule's printed name, from 1 to 12.
     pub fn number(self) -> u8
         ensures { result ≡ number_of self }
     {
@@ -47,6 +50,7 @@ impl Rule {
             Rule::Output => 9,
             Rule::LoopVariables => 10,
             Rule::Limits => 11,
+            Rule::Leaves => 12,
         }
     }
 }

@@ -8,11 +8,11 @@ ghost use Rattle.loop_rules.specs.Keeps.{in_function, carry_word, in_par_of_main
 ghost use Rattle.loop_rules.specs.Limits.{past};
 ghost use Rattle.loop_rules.specs.Sites.{site, spot_after, spot_of_list, in_stmt, in_list, in_loop};
 ghost use Rattle.loop_rules.specs.Sites.{in_whole, the_loop, Declares, Assigns, Folds, AssignsBoth};
-ghost use Rattle.loop_rules.specs.Sites.{WritesCell, Shows, Parallel};
+ghost use Rattle.loop_rules.specs.Sites.{WritesCell, Shows, Parallel, Leaves};
 ghost use Rattle.loop_rules.specs.Search.{lowest, lowest_at, lowest_in, resolved_rules};
 ghost use Rattle.loop_rules.specs.Walk.{spot_of, Walked};
 
-use crate::expression::{in_app, in_carries, in_whole, names_table};
+use crate::expression::{in_app, in_carries, in_whole, names_table, uses};
 use crate::fault::{Fault, note, note_if};
 use crate::part::Part;
 use crate::rule::Rule;
@@ -68,6 +68,14 @@ fn assigns_both(spot: &Spot, found: &mut Option<Fault>, first: &Name, second: &N
         first.text.as_slice() == second.text.as_slice(),
         second.place,
     );
+}
+
+// The target of a `leave` is used, to these rules.
+fn leaves(spot: &Spot, found: &mut Option<Fault>, target: &Name)
+    ensures { found.new
+        ≡ lowest_at resolved_rules found.old (site (spot_of spot.now) (Leaves target.now)) }
+{
+    uses(spot, found, target);
 }
 
 // A place that may not stand in a function.
@@ -311,6 +319,12 @@ fn in_stmt<'a>(
             names_table(spot, found, t);
             Ok(())
         }
+        Stmt::Leave(x, e) => {
+            leaves(spot, found, x);
+            in_whole(spot, found, e);
+            Ok(())
+        }
+        Stmt::Fill { .. } => Ok(()),
     }
 }
 
