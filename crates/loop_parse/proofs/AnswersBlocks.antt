@@ -4,8 +4,8 @@ use Rattle.std.proofs.Common.{false, if◌then◌else◌, refl, sym, ap, subst, 
 use Rattle.tp_value.specs.declared.values.Place.{Place}
 use Rattle.loop_syntax.specs.Tree.{Spelled, Tree, RowTree, RVar, RInt, CarryTree, CRows, CCells}
 use Rattle.loop_syntax.specs.Tree.{ReduceTree, AppTree, Node, NLet, NSet, NPut, NIf, NWhile, NLoop}
-use Rattle.loop_syntax.specs.Tree.{NPar, NFold, NCall, NBoth, NPrint, NEmit, Nodes, Last, nodes}
-use Rattle.loop_syntax.specs.Tree.{TInput, TMade}
+use Rattle.loop_syntax.specs.Tree.{NPar, NFold, NCall, NBoth, NPrint, NEmit, NLeave, Nodes, Last}
+use Rattle.loop_syntax.specs.Tree.{nodes, TInput, TMade}
 use Rattle.loop_parse.specs.declared.terminal.Fixed.{Fixed}
 use Rattle.loop_parse.specs.declared.terminal.Fixed.TheVariants as words
 use Rattle.loop_parse.specs.declared.terminal.Fixed.TheVariants.{Comma, OpenBrace, CloseBrace}
@@ -21,7 +21,7 @@ use Rattle.loop_parse.specs.Grammar.{ReduceList, AnApp, Args, MoreArgs, Makes, p
 use Rattle.loop_parse.specs.Grammar.{decls, input_decl, table_decl, fn_decl, block, no_stmt, stmts}
 use Rattle.loop_parse.specs.Grammar.{let_stmt, set_stmt, put_stmt, if_stmt, while_stmt, loop_stmt}
 use Rattle.loop_parse.specs.Grammar.{par_stmt, fold_stmt, call_stmt, both_stmt, print_stmt}
-use Rattle.loop_parse.specs.Grammar.{emit_stmt, no_other, other, no_carry, carries, no_more_carry}
+use Rattle.loop_parse.specs.Grammar.{emit_stmt, leave_stmt, no_other, other, no_carry, carries, no_more_carry}
 use Rattle.loop_parse.specs.Grammar.{more_carries, rows_item, cells_item, literal_item, app, no_arg}
 use Rattle.loop_parse.specs.Grammar.{args, no_more_arg, more_args, FitAll, next_item}
 use Rattle.loop_parse.specs.Reading.{Reply, Reader, Fault, Form, Deep, ◌>>=◌, tag, is_fixed, expect}
@@ -313,6 +313,10 @@ module _ (k : Limits) (L : Type 0) (base : BaseAnswers k L) (n : ℕ) (inner : �
   unfolding Reading.emit_rest
   emit_head {x = x} {ts = ts} {out = out} l (at_head t mid i eq q0 ps) = let less = ap length eq in subst (λ (u : Place). Answers L (Reading.stmt_of k inner level n ts) (NEmit u x) out) (sym q0) (head_word t i eq (name_then _ ps (λ m1 q1 p1. the_then words.Semi _ p1 (λ a2 m2 q2 p2. finished p2))))
 
+  leave_head : {x : Spelled} {e : Tree} {ts : List Token} {out : Out} → length ts ≤ suc n → TheHead words.Leave (AName x ∷ The words.Assign ∷ AnExpr e ∷ The words.Semi ∷ []) ts out → Answers L (Reading.stmt_of k inner level n ts) (NLeave x e) out
+  unfolding Reading.leave_rest
+  leave_head {ts = ts} {out = out} l (the_head t mid i eq ps) = let less = ap length eq in head_word t i eq (name_then _ ps (λ m1 q1 p1. the_then words.Assign _ p1 (λ a2 m2 q2 p2. expr_then base n _ (omega arith) p2 (λ mid zs. first_the ends zs refl) (λ m3 q3 p3. the_then words.Semi _ p3 (λ a4 m4 q4 p4. finished p4)))))
+
   while_head : {e : Tree} {b : Nodes} {ts : List Token} {out : Out} → length ts ≤ suc n → TheHead words.While (AnExpr e ∷ ABlock level b ∷ []) ts out → Answers L (Reading.stmt_of k inner level n ts) (NWhile e b) out
   while_head {ts = ts} {out = out} l (the_head t mid i eq ps) = let less = ap length eq in head_word t i eq (expr_then base n _ (omega arith) ps (λ mid zs. first_block ends zs refl) (λ m1 q1 p1. item_then _ p1 (λ o z g. block_open (omega arith) (open_part z refl)) (λ m2 q2 p2. finished p2)))
 
@@ -361,6 +365,7 @@ module _ (k : Limits) (L : Type 0) (base : BaseAnswers k L) (n : ℕ) (inner : �
   stmt_made l both_stmt ps f = both_head l (head_the ps)
   stmt_made l print_stmt ps f = print_head l (head_at ps)
   stmt_made l emit_stmt ps f = emit_head l (head_at ps)
+  stmt_made l leave_stmt ps f = leave_head l (head_the ps)
 
   stmt_open : {s : Node} {ts : List Token} {out : Out} → length ts ≤ suc n → Opened (AStmt level s) ts out → Follows (λ q. is_fixed words.Else q) out → Answers L (Reading.stmt_of k inner level n ts) s out
   stmt_open l (opened parts m ps) f = stmt_made l m ps f

@@ -7,7 +7,7 @@ use Rattle.loop_parse.specs.declared.terminal.Fixed.{Fixed}
 use Rattle.loop_parse.specs.declared.terminal.Fixed.TheVariants.{Input, Table, Fn, Return, Main}
 use Rattle.loop_parse.specs.declared.terminal.Fixed.TheVariants.{Let, If, Else, While, Loop, Par}
 use Rattle.loop_parse.specs.declared.terminal.Fixed.TheVariants.{Carry, Reduce, Fold, Call, Both}
-use Rattle.loop_parse.specs.declared.terminal.Fixed.TheVariants.{Print, Emit, Rows, Cols, Add}
+use Rattle.loop_parse.specs.declared.terminal.Fixed.TheVariants.{Print, Emit, Leave, Rows, Cols, Add}
 use Rattle.loop_parse.specs.declared.terminal.Fixed.TheVariants.{OpenRound, CloseRound, OpenBrace}
 use Rattle.loop_parse.specs.declared.terminal.Fixed.TheVariants.{CloseBrace, OpenSquare}
 use Rattle.loop_parse.specs.declared.terminal.Fixed.TheVariants.{CloseSquare, Comma, Semi, Assign}
@@ -261,6 +261,7 @@ closes_good st g (kinds.Spelling Call) new h = take_is _ new (Good st) h g
 closes_good st g (kinds.Spelling Both) new h = take_is _ new (Good st) h g
 closes_good st g (kinds.Spelling Print) new h = take_is _ new (Good st) h g
 closes_good st g (kinds.Spelling Emit) new h = take_is _ new (Good st) h g
+closes_good st g (kinds.Spelling Leave) new h = take_is _ new (Good st) h g
 closes_good st g (kinds.Spelling _) new h = cc
 
 decl_good : (st : List Symbol) → good (Decls ∷ st) ≡ true → (k : Kind) (new : List Symbol) → decl_move k (Decls ∷ []) ≡ Take new → Good st new

@@ -7,7 +7,8 @@ use Rattle.loop_parse.specs.declared.terminal.Fixed.{Fixed}
 use Rattle.loop_parse.specs.declared.terminal.Fixed.TheVariants.{Input, Table, Fn, Return, Let, If}
 use Rattle.loop_parse.specs.declared.terminal.Fixed.TheVariants.{Else, While, Loop, Par, In, Carry}
 use Rattle.loop_parse.specs.declared.terminal.Fixed.TheVariants.{Reduce, By, Fold, With, Call, Both}
-use Rattle.loop_parse.specs.declared.terminal.Fixed.TheVariants.{Print, Emit, Rows, Cols, OpenRound}
+use Rattle.loop_parse.specs.declared.terminal.Fixed.TheVariants.{Print, Emit, Leave, Rows, Cols}
+use Rattle.loop_parse.specs.declared.terminal.Fixed.TheVariants.{OpenRound}
 use Rattle.loop_parse.specs.declared.terminal.Fixed.TheVariants.{CloseRound, OpenBrace, CloseBrace}
 use Rattle.loop_parse.specs.declared.terminal.Fixed.TheVariants.{OpenSquare, CloseSquare, Comma}
 use Rattle.loop_parse.specs.declared.terminal.Fixed.TheVariants.{Semi, Assign, Minus, DotDot}
@@ -101,6 +102,7 @@ word_move Call more = Take (AName ∷ Want Assign ∷ an_app (Want Semi ∷ more
 word_move Both more = Take (AName ∷ Want Assign ∷ an_app (Want Comma ∷ AName ∷ Want Assign ∷ an_app (Want Semi ∷ more)))
 word_move Print more = Take (an_expr (Want Semi ∷ more))
 word_move Emit more = Take (AName ∷ Want Semi ∷ more)
+word_move Leave more = Take (AName ∷ Want Assign ∷ an_expr (Want Semi ∷ more))
 word_move _ more = Refuse
 
 abbrev pub stmt_move : Kind → List Symbol → Move

@@ -6,7 +6,7 @@ use Rattle.tp_value.specs.declared.values.Place.{Place}
 use Rattle.tp_value.specs.declared.values.Op.{Op}
 use Rattle.tp_value.specs.declared.values.Op.TheVariants as reducers
 use Rattle.loop_syntax.specs.Tree.{Spelled, Tree, RowTree, RVar, RInt, CarryTree, CRows, CCells}
-use Rattle.loop_syntax.specs.Tree.{ReduceTree, NLet, NSet, NPut, NFold, NCall, NBoth, NPrint}
+use Rattle.loop_syntax.specs.Tree.{ReduceTree, NLet, NSet, NPut, NFold, NCall, NBoth, NPrint, NLeave}
 use Rattle.loop_parse.specs.declared.terminal.Fixed.{Fixed}
 use Rattle.loop_parse.specs.declared.terminal.Fixed.TheVariants as words
 use Rattle.loop_parse.specs.declared.terminal.Fixed.TheVariants.{Comma, OpenBrace, CloseBrace}
@@ -18,7 +18,7 @@ use Rattle.loop_parse.specs.Grammar.{Item, The, At, AName, ALiteral, AnExpr, ABr
 use Rattle.loop_parse.specs.Grammar.{MoreNames, AStmt, CarryList, MoreCarries, ACarry, ReduceList}
 use Rattle.loop_parse.specs.Grammar.{MoreReduces, AReduce, AnOp, AnApp, Args, MoreArgs, no_param}
 use Rattle.loop_parse.specs.Grammar.{params, no_name, names, let_stmt, set_stmt, put_stmt}
-use Rattle.loop_parse.specs.Grammar.{fold_stmt, call_stmt, both_stmt, print_stmt, emit_stmt}
+use Rattle.loop_parse.specs.Grammar.{fold_stmt, call_stmt, both_stmt, print_stmt, emit_stmt, leave_stmt}
 use Rattle.loop_parse.specs.Grammar.{no_carry, carries, no_more_carry, more_carries, rows_item}
 use Rattle.loop_parse.specs.Grammar.{cells_item, literal_item, no_reduce, reduces, no_more_reduce}
 use Rattle.loop_parse.specs.Grammar.{more_reduces, red, add_op, mul_op, min_op, max_op, affine_op}
@@ -447,6 +447,15 @@ module _ (k : Limits) (L : Type 0) (base : Base k L) where
       bind (λ st. Want words.Semi ∷ st) _ (λ st. refl) (name_item ts) (λ x r1 z1 q1.
       bind (λ st. st) _ (λ st. refl) (the_law words.Semi r1) (λ p2 r2 z2 q2.
       done (by emit_stmt (at_place i ◂ z1 ◂ z2 ◂ none)) (omega arith) (λ st. refl)))
+
+  pub leave_law : (n level : ℕ) (t : Token) → Is words.Leave t → (ts : List Token) → length ts ≤ n → Ends (λ s rest. Fits (AStmt level s) (t ∷ ts) rest) (λ st. run (Naming ∷ Want words.Assign ∷ expr_on (Want words.Semi ∷ st)) ts) (λ us. L × Deeply (AStmt level) (t ∷ ts) us) (length (t ∷ ts)) (Reading.leave_rest k n ts)
+  unfolding Reading.leave_rest
+  leave_law n level t i ts l =
+      bind (λ st. Want words.Assign ∷ expr_on (Want words.Semi ∷ st)) _ (λ st. refl) (name_item ts) (λ x r1 z1 q1.
+      bind (λ st. expr_on (Want words.Semi ∷ st)) _ (λ st. refl) (the_law words.Assign r1) (λ p1 r2 z2 q2.
+      bind (λ st. Want words.Semi ∷ st) _ (λ st. refl) (deeper (λ us d. (d.0, (NLeave x d.1.0, under leave_stmt (the i ▸ z1 ▸ z2 ▸ now d.1.1)))) (base.expr_law n r2 (omega arith))) (λ e r3 z3 q3.
+      bind (λ st. st) _ (λ st. refl) (the_law words.Semi r3) (λ p2 r4 z4 q4.
+      done (by leave_stmt (the i ◂ z1 ◂ z2 ◂ z3 ◂ z4 ◂ none)) (omega arith) (λ st. refl)))))
 
   set_law : (n level : ℕ) (x : Spelled) (all : List Token) (t : Token) (ts : List Token) → Fits (AName x) all (t ∷ ts) → Is words.Assign t → length (t ∷ ts) ≤ n → length (t ∷ ts) < length all → Ends (λ s rest. Fits (AStmt level s) all rest) (λ st. run (expr_on (Want words.Semi ∷ st)) ts) (λ us. L × Deeply (AStmt level) all us) (length all) (Reading.set_rest k n x ts)
   unfolding Reading.set_rest

@@ -27,7 +27,7 @@ use Rattle.loop_parse.proofs.Exact.{Ends, done, stopped, bind, along, weaken, wi
 use Rattle.loop_parse.proofs.Exact.{refused, skipped}
 use Rattle.loop_parse.proofs.Sound.{Base, Listing, many_law, the_law, name_item, params_law}
 use Rattle.loop_parse.proofs.Sound.{let_law, fold_law, call_law, both_law, print_law, emit_law}
-use Rattle.loop_parse.proofs.Sound.{assign_law, carry_list_law, reduce_list_law}
+use Rattle.loop_parse.proofs.Sound.{leave_law, assign_law, carry_list_law, reduce_list_law}
 
 stmts_cons : (level : ℕ) (s : Node) (ss : List Node) (ts mid rest : List Token) → Fits (AStmt level s) ts mid → Fits (Stmts level ss) mid rest → Fits (Stmts level (s ∷ ss)) ts rest
 stmts_cons level s ss ts mid rest z zs = by stmts (z ◂ zs ◂ none)
@@ -46,6 +46,7 @@ stmts_takes t ts (kinds.Spelling words.Call) i h st = took Stating t ts _ (ap (�
 stmts_takes t ts (kinds.Spelling words.Both) i h st = took Stating t ts _ (ap (λ q. or_skip (stmt_move q (Stating ∷ []))) i) st ∙ sym (took Stmt t ts _ (ap (λ q. stmt_move q []) i) (Stating ∷ st))
 stmts_takes t ts (kinds.Spelling words.Print) i h st = took Stating t ts _ (ap (λ q. or_skip (stmt_move q (Stating ∷ []))) i) st ∙ sym (took Stmt t ts _ (ap (λ q. stmt_move q []) i) (Stating ∷ st))
 stmts_takes t ts (kinds.Spelling words.Emit) i h st = took Stating t ts _ (ap (λ q. or_skip (stmt_move q (Stating ∷ []))) i) st ∙ sym (took Stmt t ts _ (ap (λ q. stmt_move q []) i) (Stating ∷ st))
+stmts_takes t ts (kinds.Spelling words.Leave) i h st = took Stating t ts _ (ap (λ q. or_skip (stmt_move q (Stating ∷ []))) i) st ∙ sym (took Stmt t ts _ (ap (λ q. stmt_move q []) i) (Stating ∷ st))
 stmts_takes t ts (kinds.Spelling _) i h st = cc
 
 stmts_skip : (k : Kind) → Reading.begins_stmt k ≡ false → step Stating k ≡ Skip
@@ -61,6 +62,7 @@ stmts_skip (kinds.Spelling words.Call) h = cc
 stmts_skip (kinds.Spelling words.Both) h = cc
 stmts_skip (kinds.Spelling words.Print) h = cc
 stmts_skip (kinds.Spelling words.Emit) h = cc
+stmts_skip (kinds.Spelling words.Leave) h = cc
 stmts_skip (kinds.Spelling _) h = refl
 
 stmts_listing : (L : Type 0) (level : ℕ) → Listing (Stmts level) (λ s ts mid. Fits (AStmt level s) ts mid) L (λ ts us. L × Deeply (AStmt level) ts us) Reading.begins_stmt Stating (λ st. Stmt ∷ st)
@@ -138,6 +140,7 @@ module _ (k : Limits) (L : Type 0) (base : Base k L) (n : ℕ) (inner : ℕ → 
   by_law t ts (kinds.Spelling words.Both) i l = along (took Stmt t ts _ (ap (λ q. stmt_move q []) i)) (both_law k L base n level t i ts l)
   by_law t ts (kinds.Spelling words.Print) i l = along (took Stmt t ts _ (ap (λ q. stmt_move q []) i)) (print_law k L base n level t i ts l)
   by_law t ts (kinds.Spelling words.Emit) i l = along (took Stmt t ts _ (ap (λ q. stmt_move q []) i)) (emit_law k L base n level t i ts l)
+  by_law t ts (kinds.Spelling words.Leave) i l = along (took Stmt t ts _ (ap (λ q. stmt_move q []) i)) (leave_law k L base n level t i ts l)
   by_law t ts (kinds.Spelling words.If) i l = along (took Stmt t ts _ (ap (λ q. stmt_move q []) i)) (if_law t i ts l)
   by_law t ts (kinds.Spelling words.While) i l = along (took Stmt t ts _ (ap (λ q. stmt_move q []) i)) (while_law t i ts l)
   by_law t ts (kinds.Spelling words.Loop) i l = along (took Stmt t ts _ (ap (λ q. stmt_move q []) i)) (loop_law t i ts l)

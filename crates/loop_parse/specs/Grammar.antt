@@ -6,14 +6,14 @@ use Rattle.tp_value.specs.declared.values.Op.{Op}
 use Rattle.tp_value.specs.declared.values.Op.TheVariants as reducers
 use Rattle.loop_syntax.specs.Tree.{Spelled, Tree, RVar, RInt, CarryTree, CRows, CCells, ReduceTree}
 use Rattle.loop_syntax.specs.Tree.{AppTree, Node, NLet, NSet, NPut, NIf, NWhile, NLoop, NPar, NFold}
-use Rattle.loop_syntax.specs.Tree.{NCall, NBoth, NPrint, NEmit, Nodes, nodes, TableTree, TInput}
-use Rattle.loop_syntax.specs.Tree.{TMade, FuncTree, ProgramTree}
+use Rattle.loop_syntax.specs.Tree.{NCall, NBoth, NPrint, NEmit, NLeave, Nodes, nodes, TableTree}
+use Rattle.loop_syntax.specs.Tree.{TInput, TMade, FuncTree, ProgramTree}
 use Rattle.loop_parse.specs.declared.terminal.Fixed.{Fixed}
 use Rattle.loop_parse.specs.declared.terminal.Fixed.TheVariants.{Input, Table, Fn, Return, Main}
 use Rattle.loop_parse.specs.declared.terminal.Fixed.TheVariants.{Let, If, Else, While, Loop, Par}
 use Rattle.loop_parse.specs.declared.terminal.Fixed.TheVariants.{In, Carry, Reduce, By, Fold, With}
 use Rattle.loop_parse.specs.declared.terminal.Fixed.TheVariants.{Call, Both, Print, Emit, Add, Mul}
-use Rattle.loop_parse.specs.declared.terminal.Fixed.TheVariants.{Min, Max, Affine, OpenRound}
+use Rattle.loop_parse.specs.declared.terminal.Fixed.TheVariants.{Min, Max, Affine, Leave, OpenRound}
 use Rattle.loop_parse.specs.declared.terminal.Fixed.TheVariants.{CloseRound, OpenBrace, CloseBrace}
 use Rattle.loop_parse.specs.declared.terminal.Fixed.TheVariants.{OpenSquare, CloseSquare, Comma}
 use Rattle.loop_parse.specs.declared.terminal.Fixed.TheVariants.{Semi, Assign, DotDot}
@@ -142,6 +142,9 @@ pub data Makes : Item → List Item → Type 0 where
       Makes (AStmt l (NPrint p e)) (At Print p ∷ AnExpr e ∷ The Semi ∷ [])
   emit_stmt : {l : ℕ} {p : Place} {x : Spelled} →
       Makes (AStmt l (NEmit p x)) (At Emit p ∷ AName x ∷ The Semi ∷ [])
+  -- | "leave" name "=" expr ";"
+  leave_stmt : {l : ℕ} {x : Spelled} {e : Tree} →
+      Makes (AStmt l (NLeave x e)) (The Leave ∷ AName x ∷ The Assign ∷ AnExpr e ∷ The Semi ∷ [])
   no_other : {l : ℕ} → Makes (Other l (nodes [])) []
   other : {l : ℕ} {b : Nodes} → Makes (Other l b) (The Else ∷ ABlock l b ∷ [])
   no_carry : {p q : Place} → q ≡ p → Makes (CarryList p q []) []

@@ -12,8 +12,8 @@ use Rattle.loop_syntax.specs.declared.expression.BinOp.{BinOp}
 use Rattle.loop_syntax.specs.Tree.{Spelled, Tree, TInt, TVar, TCell, TRows, TCols, TNeg, TBin}
 use Rattle.loop_syntax.specs.Tree.{RowTree, RVar, RInt, CarryTree, CRows, CCells, ReduceTree}
 use Rattle.loop_syntax.specs.Tree.{AppTree, Node, NLet, NSet, NPut, NIf, NWhile, NLoop, NPar, NFold}
-use Rattle.loop_syntax.specs.Tree.{NCall, NBoth, NPrint, NEmit, Nodes, Last, nodes, TInput, TMade}
-use Rattle.loop_syntax.specs.Tree.{ProgramTree}
+use Rattle.loop_syntax.specs.Tree.{NCall, NBoth, NPrint, NEmit, NLeave, Nodes, Last, nodes, TInput}
+use Rattle.loop_syntax.specs.Tree.{TMade, ProgramTree}
 use Rattle.loop_parse.specs.declared.terminal.Fixed.{Fixed}
 use Rattle.loop_parse.specs.declared.terminal.Fixed.TheVariants.{Input, Table, Fn, Return, Main}
 use Rattle.loop_parse.specs.declared.terminal.Fixed.TheVariants.{Let, If, Else, While, Loop, Par}
@@ -414,6 +414,14 @@ emit_rest p ts = do
   s ← expect Semi x.1
   Ok (NEmit p x.0, s.1)
 
+unfoldable pub leave_rest : Limits → ℕ → Reader Node
+leave_rest k n ts = do
+  x ← name ts
+  q ← expect Assign x.1
+  e ← k.outermost n q.1
+  s ← expect Semi e.1
+  Ok (NLeave x.0 e.0, s.1)
+
 -- the row of a carry item
 abbrev pub row_at : Kind → Token → Reader RowTree
 row_at (Name x) t ts = Ok (RVar (record { text = x; place = t.place }), ts)
@@ -575,6 +583,7 @@ stmt_at k inner level n Call t ts = call_rest k n ts
 stmt_at k inner level n Both t ts = both_rest k n ts
 stmt_at k inner level n Print t ts = print_rest k n t.place ts
 stmt_at k inner level n Emit t ts = emit_rest t.place ts
+stmt_at k inner level n Leave t ts = leave_rest k n ts
 stmt_at k inner level n _ t ts = Err (Form (t ∷ ts))
 
 abbrev pub stmt_by : Limits → (ℕ → Reader (List Node)) → ℕ → ℕ → Kind → Token → Reader Node
@@ -597,6 +606,7 @@ is_first_word Call = true
 is_first_word Both = true
 is_first_word Print = true
 is_first_word Emit = true
+is_first_word Leave = true
 is_first_word _ = false
 
 -- whether a statement begins with the token

@@ -6,7 +6,7 @@ ghost use Rattle.loop_syntax.specs.Tree.{spelled, tree_of, app_of, node_of, NSet
 ghost use Rattle.loop_parse.specs.Terms.{saw, seen};
 ghost use Rattle.loop_parse.specs.Reading.{Gives, let_rest, set_rest, put_rest, assign_rest};
 ghost use Rattle.loop_parse.specs.Reading.{fold_rest, call_rest, both_rest, print_rest, emit_rest};
-ghost use Rattle.loop_parse.specs.Reading.{within};
+ghost use Rattle.loop_parse.specs.Reading.{leave_rest, within};
 
 use crate::expression::outer;
 use crate::lists::app;
@@ -203,4 +203,24 @@ pub(crate) fn emit_rest<'a>(
     let (table, rest) = name(alloc, source, tokens)?;
     let (_semi, rest) = expect(source, rest, Fixed::Semi)?;
     Ok((Stmt::Emit(place, table), rest))
+}
+
+/// What stands after `leave`.
+#[tactic(auto, unfolding(crate::specs::Reading::leave_rest))]
+pub(crate) fn leave_rest<'a>(
+    alloc: Global,
+    source: &[u8],
+    tokens: &'a [Lexeme],
+) -> Result<(Stmt, &'a [Lexeme]), Unparsed<'a>>
+    ensures reads { (n : ℕ) → length (seen source.now tokens.now) ≤ n →
+        Gives source.now (λ x. (node_of x.0, seen source.now x.1.now)) result
+        (leave_rest within n (seen source.now tokens.now)) }
+    ensures shorter { IfOk result (λ x.
+        length (seen source.now x.1.now) < length (seen source.now tokens.now)) }
+{
+    let (target, rest) = name(alloc, source, tokens)?;
+    let (_assign, rest) = expect(source, rest, Fixed::Assign)?;
+    let (value, rest) = outer(alloc, source, rest)?;
+    let (_semi, rest) = expect(source, rest, Fixed::Semi)?;
+    Ok((Stmt::Leave(target, value), rest))
 }

@@ -13,7 +13,7 @@ use crate::expression::outer;
 use crate::parallel::{carry_list, reduce_list};
 use crate::reader::{Unparsed, begins_with, expect, name, name_of, next};
 use crate::simple::{
-    assign_rest, both_rest, call_rest, emit_rest, fold_rest, let_rest, print_rest,
+    assign_rest, both_rest, call_rest, emit_rest, fold_rest, leave_rest, let_rest, print_rest,
 };
 use crate::terminal::{Fixed, Lexeme, Terminal};
 use loop_syntax::{Expr, Name, ParLoop, Stmt};
@@ -131,7 +131,8 @@ fn begins_with_token(source: &[u8], token: Lexeme) -> bool
             | Fixed::Call
             | Fixed::Both
             | Fixed::Print
-            | Fixed::Emit,
+            | Fixed::Emit
+            | Fixed::Leave,
         ) => true,
         _ => false,
     }
@@ -175,6 +176,7 @@ fn statement<'a>(
         Terminal::Fixed(Fixed::Both) => both_rest(alloc, source, after),
         Terminal::Fixed(Fixed::Print) => print_rest(alloc, source, first.place, after),
         Terminal::Fixed(Fixed::Emit) => emit_rest(alloc, source, first.place, after),
+        Terminal::Fixed(Fixed::Leave) => leave_rest(alloc, source, after),
         _ => Err(Unparsed::Form(tokens)),
     }
 }
