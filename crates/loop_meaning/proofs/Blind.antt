@@ -3,7 +3,7 @@ use Rattle.std.proofs.Common.{◌≡◌, ℕ, zero, suc, ℤ, List, [], Option, 
 use Rattle.std.proofs.Common.{nat_lt, refl, ap, ◌∙◌}
 use Rattle.tp_value.specs.declared.Place.{Place}
 use Rattle.tp_value.specs.declared.Stop.{Stop}
-use Rattle.tp_value.specs.declared.Stop.TheVariants.{Done, Trap, NoFuel}
+use Rattle.tp_value.specs.declared.Stop.TheVariants.{Done, Left, Trap, NoFuel}
 use Rattle.tp_value.specs.declared.TrapKind.TheVariants.{Deep}
 use Rattle.loop_syntax.specs.declared.Func.{Func}
 use Rattle.loop_rules.specs.Names.{func_of}
@@ -27,6 +27,7 @@ tick_vars fuel s vs = go (nat_lt s.ticks fuel) refl
 on_vars : (r : Ran) (go : State → Called) (vs : List Variable) → ((u : State) → go (record u { vars = vs }) ≡ leaving vs (go u)) → (x : Stop) → call_on x (with_vars vs r) go ≡ leaving vs (call_on x r go)
 unfolding with_vars
 on_vars r go vs h Done = ap {A = Called} {B = Called} (λ c. record { value = c.value; ran = noted r.notes c.ran }) (h r.state)
+on_vars r go vs h (Left n) = refl
 on_vars r go vs h (Trap k p) = refl
 on_vars r go vs h NoFuel = refl
 

@@ -1,26 +1,32 @@
 -- How calls end.
 use Rattle.std.proofs.Common.{◌≡◌, ℕ, zero, suc, ◌≤◌, ℤ, List, [], ◌∷◌, Option, Some, None, refl}
-use Rattle.std.proofs.Common.{sym, ap, subst, drop, length}
+use Rattle.std.proofs.Common.{sym, ap, subst, drop, length, ◌<◌, ◌++◌, get_or, drop-cons}
+use Rattle.std.proofs.Common.{append_assoc, ◌+◌, ◌∙◌, arith}
+use mathlib.Core.Path.{fun_ext}
 use Rattle.std.proofs.Math.ListN.{drop_of_length-le}
 use Rattle.tp_value.specs.declared.TrapKind.TheVariants.{Deep}
 use Rattle.tp_value.specs.declared.Place.{Place}
 use Rattle.tp_value.specs.declared.Stop.{Stop}
-use Rattle.tp_value.specs.declared.Stop.TheVariants.{Done, Trap, NoFuel}
+use Rattle.tp_value.specs.declared.Stop.TheVariants.{Done, Left, Trap, NoFuel}
 use Rattle.loop_syntax.specs.declared.Func.{Func}
 use Rattle.loop_syntax.specs.declared.Name.{Name}
+use Rattle.loop_syntax.specs.declared.Expr.{Expr}
+use Rattle.loop_meaning.specs.declared.value.Answer.TheVariants.{Number}
+use Rattle.loop_meaning.specs.Expressions.{eval}
 use Rattle.loop_meaning.specs.State.{State, Note, Ran, done, after, go_on, tick, noted, trapped}
-use Rattle.loop_meaning.specs.Statements.{Setting, Called, given, run_list, two_calls, with_call}
+use Rattle.loop_meaning.specs.Statements.{Setting, Called, given, given_all, run_list, two_calls, with_call}
 use Rattle.loop_meaning.specs.Statements.{set_var}
 use Rattle.loop_meaning.specs.Calls.{call_at, call_on, no_value, enter, bound}
 use Rattle.loop_rules.specs.Names.{func_of}
 use Rattle.loop_meaning.specs.Ends.{Ends, EndAlike, CallEnds}
-use Rattle.loop_meaning.proofs.Runs.{alike_refl, alike_trans, after_alike}
+use Rattle.loop_meaning.proofs.Runs.{alike_refl, alike_trans, after_alike, given_number}
 
 call_ended : (c : Called) (r : Ran) (x : Stop) (v : ℤ) (s : State) → c ≡ no_value r → Ends r x s → (x ≡ Done → ⊥) → CallEnds c x v s
 call_ended c r x v s e f d = rw e (record { ran = f; value = λ h. absurd (d h) })
 
 on_stop : (r : Ran) (x : Stop) (go : State → Called) → (x ≡ Done → ⊥) → call_on x r go ≡ no_value r
 on_stop r Done go d = absurd (d refl)
+on_stop r (Left n) go d = refl
 on_stop r (Trap k p) go d = refl
 on_stop r NoFuel go d = refl
 
@@ -51,6 +57,7 @@ pub record CallAlike (c d : Called) : Type 0 where
 
 noted_after : (b : List Note) (r : Ran) (x : Stop) (go : State → Ran) → EndAlike (go_on x (noted b r) go) (go_on x r go)
 noted_after b r Done go = record { stop = refl; state = refl }
+noted_after b r (Left n) go = record { stop = refl; state = refl }
 noted_after b r (Trap k p) go = record { stop = refl; state = refl }
 noted_after b r NoFuel go = record { stop = refl; state = refl }
 
@@ -64,6 +71,7 @@ enter_notes k (Some f) ns b s =
 
 on_alike : (x : Stop) (r : Ran) (f g : State → Called) → ((s : State) → CallAlike (f s) (g s)) → CallAlike (call_on x r f) (call_on x r g)
 on_alike Done r f g h = record { ran = record { stop = (h r.state).ran.stop; state = (h r.state).ran.state }; value = (h r.state).value }
+on_alike (Left n) r f g h = record { ran = alike_refl _; value = refl }
 on_alike (Trap k p) r f g h = record { ran = alike_refl _; value = refl }
 on_alike NoFuel r f g h = record { ran = alike_refl _; value = refl }
 
@@ -87,3 +95,17 @@ bound_nil (x ∷ xs) = refl
 
 pub bound_end : (xs : List Name) (ns : List ℤ) (i : ℕ) → length ns ≤ i → bound (drop i xs) (drop i ns) ≡ []
 bound_end xs ns i h = rw (drop_of_length-le ns h) (bound_nil (drop i xs))
+
+-- ---- arguments
+
+-- the arguments from the one at i on, where that has a number
+module _ (es : List Expr) (i : ℕ) (e : Expr) (s : State) (n : ℤ) (lt : i < length es) (is : e ≡ get_or es i e) (h : (eval s.vars s.tables e).answer ≡ Number n) where
+  first_given : (go : List ℤ → Ran) → EndAlike (given_all (drop i es) s go) (given_all (drop (suc i) es) s (λ ns. go (n ∷ ns)))
+  first_given go = rw (drop-cons es i e lt, ← is) (given_number e s n _ h)
+
+  -- behind those before it
+  pub next_given : (ms more : List ℤ) (go : List ℤ → Ran) → more ≡ ms ++ n ∷ [] → EndAlike (given_all (drop i es) s (λ ns. go (ms ++ ns))) (given_all (drop (i + 1) es) s (λ ns. go (more ++ ns)))
+  next_given ms more go q =
+      let k : i + 1 ≡ suc i = omega arith in
+      let next : (ns : List ℤ) → go (ms ++ n ∷ ns) ≡ go (more ++ ns) = λ ns. ap go (sym (append_assoc ms (n ∷ []) ns) ∙ ap (λ l. l ++ ns) (sym q)) in
+      rw k (subst (λ f. EndAlike (given_all (drop i es) s (λ ns. go (ms ++ ns))) (given_all (drop (suc i) es) s f)) (fun_ext next) (first_given (λ ns. go (ms ++ ns))))

@@ -1,4 +1,5 @@
 pub mod Runs  -- how the ends of runs compose
+pub mod Caught  -- the end of a `par` of which an iteration is left
 pub mod Found  -- what a search from the front finds
 pub mod Wrap  -- quotients that are brought into 64 bits
 pub mod Weights  -- a measure for the evaluator: calls that may still be opened, and depth
@@ -17,6 +18,7 @@ pub mod Twins  -- two runs, over tables that are seen alike, one with more befor
 pub mod TwinCalls  -- such runs of statements and of calls
 pub mod Traces  -- what every run does to tables and output, from what one note tells
 pub mod Telling  -- the notes tell all that a run does to tables
+pub mod OnlyLeaves  -- what is never left
 pub mod Blind  -- a call sees no variables of its caller, and leaves them
 pub mod TreeMeanings  -- the run of a program, its meaning and its chances, by its tree alone
 pub mod Parallels  -- the `par` loops of a `par`

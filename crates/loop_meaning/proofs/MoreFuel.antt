@@ -8,14 +8,14 @@ use Rattle.std.proofs.lemmas.Bool.Decides.{nat_tests}
 use Rattle.tp_value.specs.declared.limits.TheConstants.{MAX_CALL_DEPTH}
 use Rattle.tp_value.specs.declared.Place.{Place}
 use Rattle.tp_value.specs.declared.Stop.{Stop}
-use Rattle.tp_value.specs.declared.Stop.TheVariants.{Done, Trap, NoFuel}
+use Rattle.tp_value.specs.declared.Stop.TheVariants.{Done, Left, Trap, NoFuel}
 use Rattle.tp_value.specs.declared.Table.{Table}
 use Rattle.loop_syntax.specs.declared.Expr.{Expr}
 use Rattle.loop_syntax.specs.declared.Name.{Name}
 use Rattle.loop_syntax.specs.declared.Reduce.{Reduce}
 use Rattle.loop_syntax.specs.declared.Stmt.{Stmt, Row_of-Stmt, end_of-Stmt, more_of-Stmt}
 use Rattle.loop_syntax.specs.declared.Stmt.TheVariants.{Let, Set, Put, If', While', Loop', Par'}
-use Rattle.loop_syntax.specs.declared.Stmt.TheVariants.{Fold, Call, Both, Print, Emit}
+use Rattle.loop_syntax.specs.declared.Stmt.TheVariants.{Fold, Call, Both, Print, Emit, Leave, Fill}
 use Rattle.loop_syntax.specs.declared.Func.{Func}
 use Rattle.loop_syntax.specs.declared.Program.{Program}
 use Rattle.loop_rules.specs.Names.{func_of}
@@ -24,6 +24,7 @@ use Rattle.loop_meaning.specs.declared.value.Answer.TheVariants.{Number, Traps}
 use Rattle.loop_meaning.specs.State.{declare, State, Note, Chance, Ran, done, noted, after, go_on}
 use Rattle.loop_meaning.specs.State.{tick, leave_block}
 use Rattle.loop_meaning.specs.Expressions.{eval}
+use Rattle.loop_meaning.specs.Leaving.{left_in, caught_by, caught}
 use Rattle.loop_meaning.specs.Statements.{Setting, Called, given, given_answer, given_two}
 use Rattle.loop_meaning.specs.Statements.{given_all, choose, block, turns, iteration, iterate}
 use Rattle.loop_meaning.specs.Statements.{too_wide, unless_wide, with_call, set_var, two_calls, run}
@@ -55,8 +56,12 @@ same_after r q f g h k = record { same = go r.stop refl }
     go : (x : Stop) → r.stop ≡ x → ((go_on x r f).stop ≡ NoFuel → ⊥) → after q g ≡ go_on x r f
     go Done e d =
         ap (λ z. after z g) (h.same (λ z. let c : Done ≡ NoFuel = sym e ∙ z in cc)) ∙ ap (λ x. go_on x r g) e ∙ ap (noted r.notes) ((k r.state).same d)
+    go (Left n) e d = ap (λ z. after z g) (h.same d) ∙ ap (λ x. go_on x r g) e
     go (Trap a p) e d = ap (λ z. after z g) (h.same d) ∙ ap (λ x. go_on x r g) e
     go NoFuel e d = absurd (d e)
+
+same_caught : (target : Option (List ℕ)) (r q : Ran) → Same r q → Same (caught target r) (caught target q)
+same_caught target r q h = record { same = λ d. ap (caught target) (h.same (λ e. d (ap (λ x. (caught_by x target r).stop) e ∙ e))) }
 
 same_given : (e : Expr) (s : State) (f g : ℤ → Ran) → ((n : ℤ) → Same (f n) (g n)) → Same (given e s f) (given e s g)
 same_given e s f g h = go (eval s.vars s.tables e).answer (eval s.vars s.tables e).notes
@@ -92,6 +97,7 @@ same_with_call c d f g h k = record { same = go c.ran.stop refl }
     go Done e n =
         ap (λ z. with_call z g) (h.same (λ z. let q : Done ≡ NoFuel = sym e ∙ z in cc)) ∙ ap (λ x. go_on x c.ran (g c.value)) e
         ∙ ap (noted c.ran.notes) ((k c.value c.ran.state).same n)
+    go (Left m) e n = ap (λ z. with_call z g) (h.same n) ∙ ap (λ x. go_on x c.ran (g c.value)) e
     go (Trap a p) e n = ap (λ z. with_call z g) (h.same n) ∙ ap (λ x. go_on x c.ran (g c.value)) e
     go NoFuel e n = absurd (n e)
 
@@ -159,8 +165,8 @@ module _ (fuel enough : ℕ) (at_least : fuel ≤ enough) where
       same_stmt rs (Loop' x a b p body) s =
           same_two a b s _ _ (λ i j. same_iterate (int_gap i j) x.text.items (run_all (under rs) body) (run_all (over rs) body) [] [] i (same_all rs body) s)
       same_stmt rs (Par' place x a b carry_place carries reduces p body) s =
-          same_two a b s _ _ (λ i j. same_wide (too_wide i j) place _ _ s
-          (same_iterate (int_gap i j) x.text.items (run_all (under reduces.items) body) (run_all (over reduces.items) body) (Chance ∷ []) [] i (same_all reduces.items body) s))
+          same_two a b s _ _ (λ i j. same_wide (too_wide i j) place _ _ s (same_caught (left_in body) _ _
+          (same_iterate (int_gap i j) x.text.items (run_all (under reduces.items) body) (run_all (over reduces.items) body) (Chance ∷ []) [] i (same_all reduces.items body) s)))
       same_stmt rs (Fold x e) s = same_refl _
       same_stmt rs (Call x f) s =
           same_args f.args.items s _ _ (λ ns. same_with_call _ _ (λ v t. done (set_var x v t)) (λ v t. done (set_var x v t)) (calls f.callee.text.items f.callee.place ns [] s) (λ v t. same_refl _))
@@ -168,6 +174,8 @@ module _ (fuel enough : ℕ) (at_least : fuel ≤ enough) where
           same_args f.args.items s _ _ (λ ns. same_args g.args.items s _ _ (λ ms. same_two_calls rs x f.callee ns y g.callee ms (Chance ∷ []) s))
       same_stmt rs (Print place e) s = same_refl _
       same_stmt rs (Emit place t) s = same_refl _
+      same_stmt rs (Leave x e) s = same_refl _
+      same_stmt rs (Fill f t r es) s = same_refl _
 
       same_all : {m : _} (rs : List Reduce) (row : Row_of-Stmt m) → SameRuns (run_all (under rs) row) (run_all (over rs) row)
       same_all rs end_of-Stmt s = same_refl _

@@ -15,11 +15,12 @@ use native.Mathlib.Decide.{dec_lt}
 use Rattle.tp_value.specs.Number.{truth}
 use Rattle.tp_value.specs.declared.limits.TheConstants.{MAX_TABLE_CELLS}
 use Rattle.tp_value.specs.declared.Place.{Place}
-use Rattle.tp_value.specs.declared.TrapKind.TheVariants.{Deep}
+use Rattle.tp_value.specs.declared.TrapKind.{TrapKind}
+use Rattle.tp_value.specs.declared.TrapKind.TheVariants.{Deep, Size, Wide}
 use Rattle.tp_value.specs.declared.Table.{Table}
 use Rattle.tp_value.specs.declared.Op.{Op}
 use Rattle.tp_value.specs.declared.Stop.{Stop}
-use Rattle.tp_value.specs.declared.Stop.TheVariants.{Done, Trap, NoFuel}
+use Rattle.tp_value.specs.declared.Stop.TheVariants.{Done, Left, Trap, NoFuel}
 use Rattle.loop_syntax.specs.declared.Name.{Name}
 use Rattle.loop_syntax.specs.declared.BinOp.{BinOp}
 use Rattle.loop_syntax.specs.declared.BinOp.TheVariants as op
@@ -28,7 +29,7 @@ use Rattle.loop_syntax.specs.declared.Expr.TheVariants.{Int, Var, Cell', Rows, C
 use Rattle.loop_syntax.specs.declared.Reduce.{Reduce}
 use Rattle.loop_syntax.specs.declared.Stmt.{Stmt, Row_of-Stmt, end_of-Stmt, more_of-Stmt}
 use Rattle.loop_syntax.specs.declared.Stmt.TheVariants.{Let, Set, Put, If', While', Loop', Par'}
-use Rattle.loop_syntax.specs.declared.Stmt.TheVariants.{Fold, Call, Both, Print, Emit}
+use Rattle.loop_syntax.specs.declared.Stmt.TheVariants.{Fold, Call, Both, Print, Emit, Leave, Fill}
 use Rattle.loop_syntax.specs.declared.Func.{Func}
 use Rattle.loop_syntax.specs.declared.TableDecl.{TableDecl}
 use Rattle.loop_syntax.specs.declared.TableDecl.TheVariants.{Input, Made}
@@ -42,13 +43,14 @@ use Rattle.loop_meaning.specs.declared.value.Variable.{Variable}
 use Rattle.loop_meaning.specs.State.{lookup, assign, declare, table_of, has_cell, cell_of}
 use Rattle.loop_meaning.specs.State.{cell_number, with_cell, write_cell, print_line, print_table}
 use Rattle.loop_meaning.specs.State.{State, Note, Emits, Chance, Ran, done, trapped, noted, after}
-use Rattle.loop_meaning.specs.State.{go_on, tick, leave_block}
+use Rattle.loop_meaning.specs.State.{left_with, go_on, tick, leave_block}
 use Rattle.loop_meaning.specs.Expressions.{Value, eval, bind, bind_answer, read_cell, calculated}
 use Rattle.loop_meaning.specs.Expressions.{divided}
 use Rattle.loop_meaning.specs.Statements.{Setting, Called, given, given_answer, given_two}
 use Rattle.loop_meaning.specs.Statements.{given_all, set_var, folded, put_cell, choose, block}
 use Rattle.loop_meaning.specs.Statements.{turns, iteration, iterate, too_wide, unless_wide}
 use Rattle.loop_meaning.specs.Statements.{with_call, two_calls, run, run_all, run_list}
+use Rattle.loop_meaning.specs.Leaving.{left_in, caught_by, caught}
 use Rattle.loop_meaning.specs.Calls.{bound, number_in, enter, no_value, call_on, call_at, setting}
 use Rattle.loop_meaning.specs.Meaning.{input_cells, is_bad_size, is_too_large, zero_table}
 use Rattle.loop_meaning.specs.Meaning.{add_table, unless_large, make_tables, first_state, whole_run}
@@ -169,36 +171,74 @@ value_in s h e l n q = subst AnswerInRange q (eval_in s h e l)
 
 -- ---- runs, however they stop
 
-record Holds (act : State → Ran) : Type 0 where
-  pub leaves : (s : State) → StateInRange s → StateInRange (act s).state
+-- the number that an iteration is left with is in range: its `par` sets a variable to it
+abbrev LeftInRange : Stop → Type 0
+LeftInRange (Left n) = InRange n
+LeftInRange _ = ⊤
 
-in_after : (r : Ran) (go : State → Ran) → StateInRange r.state → Holds go → StateInRange (after r go).state
+record RanInRange (r : Ran) : Type 0 where
+  pub state : StateInRange r.state
+  pub left : LeftInRange r.stop
+
+record Holds (act : State → Ran) : Type 0 where
+  pub leaves : (s : State) → StateInRange s → RanInRange (act s)
+
+in_noted : (ns : List Note) (r : Ran) → RanInRange r → RanInRange (noted ns r)
+in_noted ns r h = record { state = h.state; left = h.left }
+
+in_after : (r : Ran) (go : State → Ran) → RanInRange r → Holds go → RanInRange (after r go)
 in_after r go h g = f r.stop
   where
-    f : (x : Stop) → StateInRange (go_on x r go).state
-    f Done = g.leaves r.state h
+    f : (x : Stop) → RanInRange (go_on x r go)
+    f Done = in_noted r.notes (go r.state) (g.leaves r.state h.state)
+    f (Left n) = h
     f (Trap k p) = h
     f NoFuel = h
 
 holds_seq : (a b : State → Ran) → Holds a → Holds b → Holds (λ s. after (a s) b)
 holds_seq a b p q = record { leaves = λ s h. in_after (a s) b (p.leaves s h) q }
 
+in_caught : (target : Option (List ℕ)) (r : Ran) → RanInRange r → RanInRange (caught target r)
+in_caught target r h = f r.stop h.left target
+  where
+    f : (x : Stop) → LeftInRange x → (target : Option (List ℕ)) → RanInRange (caught_by x target r)
+    f (Left n) l (Some y) = record { state = record { vars = assign_in_range r.state.vars y n l h.state.vars; tables = h.state.tables }; left = tt }
+    f (Left n) l None = record { state = h.state; left = tt }
+    f Done l target = h
+    f (Trap k p) l target = h
+    f NoFuel l target = h
+
+holds_caught : (target : Option (List ℕ)) (act : State → Ran) → Holds act → Holds (λ s. caught target (act s))
+holds_caught target act p = record { leaves = λ s h. in_caught target (act s) (p.leaves s h) }
+
 -- runs that leave variables and tables as they are
-holds_still : (act : State → Ran) → ((s : State) → (act s).state.vars ≡ s.vars) → ((s : State) → (act s).state.tables ≡ s.tables) → Holds act
-holds_still act v t = record { leaves = λ s h. record { vars = subst (All VariableInRange) (sym (v s)) h.vars; tables = subst (All TableInRange) (sym (t s)) h.tables } }
+holds_still : (act : State → Ran) → ((s : State) → (act s).stop ≡ Done) → ((s : State) → (act s).state.vars ≡ s.vars) → ((s : State) → (act s).state.tables ≡ s.tables) → Holds act
+holds_still act d v t = record {
+  leaves = λ s h.
+      record {
+        state = record { vars = subst (All VariableInRange) (sym (v s)) h.vars; tables = subst (All TableInRange) (sym (t s)) h.tables };
+        left = subst LeftInRange (sym (d s)) tt;
+      };
+}
 
 holds_vars : (f : List Variable → List Variable) → ((vs : List Variable) → All VariableInRange vs → All VariableInRange (f vs)) → Holds (λ s. done (record s { vars = f s.vars }))
-holds_vars f g = record { leaves = λ s h. record { vars = g s.vars h.vars; tables = h.tables } }
+holds_vars f g = record { leaves = λ s h. record { state = record { vars = g s.vars h.vars; tables = h.tables }; left = tt } }
 
 holds_done : Holds done
-holds_done = record { leaves = λ s h. h }
+holds_done = record { leaves = λ s h. record { state = h; left = tt } }
+
+holds_trapped : (k : TrapKind) (p : Place) → Holds (trapped k p)
+holds_trapped k p = record { leaves = λ s h. record { state = h; left = tt } }
+
+holds_left : (n : ℤ) → InRange n → Holds (left_with n)
+holds_left n f = record { leaves = λ s h. record { state = h; left = f } }
 
 holds_given : (e : Expr) (f : ℤ → State → Ran) → ExprInRange e → ((n : ℤ) → InRange n → Holds (f n)) → Holds (λ s. given e s (λ n. f n s))
 holds_given e f l p = record { leaves = λ s h. go s h (eval s.vars s.tables e).answer (eval s.vars s.tables e).notes (eval_in s h e l) }
   where
-    go : (s : State) → StateInRange s → (a : Answer) (ns : List Note) → AnswerInRange a → StateInRange (given_answer a ns s (λ n. f n s)).state
-    go s h (Number n) ns q = (p n q).leaves s h
-    go s h (Traps k x) ns q = h
+    go : (s : State) → StateInRange s → (a : Answer) (ns : List Note) → AnswerInRange a → RanInRange (given_answer a ns s (λ n. f n s))
+    go s h (Number n) ns q = in_noted ns (f n s) ((p n q).leaves s h)
+    go s h (Traps k x) ns q = record { state = h; left = tt }
 
 holds_two : (a b : Expr) (f : ℤ → ℤ → State → Ran) → ExprInRange a → ExprInRange b → ((m n : ℤ) → InRange m → InRange n → Holds (f m n)) → Holds (λ s. given_two a b s (λ m n. f m n s))
 holds_two a b f l m p = holds_given a (λ i s. given b s (λ j. f i j s)) l (λ i h. holds_given b (f i) m (λ j k. p i j h k))
@@ -215,17 +255,21 @@ holds_choose (pos (suc n)) a b p q = p
 holds_choose (negsuc n) a b p q = p
 
 holds_leave : (a : State → Ran) → Holds a → Holds (λ s. leave_block (length s.vars) (a s))
-holds_leave a p = record { leaves = λ s h. let q = p.leaves s h in record { vars = All-take VariableInRange (length s.vars) (a s).state.vars q.vars; tables = q.tables } }
+holds_leave a p = record {
+  leaves = λ s h.
+      let q = p.leaves s h in
+      record { state = record { vars = All-take VariableInRange (length s.vars) (a s).state.vars q.state.vars; tables = q.state.tables }; left = q.left };
+}
 
 holds_put : (t : Name) (i j n : ℤ) → InRange n → Holds (put_cell t i j n)
 holds_put t i j n f = record { leaves = λ s h. go s h (has_cell (table_of s.tables t.text.items) i j) refl }
   where
-    go : (s : State) → StateInRange s → (b : Bool) → has_cell (table_of s.tables t.text.items) i j ≡ b → StateInRange (put_cell t i j n s).state
-    go s h true e = rw (e, put_cell) (record { vars = h.vars; tables = write_in s.tables t.text.items i j n f h.tables })
-    go s h false e = rw (e, put_cell) h
+    go : (s : State) → StateInRange s → (b : Bool) → has_cell (table_of s.tables t.text.items) i j ≡ b → RanInRange (put_cell t i j n s)
+    go s h true e = rw (e, put_cell) (record { state = record { vars = h.vars; tables = write_in s.tables t.text.items i j n f h.tables }; left = tt })
+    go s h false e = rw (e, put_cell) (record { state = h; left = tt })
 
 holds_wide : (b : Bool) (p : Place) (f : State → Ran) → Holds f → Holds (unless_wide b p f)
-holds_wide true p f q = record { leaves = λ s h. h }
+holds_wide true p f q = holds_trapped Wide p
 holds_wide false p f q = q
 
 gap_in : (i j : ℤ) → InRange i → InRange j → InRange (i +ℤ pos (int_gap i j))
@@ -238,13 +282,13 @@ module _ (fuel : ℕ) where
   holds_tick : Holds (tick fuel)
   holds_tick = record { leaves = λ s h. go s h (nat_lt s.ticks fuel) refl }
     where
-      go : (s : State) → StateInRange s → (b : Bool) → nat_lt s.ticks fuel ≡ b → StateInRange (tick fuel s).state
-      go s h true e = rw e (record { vars = h.vars; tables = h.tables })
-      go s h false e = rw e (record { vars = h.vars; tables = h.tables })
+      go : (s : State) → StateInRange s → (b : Bool) → nat_lt s.ticks fuel ≡ b → RanInRange (tick fuel s)
+      go s h true e = rw e (record { state = record { vars = h.vars; tables = h.tables }; left = tt })
+      go s h false e = rw e (record { state = record { vars = h.vars; tables = h.tables }; left = tt })
 
   holds_turns : (n : ℕ) (e : Expr) (body : State → Ran) → ExprInRange e → Holds body → Holds (turns n fuel e body)
   unfolding turns
-  holds_turns zero e body l p = record { leaves = λ s h. h }
+  holds_turns zero e body l p = record { leaves = λ s h. record { state = h; left = tt } }
   holds_turns (suc n) e body l p =
       holds_given e (λ v. choose v (λ t. after (after (tick fuel t) body) (turns n fuel e body)) done) l
       (λ v h. holds_choose v _ done (holds_seq (λ t. after (tick fuel t) body) (turns n fuel e body) (holds_seq (tick fuel) body holds_tick p) (holds_turns n e body l p)) holds_done)
@@ -253,7 +297,11 @@ module _ (fuel : ℕ) where
   holds_iteration x body ns i f p =
       holds_leave (λ s. after (tick fuel s) (λ t. noted ns (body (record t { vars = declare t.vars x i }))))
       (holds_seq (tick fuel) (λ t. noted ns (body (record t { vars = declare t.vars x i }))) holds_tick
-      (record { leaves = λ s h. p.leaves (record s { vars = declare s.vars x i }) (record { vars = declare_in s.vars x i f h.vars; tables = h.tables }) }))
+      (record {
+        leaves = λ s h.
+            in_noted ns (body (record s { vars = declare s.vars x i }))
+            (p.leaves (record s { vars = declare s.vars x i }) (record { vars = declare_in s.vars x i f h.vars; tables = h.tables }));
+      }))
 
   holds_iterate : (n : ℕ) (x : List ℕ) (body : State → Ran) (again ns : List Note) (i : ℤ) → InRange i → InRange (i +ℤ pos n) → Holds body → Holds (iterate fuel x body again ns n i)
   unfolding iterate
@@ -268,7 +316,7 @@ module _ (fuel : ℕ) where
 
 -- a call from numbers in range leaves them so, its value too
 record CallHolds (c : State → Called) : Type 0 where
-  pub leaves : (s : State) → StateInRange s → StateInRange (c s).ran.state
+  pub leaves : (s : State) → StateInRange s → RanInRange (c s).ran
   pub value : (s : State) → StateInRange s → InRange (c s).value
 
 holds_with_call : (c : State → Called) (f : ℤ → State → Ran) → CallHolds c → ((n : ℤ) → InRange n → Holds (f n)) → Holds (λ s. with_call (c s) f)
@@ -309,8 +357,8 @@ module _ (fuel : ℕ) (call : List ℕ → Place → List ℤ → List Note → 
     holds_stmt rs (Loop' x a b p body) l =
         holds_two a b _ l.0 l.1 (λ i j f g. holds_iterate fuel (int_gap i j) x.text.items (run_all (under rs) body) [] [] i f (gap_in i j f g) (holds_all rs body l.2))
     holds_stmt rs (Par' place x a b carry_place carries reduces p body) l =
-        holds_two a b _ l.0 l.1 (λ i j f g. holds_wide (too_wide i j) place _
-        (holds_iterate fuel (int_gap i j) x.text.items (run_all (under reduces.items) body) (Chance ∷ []) [] i f (gap_in i j f g) (holds_all reduces.items body l.2)))
+        holds_two a b _ l.0 l.1 (λ i j f g. holds_wide (too_wide i j) place _ (holds_caught (left_in body) _
+        (holds_iterate fuel (int_gap i j) x.text.items (run_all (under reduces.items) body) (Chance ∷ []) [] i f (gap_in i j f g) (holds_all reduces.items body l.2))))
     holds_stmt rs (Fold x e) l =
         holds_given e _ l (λ n h. holds_vars (λ vs. folded (operator_of rs x.text.items) vs x.text.items n) (λ vs f. folded_in (operator_of rs x.text.items) vs x.text.items n h f))
     holds_stmt rs (Call x f) l =
@@ -320,8 +368,10 @@ module _ (fuel : ℕ) (call : List ℕ → Place → List ℤ → List Note → 
         holds_args f.args.items (λ ns s. given_all g.args.items s (λ ms. two_calls (under rs) x f.callee ns y g.callee ms (Chance ∷ []) s)) l.0
         (λ ns k. holds_args g.args.items (λ ms. two_calls (under rs) x f.callee ns y g.callee ms (Chance ∷ [])) l.1
         (λ ms m. holds_two_calls rs x f.callee ns y g.callee ms (Chance ∷ []) k m))
-    holds_stmt rs (Print place e) l = holds_given e _ l (λ n h. holds_still (λ s. done (print_line n s)) (λ s. refl) (λ s. refl))
-    holds_stmt rs (Emit place t) l = holds_still (λ s. noted (Emits t.text.items ∷ []) (done (print_table (table_of s.tables t.text.items) s))) (λ s. refl) (λ s. refl)
+    holds_stmt rs (Print place e) l = holds_given e _ l (λ n h. holds_still (λ s. done (print_line n s)) (λ s. refl) (λ s. refl) (λ s. refl))
+    holds_stmt rs (Emit place t) l = holds_still (λ s. noted (Emits t.text.items ∷ []) (done (print_table (table_of s.tables t.text.items) s))) (λ s. refl) (λ s. refl) (λ s. refl)
+    holds_stmt rs (Leave x e) l = holds_given e _ l (λ n h. holds_left n h)
+    holds_stmt rs (Fill f t r es) l = holds_done
 
     holds_all : {m : _} (rs : List Reduce) (row : Row_of-Stmt m) → BlockInRange row → Holds (run_all (under rs) row)
     holds_all rs end_of-Stmt l = holds_done
@@ -358,10 +408,10 @@ found_in (f ∷ fs) x h = go (bytes_eq f.name.text.items x) (found_in fs x (All-
 
 holds_enter : (fuel : ℕ) (call : List ℕ → Place → List ℤ → List Note → State → Called) → CallsHold call → (o : Option Func) → FoundInRange o → (ns : List ℤ) (b : List Note) → All InRange ns
     → CallHolds (enter (record { reduces = []; fuel = fuel; call = call }) o ns b)
-holds_enter fuel call calls None l ns b k = record { leaves = λ s h. h; value = λ s h. zero_in }
+holds_enter fuel call calls None l ns b k = record { leaves = λ s h. record { state = h; left = tt }; value = λ s h. zero_in }
 holds_enter fuel call calls (Some f) l ns b k = record {
-  leaves = λ s h. record { vars = h.vars; tables = (in_after (body s) end (begun s h) ended).tables };
-  value = λ s h. number_in_range (eval (body s).state.vars (body s).state.tables f.result).answer (eval_in (body s).state (begun s h) f.result l.1);
+  leaves = λ s h. let q = in_after (body s) end (begun s h) ended in record { state = record { vars = h.vars; tables = q.state.tables }; left = q.left };
+  value = λ s h. number_in_range (eval (body s).state.vars (body s).state.tables f.result).answer (eval_in (body s).state (begun s h).state f.result l.1);
 }
   where
     body : State → Ran
@@ -370,8 +420,9 @@ holds_enter fuel call calls (Some f) l ns b k = record {
     end : State → Ran
     end s = given f.result s (λ n. done s)
 
-    begun : (s : State) → StateInRange s → StateInRange (body s).state
-    begun s h = (holds_list fuel call calls [] f.body.items l.0).leaves (record s { vars = bound f.params.items ns }) (record { vars = bound_in f.params.items ns k; tables = h.tables })
+    begun : (s : State) → StateInRange s → RanInRange (body s)
+    begun s h =
+        in_noted b _ ((holds_list fuel call calls [] f.body.items l.0).leaves (record s { vars = bound f.params.items ns }) (record { vars = bound_in f.params.items ns k; tables = h.tables }))
 
     ended : Holds end
     ended = holds_given f.result (λ n s. done s) l.1 (λ n h. holds_done)
@@ -379,28 +430,37 @@ holds_enter fuel call calls (Some f) l ns b k = record {
 holds_call_on : (fuel : ℕ) (go : State → Called) → CallHolds go → CallHolds (λ s. call_on (tick fuel s).stop (tick fuel s) go)
 holds_call_on fuel go p = record { leaves = λ s h. state (tick fuel s).stop s h; value = λ s h. value (tick fuel s).stop s h }
   where
-    state : (x : Stop) (s : State) → StateInRange s → StateInRange (call_on x (tick fuel s) go).ran.state
-    state Done s h = p.leaves (tick fuel s).state ((holds_tick fuel).leaves s h)
+    state : (x : Stop) (s : State) → StateInRange s → RanInRange (call_on x (tick fuel s) go).ran
+    state Done s h = in_noted (tick fuel s).notes (go (tick fuel s).state).ran (p.leaves (tick fuel s).state ((holds_tick fuel).leaves s h).state)
+    state (Left n) s h = (holds_tick fuel).leaves s h
     state (Trap k q) s h = (holds_tick fuel).leaves s h
     state NoFuel s h = (holds_tick fuel).leaves s h
 
     value : (x : Stop) (s : State) → StateInRange s → InRange (call_on x (tick fuel s) go).value
-    value Done s h = p.value (tick fuel s).state ((holds_tick fuel).leaves s h)
+    value Done s h = p.value (tick fuel s).state ((holds_tick fuel).leaves s h).state
+    value (Left n) s h = zero_in
     value (Trap k q) s h = zero_in
     value NoFuel s h = zero_in
 
 holds_call : (fs : List Func) → All FuncInRange fs → (fuel room : ℕ) → CallsHold (call_at fs fuel room)
 unfolding call_at
-holds_call fs l fuel zero f p ns b k = holds_call_on fuel (λ u. no_value (trapped Deep p u)) (record { leaves = λ s h. h; value = λ s h. zero_in })
+holds_call fs l fuel zero f p ns b k = holds_call_on fuel (λ u. no_value (trapped Deep p u)) (record { leaves = (holds_trapped Deep p).leaves; value = λ s h. zero_in })
 holds_call fs l fuel (suc room) f p ns b k =
     holds_call_on fuel (enter (record { reduces = []; fuel = fuel; call = call_at fs fuel room }) (func_of fs f) ns b)
     (holds_enter fuel (call_at fs fuel room) (holds_call fs l fuel room) (func_of fs f) (found_in fs f l) ns b k)
 
 -- ---- at any depth of a program
 
+ran_in_range : (p : Program) (fuel depth : ℕ) (rs : List Reduce) (body : List Stmt) → All FuncInRange p.funcs.items → All StmtInRange body → Holds (run_list (setting p fuel depth rs) body)
+ran_in_range p fuel depth rs body l m = holds_list fuel (call_at p.funcs.items fuel _) (holds_call p.funcs.items l fuel _) rs body m
+
 pub runs_in_range : (p : Program) (fuel depth : ℕ) (rs : List Reduce) (body : List Stmt) (s : State) → All FuncInRange p.funcs.items → All StmtInRange body → StateInRange s
     → StateInRange (run_list (setting p fuel depth rs) body s).state
-runs_in_range p fuel depth rs body s l m h = (holds_list fuel (call_at p.funcs.items fuel _) (holds_call p.funcs.items l fuel _) rs body m).leaves s h
+runs_in_range p fuel depth rs body s l m h = ((ran_in_range p fuel depth rs body l m).leaves s h).state
+
+pub left_in_range : (p : Program) (fuel depth : ℕ) (rs : List Reduce) (body : List Stmt) (s : State) (n : ℤ) → All FuncInRange p.funcs.items → All StmtInRange body → StateInRange s
+    → (run_list (setting p fuel depth rs) body s).stop ≡ Left n → InRange n
+left_in_range p fuel depth rs body s n l m h e = subst LeftInRange e ((ran_in_range p fuel depth rs body l m).leaves s h).left
 
 -- ---- a whole program
 
@@ -415,7 +475,7 @@ made_in c x (pos m) (negsuc n) f g e = absurd (true≢false (sym (or_true (is_ba
 made_in c x (negsuc m) n f g e = absurd (true≢false e)
 
 holds_large : (b : Bool) (p : Place) (f : State → Ran) → (b ≡ false → Holds f) → Holds (unless_large b p f)
-holds_large true p f q = record { leaves = λ s h. h }
+holds_large true p f q = holds_trapped Size p
 holds_large false p f q = q refl
 
 -- a run on one table more
@@ -438,7 +498,7 @@ holds_tables ts h c (Made x a b ∷ ds) l =
 pub whole_in_range : (p : Program) (ts : List Table) (fuel : ℕ) → ProgramInRange p → All TableInRange ts → StateInRange (whole_run p ts fuel).state
 unfolding whole_run
 whole_in_range p ts fuel l h =
-    (holds_seq (make_tables ts (input_cells p.tables.items ts) p.tables.items) (run_list (setting p fuel 0 []) p.main.items)
+    ((holds_seq (make_tables ts (input_cells p.tables.items ts) p.tables.items) (run_list (setting p fuel 0 []) p.main.items)
     (holds_tables ts h (input_cells p.tables.items ts) p.tables.items l.tables)
-    (record { leaves = λ s k. runs_in_range p fuel 0 [] p.main.items s l.funcs l.main k })).leaves first_state
-    (record { vars = All-nil VariableInRange; tables = All-nil TableInRange })
+    (ran_in_range p fuel 0 [] p.main.items l.funcs l.main)).leaves first_state
+    (record { vars = All-nil VariableInRange; tables = All-nil TableInRange })).state

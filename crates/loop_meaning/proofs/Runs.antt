@@ -2,14 +2,14 @@
 use Rattle.std.proofs.Common.{◌≡◌, ℕ, zero, suc, ◌+◌, ◌-◌, ◌<◌, ◌≤◌, ℤ, pos, negsuc, ◌+ℤ◌, List, []}
 use Rattle.std.proofs.Common.{◌∷◌, refl, sym, ap, subst, ◌∙◌, arith, SFits, of_z, to_z, ◌%◌, ◌^◌}
 use Rattle.std.proofs.Common.{Bool, true, false, take, drop, length, get_or, drop-cons, Vec, Result}
-use Rattle.std.proofs.Common.{Ok, Err, IfOk}
+use Rattle.std.proofs.Common.{Ok, Err, IfOk, Option}
 use mathlib.Core.Path.{fun_ext}
 use Rattle.std.specs.Int.{w64}
 use Rattle.std.proofs.lemmas.Int.{ints, to_z-of_z}
 use Rattle.tp_value.specs.declared.TrapKind.{TrapKind}
 use Rattle.tp_value.specs.declared.Place.{Place}
 use Rattle.tp_value.specs.declared.Stop.{Stop}
-use Rattle.tp_value.specs.declared.Stop.TheVariants.{Done, Trap, NoFuel}
+use Rattle.tp_value.specs.declared.Stop.TheVariants.{Done, Left, Trap, NoFuel}
 use Rattle.loop_syntax.specs.declared.Expr.{Expr}
 use Rattle.std.specs.declared.alloc.Global.{Global}
 use Rattle.loop_syntax.specs.declared.Stmt.{Stmt, Row_of-Stmt, end_of-Stmt, more_of-Stmt}
@@ -27,7 +27,9 @@ use Rattle.loop_meaning.specs.Statements.{Setting, given, given_two, given_answe
 use Rattle.loop_meaning.specs.Statements.{too_wide, choose, run, run_all, run_list, turns, iterate}
 use Rattle.loop_meaning.specs.Statements.{iteration, block}
 use Rattle.loop_meaning.specs.Expressions.{eval}
+use Rattle.loop_meaning.specs.Leaving.{left_in, left_list, caught}
 use Rattle.loop_meaning.specs.Ends.{Ends, EndAlike}
+use Rattle.loop_meaning.proofs.Caught.{vec_left, caught_alike}
 
 pub alike_refl : (r : Ran) → EndAlike r r
 alike_refl r = record { stop = refl; state = refl }
@@ -52,6 +54,7 @@ after_done r s go e = rw (e.stop, e.state) (record { stop = refl; state = refl }
 -- what comes after a run that stopped
 after_stop : (r : Ran) (x : Stop) (go : State → Ran) → r.stop ≡ x → (x ≡ Done → ⊥) → EndAlike (go_on x r go) r
 after_stop r Done go e h = absurd (h refl)
+after_stop r (Left n) go e h = alike_refl r
 after_stop r (Trap k p) go e h = alike_refl r
 after_stop r NoFuel go e h = alike_refl r
 
@@ -182,6 +185,7 @@ noted_alike ns ms r q f = record { stop = f.stop; state = f.state }
 go_on_alike : (x : Stop) (r q : Ran) (f g : State → Ran) → EndAlike r q → ((s : State) → EndAlike (f s) (g s)) → EndAlike (go_on x r f) (go_on x q g)
 go_on_alike Done r q f g h e =
     noted_alike r.notes q.notes (f r.state) (g q.state) (alike_trans (subst (λ t. EndAlike (f r.state) (f t)) h.state (alike_refl (f r.state))) (e q.state))
+go_on_alike (Left n) r q f g h e = h
 go_on_alike (Trap k p) r q f g h e = h
 go_on_alike NoFuel r q f g h e = h
 
@@ -225,8 +229,12 @@ pub run_loop_is : (k : Setting) (t : Stmt) (x : Name) (a b : Expr) (body : Vec S
 run_loop_is k t x a b body s is =
     rw is (ap (λ f. given_two a b s (λ i j. iterate k.fuel x.text.items f [] [] (int_gap i j) i s)) (vec_list k body))
 
-pub run_par_is : (k : Setting) (t : Stmt) (l : ParLoop) (s : State) → t ≡ Par l → EndAlike (run k t s) (given_two l.from l.to s (λ i j. unless_wide (too_wide i j) l.place (iterate k.fuel l.var.text.items (run_list (record k { reduces = l.reduces.items }) l.body.items) [] [] (int_gap i j) i) s))
+pub run_par_is : (k : Setting) (t : Stmt) (l : ParLoop) (s : State) → t ≡ Par l → EndAlike (run k t s) (given_two l.from l.to s (λ i j. unless_wide (too_wide i j) l.place (λ u. caught (left_list l.body.items) (iterate k.fuel l.var.text.items (run_list (record k { reduces = l.reduces.items }) l.body.items) [] [] (int_gap i j) i u)) s))
 run_par_is k t l s is =
     let body = vec_list (record k { reduces = l.reduces.items }) l.body in
-    rw is (subst (λ f. EndAlike (run k (Par l) s) (given_two l.from l.to s (λ i j. unless_wide (too_wide i j) l.place (iterate k.fuel l.var.text.items f [] [] (int_gap i j) i) s))) body
-    (given_alike l.from s _ _ (λ i. given_alike l.to s _ _ (λ j. unless_wide_alike (too_wide i j) l.place _ _ s (iterate_notes (int_gap i j) k.fuel l.var.text.items _ (Chance ∷ []) [] i s)))))
+    let whole : (State → Ran) → Option (List ℕ) → Ran =
+    λ f x. given_two l.from l.to s (λ i j. unless_wide (too_wide i j) l.place (λ u. caught x (iterate k.fuel l.var.text.items f [] [] (int_gap i j) i u)) s) in
+    rw is (subst (λ x. EndAlike (run k (Par l) s) (whole (run_list (record k { reduces = l.reduces.items }) l.body.items) x)) (vec_left l.body)
+    (subst (λ f. EndAlike (run k (Par l) s) (whole f (left_in (hidden-the_row-Stmt-0 l.body)))) body
+    (given_alike l.from s _ _ (λ i. given_alike l.to s _ _ (λ j. unless_wide_alike (too_wide i j) l.place _ _ s
+    (caught_alike (left_in (hidden-the_row-Stmt-0 l.body)) _ _ (iterate_notes (int_gap i j) k.fuel l.var.text.items _ (Chance ∷ []) [] i s)))))))

@@ -9,14 +9,14 @@ use Rattle.std.proofs.lemmas.Bool.{ltb-true, ltb-false}
 use Rattle.tp_value.specs.declared.Place.{Place}
 use Rattle.tp_value.specs.declared.TrapKind.{TrapKind}
 use Rattle.tp_value.specs.declared.Stop.{Stop}
-use Rattle.tp_value.specs.declared.Stop.TheVariants.{Done, Trap, NoFuel}
+use Rattle.tp_value.specs.declared.Stop.TheVariants.{Done, Left, Trap, NoFuel}
 use Rattle.tp_value.specs.declared.Table.{Table}
 use Rattle.loop_syntax.specs.declared.Expr.{Expr}
 use Rattle.loop_syntax.specs.declared.Name.{Name}
 use Rattle.loop_syntax.specs.declared.App.{App}
 use Rattle.loop_syntax.specs.declared.Stmt.{Stmt, Row_of-Stmt, end_of-Stmt, more_of-Stmt}
 use Rattle.loop_syntax.specs.declared.Stmt.TheVariants.{Let, Set, Put, If', While', Loop', Par'}
-use Rattle.loop_syntax.specs.declared.Stmt.TheVariants.{Fold, Call, Both, Print, Emit}
+use Rattle.loop_syntax.specs.declared.Stmt.TheVariants.{Fold, Call, Both, Print, Emit, Leave, Fill}
 use Rattle.loop_syntax.specs.declared.Func.{Func}
 use Rattle.loop_syntax.specs.declared.TableDecl.{TableDecl}
 use Rattle.loop_syntax.specs.declared.TableDecl.TheVariants.{Input, Made}
@@ -24,12 +24,13 @@ use Rattle.loop_syntax.specs.declared.Program.{Program}
 use Rattle.loop_rules.specs.Names.{func_of}
 use Rattle.loop_meaning.specs.declared.value.Answer.{Answer}
 use Rattle.loop_meaning.specs.declared.value.Answer.TheVariants.{Number, Traps}
-use Rattle.loop_meaning.specs.State.{table_of, has_cell, declare, State, Note, Emits, Ran, done}
-use Rattle.loop_meaning.specs.State.{trapped, noted, after, go_on, tick, leave_block}
+use Rattle.loop_meaning.specs.State.{table_of, has_cell, assign, declare, State, Note, Emits, Ran}
+use Rattle.loop_meaning.specs.State.{Chance, done, left_with, trapped, noted, after, go_on, tick, leave_block}
 use Rattle.loop_meaning.specs.Expressions.{eval}
+use Rattle.loop_meaning.specs.Leaving.{left_in, caught_by, caught}
 use Rattle.loop_meaning.specs.Statements.{Setting, Called, given, given_answer, given_two}
 use Rattle.loop_meaning.specs.Statements.{given_all, choose, block, turns, iteration, iterate}
-use Rattle.loop_meaning.specs.Statements.{unless_wide, put_cell, run_call, run_both, run, run_all}
+use Rattle.loop_meaning.specs.Statements.{too_wide, unless_wide, put_cell, run_call, run_both, run, run_all}
 use Rattle.loop_meaning.specs.Statements.{run_list}
 use Rattle.loop_meaning.specs.Calls.{call_at, call_on, enter, bound, setting}
 use Rattle.loop_meaning.specs.Meaning.{make_tables, unless_large, add_table, zero_table}
@@ -63,6 +64,9 @@ module _ (fuel : ℕ) where
   sound_trap : (s : State) (k : TrapKind) (p : Place) → s.ticks ≤ fuel → Sound fuel s (trapped k p s)
   sound_trap s k p h = stays s (Trap k p) s [] (λ z. cc) h refl refl
 
+  sound_left : (s : State) (n : ℤ) → s.ticks ≤ fuel → Sound fuel s (left_with n s)
+  sound_left s n h = stays s (Left n) s [] (λ z. cc) h refl refl
+
   sound_noted : (s : State) (ns : List Note) (r : Ran) → Sound fuel s r → Sound fuel s (noted ns r)
   sound_noted s ns r h = record { later = h.later; within = h.within; spent = h.spent; more = h.more; grows = h.grows }
 
@@ -89,6 +93,7 @@ module _ (fuel : ℕ) where
             more = h.more ++ q.more;
             grows = q.grows ∙ ap (λ o. o ++ q.more) h.grows ∙ append_assoc s.output h.more q.more;
           }
+      f (Left n) e = h
       f (Trap k p) e = h
       f NoFuel e = h
 
@@ -179,6 +184,22 @@ module _ (fuel : ℕ) where
   sound_unless_wide true p go k s h = sound_trap s _ p h
   sound_unless_wide false p go k s h = k s h
 
+  sound_caught : (s : State) (target : Option (List ℕ)) (r : Ran) → Sound fuel s r → Sound fuel s (caught target r)
+  sound_caught s target r h = go r.stop refl target
+    where
+      left : (n : ℤ) → r.stop ≡ Left n → (t : State) → t.ticks ≡ r.state.ticks → t.output ≡ r.state.output → Sound fuel s (record { stop = Done; state = t; notes = r.notes })
+      left n e t a b =
+          let w : r.state.ticks ≤ fuel = h.within (λ z. let c : Left n ≡ NoFuel = sym e ∙ z in cc) in
+          let l : s.ticks ≤ r.state.ticks = h.later in
+          record { later = omega arith; within = λ z. omega arith; spent = λ z. absurd (let c : Done ≡ NoFuel = z in cc); more = h.more; grows = b ∙ h.grows }
+
+      go : (x : Stop) → r.stop ≡ x → (target : Option (List ℕ)) → Sound fuel s (caught_by x target r)
+      go (Left n) e (Some y) = left n e (record r.state { vars = assign r.state.vars y n }) refl refl
+      go (Left n) e None = left n e r.state refl refl
+      go Done e target = h
+      go (Trap k p) e target = h
+      go NoFuel e target = h
+
   sound_put : (t : Name) (i j v : ℤ) → Keeps (put_cell t i j v)
   sound_put t i j v s h = f (has_cell (table_of s.tables t.text.items) i j) refl
     where
@@ -218,13 +239,18 @@ mutual
   sound_stmt k c (Loop' x a b p body) s h =
       sound_two k.fuel a b s _ h (λ i j. sound_iterate k.fuel (int_gap i j) x.text.items (run_all k body) [] [] i (sound_all k c body) s h)
   sound_stmt k c (Par' place x a b carry_place carries reduces p body) s h =
-      sound_two k.fuel a b s _ h (λ i j. sound_unless_wide k.fuel _ place _
-      (sound_iterate k.fuel (int_gap i j) x.text.items (run_all (record k { reduces = reduces.items }) body) _ [] i (sound_all (record k { reduces = reduces.items }) c body)) s h)
+      sound_two k.fuel a b s _ h (λ i j.
+      let all : State → Ran = iterate k.fuel x.text.items (run_all (record k { reduces = reduces.items }) body) (Chance ∷ []) [] (int_gap i j) i in
+      sound_unless_wide k.fuel (too_wide i j) place (λ t. caught (left_in body) (all t))
+      (λ t l. sound_caught k.fuel t (left_in body) (all t)
+      (sound_iterate k.fuel (int_gap i j) x.text.items (run_all (record k { reduces = reduces.items }) body) (Chance ∷ []) [] i (sound_all (record k { reduces = reduces.items }) c body) t l)) s h)
   sound_stmt k c (Fold x e) s h = sound_given k.fuel e s _ h (λ n. sound_done k.fuel s _ h refl refl)
   sound_stmt k c (Call x f) s h = sound_run_call k.fuel k c x f s h
   sound_stmt k c (Both x f y g) s h = sound_both k.fuel k c x f y g s h
   sound_stmt k c (Print place e) s h = sound_given k.fuel e s _ h (λ n. done_with k.fuel s _ _ h refl refl)
   sound_stmt k c (Emit place t) s h = sound_noted k.fuel s (Emits t.text.items ∷ []) _ (done_with k.fuel s _ _ h refl refl)
+  sound_stmt k c (Leave x e) s h = sound_given k.fuel e s _ h (λ n. sound_left k.fuel s n h)
+  sound_stmt k c (Fill f t r es) s h = sound_done k.fuel s s h refl refl
 
   pub sound_all : {m : _} (k : Setting) → CallsKeep k.fuel k.call → (row : Row_of-Stmt m) → Keeps k.fuel (run_all k row)
   sound_all k c end_of-Stmt s h = sound_done k.fuel s s h refl refl
@@ -293,6 +319,7 @@ sound_whole p ts fuel =
 
 not_spent : (x : Stop) → (x ≡ NoFuel → ⊥) ⊎ (x ≡ NoFuel)
 not_spent Done = inl (λ z. cc)
+not_spent (Left n) = inl (λ z. cc)
 not_spent (Trap k p) = inl (λ z. cc)
 not_spent NoFuel = inr refl
 

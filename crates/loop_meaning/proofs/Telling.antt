@@ -1,6 +1,6 @@
 -- The notes tell all that a run does to tables, and what is before a run moves its ticks and its output.
-use Rattle.std.proofs.Common.{◌≡◌, ◌<◌, ◌≤◌, ◌+◌, ◌-◌, ◌∷◌, [], ℕ, ℤ, List, true, false, Contains}
-use Rattle.std.proofs.Common.{All, inl, inr, refl, sym, ap, subst, ◌∙◌, arith}
+use Rattle.std.proofs.Common.{◌≡◌, ◌<◌, ◌≤◌, ◌+◌, ◌-◌, ◌++◌, ◌∷◌, [], ℕ, ℤ, List, Bool, true}
+use Rattle.std.proofs.Common.{false, Contains, All, inl, inr, refl, sym, ap, subst, ◌∙◌, arith}
 use Rattle.std.proofs.lemmas.List.Elements.{All-nil, All-cons, All-head, All-tail}
 use Rattle.tp_value.specs.declared.limits.TheConstants.{MAX_CALL_DEPTH}
 use Rattle.tp_value.specs.declared.Place.{Place}
@@ -8,17 +8,17 @@ use Rattle.tp_value.specs.declared.Table.{Table}
 use Rattle.loop_syntax.specs.declared.Reduce.{Reduce}
 use Rattle.loop_syntax.specs.declared.Stmt.{Stmt, Row_of-Stmt, end_of-Stmt, more_of-Stmt}
 use Rattle.loop_syntax.specs.declared.Stmt.TheVariants.{Let, Set, Put, If', While', Loop', Par'}
-use Rattle.loop_syntax.specs.declared.Stmt.TheVariants.{Fold, Call, Both, Print, Emit}
+use Rattle.loop_syntax.specs.declared.Stmt.TheVariants.{Fold, Call, Both, Print, Emit, Leave, Fill}
 use Rattle.loop_syntax.specs.declared.Func.{Func}
 use Rattle.loop_syntax.specs.declared.Program.{Program}
 use Rattle.loop_meaning.specs.State.{State, Note, Ran}
 use Rattle.loop_meaning.specs.Statements.{Called, iterate, run_list}
 use Rattle.loop_meaning.specs.Calls.{call_at, setting}
 use Rattle.loop_meaning.specs.Cells.{Cell, write_cells}
-use Rattle.loop_meaning.specs.Only.{StmtOnly, BlockOnly, PrintsNothing, OnlyCounts}
+use Rattle.loop_meaning.specs.Only.{StmtOnly, BlockOnly, PrintsNothing, OnlyCounts, Untouched}
 use Rattle.loop_meaning.specs.Told.{shapes, number_at, SeenAlike, AlikeOver, NotesTell}
 use Rattle.loop_meaning.specs.Told.{CallNotesTell, moved, moved_ran, Spent, Moves, CallMoves}
-use Rattle.loop_meaning.proofs.Seen.{no_writes_is, writes_left, writes_right, writes_cases}
+use Rattle.loop_meaning.proofs.Seen.{no_writes_is, writes_append, writes_left, writes_right, writes_cases}
 use Rattle.loop_meaning.proofs.Seen.{contains_none, contains_only}
 use Rattle.loop_meaning.proofs.Traces.{Tells, Traced, CallsTraced, traced_iterate, traced_list}
 use Rattle.loop_meaning.proofs.Traces.{traced_call, any_list, any_funcs}
@@ -59,6 +59,22 @@ quiet = record {
   puts = λ w x i j n ts o has. refl;
   shows = λ w ts o more. cc;
   emits = λ w x ts o more. cc;
+}
+
+-- ---- tables of what doesn't write
+
+abbrev pub Still : List Note → List Table → List ℕ → List Table → List ℕ → Type 0
+Still ns ts o us p = (us ≡ ts) × (write_cells ns ≡ [])
+
+pub still : (prints : Bool) → Tells Still false prints
+still prints = record {
+  nothing = λ ts o. (refl, refl);
+  joins = λ ns ms ts o us p vs q h k. (k.0 ∙ h.0, writes_append ns ms ∙ ap (λ l. l ++ write_cells ms) h.1 ∙ k.1);
+  reads = λ x i j ts o. (refl, refl);
+  chance = λ ts o. (refl, refl);
+  puts = λ w x i j n ts o has. cc;
+  shows = λ w ts o more. (refl, refl);
+  emits = λ w x ts o more. (refl, refl);
 }
 
 -- ---- tables and output of what neither writes nor prints, and the notes begin, but for them
@@ -193,41 +209,58 @@ module _ (p : Program) (fuel depth : ℕ) where
 
 -- ---- what doesn't print, and what only counts
 
-mutual
-  quiet_stmt : (s : Stmt) → StmtOnly false false s → PrintsNothing s
-  quiet_stmt (Let x e) h = tt
-  quiet_stmt (Set x e) h = tt
-  quiet_stmt (Put t a b e) h = refl
-  quiet_stmt (If' e p body q other) h = (quiet_block body h.0, quiet_block other h.1)
-  quiet_stmt (While' e p body) h = quiet_block body h
-  quiet_stmt (Loop' x a b p body) h = quiet_block body h
-  quiet_stmt (Par' place x a b carry_place carries reduces p body) h = quiet_block body h
-  quiet_stmt (Fold x e) h = tt
-  quiet_stmt (Call x f) h = tt
-  quiet_stmt (Both x f y g) h = tt
-  quiet_stmt (Print place e) h = h
-  quiet_stmt (Emit place t) h = h
+-- what may do less may do more
+module _ (w p v q : Bool) (writes : w ≡ true → v ≡ true) (prints : p ≡ true → q ≡ true) where
+  mutual
+    more_stmt : (s : Stmt) → StmtOnly w p s → StmtOnly v q s
+    more_stmt (Let x e) h = tt
+    more_stmt (Set x e) h = tt
+    more_stmt (Put t a b e) h = writes h
+    more_stmt (If' e p body q other) h = (more_block body h.0, more_block other h.1)
+    more_stmt (While' e p body) h = more_block body h
+    more_stmt (Loop' x a b p body) h = more_block body h
+    more_stmt (Par' place x a b carry_place carries reduces p body) h = more_block body h
+    more_stmt (Fold x e) h = tt
+    more_stmt (Call x f) h = tt
+    more_stmt (Both x f y g) h = tt
+    more_stmt (Print place e) h = prints h
+    more_stmt (Emit place t) h = prints h
+    more_stmt (Leave x e) h = tt
+    more_stmt (Fill f t r es) h = tt
 
-  quiet_block : {m : _} (row : Row_of-Stmt m) → BlockOnly false false row → BlockOnly true false row
-  quiet_block end_of-Stmt h = tt
-  quiet_block (more_of-Stmt first rest) h = (quiet_stmt first h.0, quiet_block rest h.1)
+    more_block : {m : _} (row : Row_of-Stmt m) → BlockOnly w p row → BlockOnly v q row
+    more_block end_of-Stmt h = tt
+    more_block (more_of-Stmt first rest) h = (more_stmt first h.0, more_block rest h.1)
 
-quiet_list : (ss : List Stmt) → All (StmtOnly false false) ss → All PrintsNothing ss
-quiet_list [] h = All-nil PrintsNothing
-quiet_list (s ∷ ss) h = All-cons PrintsNothing s ss (quiet_stmt s (All-head (StmtOnly false false) s ss h)) (quiet_list ss (All-tail (StmtOnly false false) s ss h))
+  more_list : (ss : List Stmt) → All (StmtOnly w p) ss → All (StmtOnly v q) ss
+  more_list [] h = All-nil (StmtOnly v q)
+  more_list (s ∷ ss) h = All-cons (StmtOnly v q) s ss (more_stmt s (All-head (StmtOnly w p) s ss h)) (more_list ss (All-tail (StmtOnly w p) s ss h))
 
-abbrev QuietFunc : Func → Type 0
-QuietFunc f = All PrintsNothing f.body.items
-
-quiet_funcs : (fs : List Func) → All OnlyCounts fs → All QuietFunc fs
-quiet_funcs [] h = All-nil QuietFunc
-quiet_funcs (f ∷ fs) h = All-cons QuietFunc f fs (quiet_list f.body.items (All-head OnlyCounts f fs h)) (quiet_funcs fs (All-tail OnlyCounts f fs h))
+  more_funcs : (fs : List Func) → All (λ (f : Func). All (StmtOnly w p) f.body.items) fs → All (λ (f : Func). All (StmtOnly v q) f.body.items) fs
+  more_funcs [] h = All-nil (λ (f : Func). All (StmtOnly v q) f.body.items)
+  more_funcs (f ∷ fs) h =
+      All-cons (λ (f : Func). All (StmtOnly v q) f.body.items) f fs (more_list f.body.items (All-head (λ (f : Func). All (StmtOnly w p) f.body.items) f fs h))
+      (more_funcs fs (All-tail (λ (f : Func). All (StmtOnly w p) f.body.items) f fs h))
 
 module _ (p : Program) (fuel depth : ℕ) (only : All OnlyCounts p.funcs.items) where
   pub keeps_output : (rs : List Reduce) (body : List Stmt) (s : State) → All PrintsNothing body → (run_list (setting p fuel depth rs) body s).state.output ≡ s.output
   keeps_output rs body s h =
       (traced_list Quiet true false quiet fuel (call_at p.funcs.items fuel (MAX_CALL_DEPTH - depth))
-      (traced_call Quiet true false quiet p.funcs.items (quiet_funcs p.funcs.items only) fuel (MAX_CALL_DEPTH - depth)) rs body h).links s
+      (traced_call Quiet true false quiet p.funcs.items (more_funcs false false true false (λ e. refl) (λ e. e) p.funcs.items only) fuel (MAX_CALL_DEPTH - depth)) rs body h).links s
+
+  module _ (prints : Bool) (rs : List Reduce) (body : List Stmt) (none : All (StmtOnly false prints) body) where
+    still_list : Traced Still false prints (still prints) (run_list (setting p fuel depth rs) body)
+    still_list =
+        traced_list Still false prints (still prints) fuel (call_at p.funcs.items fuel (MAX_CALL_DEPTH - depth))
+        (traced_call Still false prints (still prints) p.funcs.items (more_funcs false false false prints (λ e. e) (λ e. cc) p.funcs.items only) fuel (MAX_CALL_DEPTH - depth)) rs body none
+
+    pub statements_still : (s : State) → Untouched s (run_list (setting p fuel depth rs) body s)
+    statements_still s = (let h = still_list.links s in record { tables = h.0; writes = h.1 })
+
+    pub iterations_still : (x : List ℕ) (again ns : List Note) → write_cells again ≡ [] → write_cells ns ≡ [] → (n : ℕ) (i : ℤ) (s : State) → Untouched s (iterate fuel x (run_list (setting p fuel depth rs) body) again ns n i s)
+    iterations_still x again ns a b n i s =
+        let h = (traced_iterate Still false prints (still prints) fuel n x (run_list (setting p fuel depth rs) body) again ns i (λ ts o. (refl, a)) (λ ts o. (refl, b)) still_list).links s in
+        record { tables = h.0; writes = h.1 }
 
   pub call_counts : (rs : List Reduce) (f : List ℕ) (place : Place) (ns : List ℤ) (begin : List Note) (s : State)
       → Counts begin ((setting p fuel depth rs).call f place ns begin s).ran.notes s.tables s.output ((setting p fuel depth rs).call f place ns begin s).ran.state.tables ((setting p fuel depth rs).call f place ns begin s).ran.state.output

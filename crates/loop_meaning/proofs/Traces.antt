@@ -9,7 +9,7 @@ use Rattle.tp_value.specs.declared.Place.{Place}
 use Rattle.tp_value.specs.declared.TrapKind.TheVariants.{Deep}
 use Rattle.tp_value.specs.declared.Table.{Table}
 use Rattle.tp_value.specs.declared.Stop.{Stop}
-use Rattle.tp_value.specs.declared.Stop.TheVariants.{Done, Trap, NoFuel}
+use Rattle.tp_value.specs.declared.Stop.TheVariants.{Done, Left, Trap, NoFuel}
 use Rattle.loop_syntax.specs.declared.Name.{Name}
 use Rattle.loop_syntax.specs.declared.BinOp.{BinOp}
 use Rattle.loop_syntax.specs.declared.BinOp.TheVariants as op
@@ -18,7 +18,7 @@ use Rattle.loop_syntax.specs.declared.Expr.TheVariants.{Int, Var, Cell', Rows, C
 use Rattle.loop_syntax.specs.declared.Reduce.{Reduce}
 use Rattle.loop_syntax.specs.declared.Stmt.{Stmt, Row_of-Stmt, end_of-Stmt, more_of-Stmt}
 use Rattle.loop_syntax.specs.declared.Stmt.TheVariants.{Let, Set, Put, If', While', Loop', Par'}
-use Rattle.loop_syntax.specs.declared.Stmt.TheVariants.{Fold, Call, Both, Print, Emit}
+use Rattle.loop_syntax.specs.declared.Stmt.TheVariants.{Fold, Call, Both, Print, Emit, Leave, Fill}
 use Rattle.loop_syntax.specs.declared.Func.{Func}
 use Rattle.loop_rules.specs.Names.{func_of}
 use Rattle.loop_meaning.specs.declared.value.Answer.{Answer}
@@ -34,6 +34,7 @@ use Rattle.loop_meaning.specs.Statements.{given_all, set_var, put_cell, choose, 
 use Rattle.loop_meaning.specs.Statements.{iteration, iterate, too_wide, unless_wide, with_call}
 use Rattle.loop_meaning.specs.Statements.{two_calls, run, run_all, run_list}
 use Rattle.loop_meaning.specs.Calls.{bound, enter, no_value, call_on, call_at}
+use Rattle.loop_meaning.specs.Leaving.{left_in, caught_by, caught}
 use Rattle.loop_meaning.specs.Only.{StmtOnly, BlockOnly}
 
 -- R tells of notes, of tables and output before them, and of tables and output after them
@@ -107,6 +108,7 @@ module _ (R : List Note → List Table → List ℕ → List Table → List ℕ 
     where
       go : (s : State) (x : Stop) → Links (go_on x (a s) b).notes s (go_on x (a s) b).state
       go s Done = tells.joins (a s).notes (b (a s).state).notes s.tables s.output (a s).state.tables (a s).state.output (b (a s).state).state.tables (b (a s).state).state.output (p.links s) (q.links (a s).state)
+      go s (Left n) = p.links s
       go s (Trap k y) = p.links s
       go s NoFuel = p.links s
 
@@ -151,6 +153,16 @@ module _ (R : List Note → List Table → List ℕ → List Table → List ℕ 
   traced_wide : (b : Bool) (p : Place) (f : State → Ran) → Traced f → Traced (unless_wide b p f)
   traced_wide true p f q = record { links = λ s. tells.nothing s.tables s.output }
   traced_wide false p f q = q
+
+  traced_caught : (target : Option (List ℕ)) (a : State → Ran) → Traced a → Traced (λ s. caught target (a s))
+  traced_caught target a p = record { links = λ s. go s (a s).stop target }
+    where
+      go : (s : State) (x : Stop) (target : Option (List ℕ)) → Links (caught_by x target (a s)).notes s (caught_by x target (a s)).state
+      go s (Left n) (Some y) = p.links s
+      go s (Left n) None = p.links s
+      go s Done target = p.links s
+      go s (Trap k y) target = p.links s
+      go s NoFuel target = p.links s
 
   module _ (fuel : ℕ) where
     traced_tick : Traced (tick fuel)
@@ -213,8 +225,8 @@ module _ (R : List Note → List Table → List ℕ → List Table → List ℕ 
       traced_stmt rs (Loop' x a b p body) l =
           traced_two a b _ (λ i j. traced_iterate fuel (int_gap i j) x.text.items (run_all (under rs) body) [] [] i tells.nothing tells.nothing (traced_all rs body l))
       traced_stmt rs (Par' place x a b carry_place carries reduces p body) l =
-          traced_two a b _ (λ i j. traced_wide (too_wide i j) place _
-          (traced_iterate fuel (int_gap i j) x.text.items (run_all (under reduces.items) body) (Chance ∷ []) [] i tells.chance tells.nothing (traced_all reduces.items body l)))
+          traced_two a b _ (λ i j. traced_wide (too_wide i j) place _ (traced_caught (left_in body) _
+          (traced_iterate fuel (int_gap i j) x.text.items (run_all (under reduces.items) body) (Chance ∷ []) [] i tells.chance tells.nothing (traced_all reduces.items body l))))
       traced_stmt rs (Fold x e) l = traced_given e _ (λ n. record { links = λ s. tells.nothing s.tables s.output })
       traced_stmt rs (Call x f) l =
           traced_args f.args.items _ (λ ns. traced_with_call (call f.callee.text.items f.callee.place ns []) (λ v t. done (set_var x v t)) (calls f.callee.text.items f.callee.place ns [] tells.nothing)
@@ -224,6 +236,8 @@ module _ (R : List Note → List Table → List ℕ → List Table → List ℕ 
           (λ ns. traced_args g.args.items (λ ms. two_calls (under rs) x f.callee ns y g.callee ms (Chance ∷ [])) (λ ms. traced_two_calls rs x f.callee ns y g.callee ms))
       traced_stmt rs (Print place e) l = traced_given e _ (λ n. record { links = λ s. tells.shows l s.tables s.output _ })
       traced_stmt rs (Emit place t) l = record { links = λ s. tells.emits l t.text.items s.tables s.output _ }
+      traced_stmt rs (Leave x e) l = traced_given e _ (λ n. record { links = λ s. tells.nothing s.tables s.output })
+      traced_stmt rs (Fill f t r es) l = traced_done
 
       traced_all : {m : _} (rs : List Reduce) (row : Row_of-Stmt m) → BlockOnly writes prints row → Traced (run_all (under rs) row)
       traced_all rs end_of-Stmt l = traced_done
@@ -276,6 +290,7 @@ module _ (R : List Note → List Table → List ℕ → List Table → List ℕ 
       on s Done =
           let t : State = (tick fuel s).state in
           tells.joins (tick fuel s).notes (go t).ran.notes s.tables s.output t.tables t.output (go t).ran.state.tables (go t).ran.state.output ((traced_tick fuel).links s) (p.links t)
+      on s (Left n) = (traced_tick fuel).links s
       on s (Trap k q) = (traced_tick fuel).links s
       on s NoFuel = (traced_tick fuel).links s
 
@@ -302,6 +317,8 @@ mutual
   any_stmt (Both x f y g) = tt
   any_stmt (Print place e) = refl
   any_stmt (Emit place t) = refl
+  any_stmt (Leave x e) = tt
+  any_stmt (Fill f t r es) = tt
 
   any_block : {m : _} (row : Row_of-Stmt m) → BlockOnly true true row
   any_block end_of-Stmt = tt

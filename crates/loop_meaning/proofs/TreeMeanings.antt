@@ -18,7 +18,7 @@ use Rattle.loop_syntax.specs.declared.statement.Reduce.{Reduce}
 use Rattle.loop_syntax.specs.declared.statement.Stmt.{Stmt, Row_of-Stmt, end_of-Stmt, more_of-Stmt}
 use Rattle.loop_syntax.specs.declared.statement.Stmt.TheVariants.{Let, Set, Put, If', While', Loop'}
 use Rattle.loop_syntax.specs.declared.statement.Stmt.TheVariants.{Par', Fold, Call, Both, Print}
-use Rattle.loop_syntax.specs.declared.statement.Stmt.TheVariants.{Emit}
+use Rattle.loop_syntax.specs.declared.statement.Stmt.TheVariants.{Emit, Leave, Fill}
 use Rattle.loop_syntax.specs.declared.program.Func.{Func}
 use Rattle.loop_syntax.specs.declared.program.Program.{Program}
 use Rattle.loop_syntax.specs.declared.program.TableDecl.{TableDecl}
@@ -26,7 +26,8 @@ use Rattle.loop_syntax.specs.declared.program.TableDecl.TheVariants.{Input, Made
 use Rattle.loop_syntax.specs.Tree.{Spelled, spelled, Tree, TInt, TVar, TCell, TRows, TCols, TNeg}
 use Rattle.loop_syntax.specs.Tree.{TBin, tree_of, ReduceTree, reduce_of, AppTree, app_of, ParHead}
 use Rattle.loop_syntax.specs.Tree.{Node, NLet, NSet, NPut, NIf, NWhile, NLoop, NPar, NFold, NCall}
-use Rattle.loop_syntax.specs.Tree.{NBoth, NPrint, NEmit, Nodes, Last, Then, node_of, nodes_of}
+use Rattle.loop_syntax.specs.Tree.{NBoth, NPrint, NEmit, NLeave, NFill, Nodes, Last, Then, node_of}
+use Rattle.loop_syntax.specs.Tree.{nodes_of}
 use Rattle.loop_syntax.specs.Tree.{TableTree, TInput, TMade, FuncTree, ProgramTree, program_of}
 use Rattle.loop_syntax.specs.Tree as trees
 use Rattle.loop_rules.specs.Names.{func_of, operator_of}
@@ -42,7 +43,8 @@ use Rattle.loop_meaning.specs.Meaning.{outcome_of, meaning, count_chances, chanc
 use Rattle.loop_meaning.specs.State.{lookup, assign, declare, table_of, has_cell, cell_of}
 use Rattle.loop_meaning.specs.State.{write_cell, print_line, print_table, State, Note, Reads}
 use Rattle.loop_meaning.specs.State.{Writes, Emits, Chance, Ran, done, trapped, out_of_fuel, noted}
-use Rattle.loop_meaning.specs.State.{after, tick}
+use Rattle.loop_meaning.specs.State.{left_with, after, tick}
+use Rattle.loop_meaning.specs.Leaving.{or_else, left_of, left_in, caught}
 use Rattle.loop_meaning.specs.Statements.{given_answer, given, given_two, given_all, folded, choose}
 use Rattle.loop_meaning.specs.Statements.{block, turns, iterate, unless_wide, too_wide, Called}
 use Rattle.loop_meaning.specs.Statements.{with_call, Setting, two_calls, run, run_all, run_list}
@@ -150,6 +152,40 @@ both_tree k x f y g s =
     with_call (k.call g.callee.text g.callee.place ms [] t) (λ w u. done (set_tree y w (set_tree x v u))))))
 
 abbrev mutual
+  left_tree : Node → Option (List ℕ)
+  left_tree (NLeave x e) = Some x.text
+  left_tree (NIf e body other) = or_else (left_nodes body) (left_nodes other)
+  left_tree (NWhile e body) = left_nodes body
+  left_tree (NLoop x a b body) = left_nodes body
+  left_tree _ = None
+
+  left_nodes : Nodes → Option (List ℕ)
+  left_nodes Last = None
+  left_nodes (Then n ns) = or_else (left_tree n) (left_nodes ns)
+
+mutual
+  left_same : (t : Stmt) → left_of t ≡ left_tree (node_rows t)
+  left_same (Leave x e) = refl
+  left_same (If' e p body q other) = ap (λ x. or_else x (left_in other)) (left_row body) ∙ ap (or_else (left_nodes (row_nodes body))) (left_row other)
+  left_same (While' e p body) = left_row body
+  left_same (Loop' x a b p body) = left_row body
+  left_same (Let x e) = refl
+  left_same (Set x e) = refl
+  left_same (Put t a b e) = refl
+  left_same (Par' place x a b carry_place carries reduces p body) = refl
+  left_same (Fold x e) = refl
+  left_same (Call x f) = refl
+  left_same (Both x f y g) = refl
+  left_same (Print place e) = refl
+  left_same (Emit place t) = refl
+  left_same (Fill f t r es) = refl
+
+  left_row : {m : _} (row : Row_of-Stmt m) → left_in row ≡ left_nodes (row_nodes row)
+  left_row end_of-Stmt = refl
+  left_row (more_of-Stmt t rest) =
+      ap (λ x. or_else x (left_in rest)) (left_same t ∙ ap left_tree (sym (rows_of t))) ∙ ap (or_else (left_tree (node_of t))) (left_row rest)
+
+abbrev mutual
   run_tree : TreeSetting → Node → State → Ran
   run_tree k (NLet x e) s = given_tree e s (λ n. done (record s { vars = declare s.vars x.text n }))
   run_tree k (NSet x e) s = given_tree e s (λ n. done (set_tree x n s))
@@ -158,12 +194,14 @@ abbrev mutual
   run_tree k (NWhile e body) s = turns_tree (k.fuel + 1) k.fuel e (block (run_nodes k body)) s
   run_tree k (NLoop x a b body) s = given_two_trees a b s (λ i j. iterate k.fuel x.text (run_nodes k body) [] [] (int_gap i j) i s)
   run_tree k (NPar head body) s =
-      given_two_trees head.from head.to s (λ i j. unless_wide (too_wide i j) head.place (iterate k.fuel head.var.text (run_nodes (record k { reduces = head.reduces }) body) (Chance ∷ []) [] (int_gap i j) i) s)
+      given_two_trees head.from head.to s (λ i j. unless_wide (too_wide i j) head.place (λ t. caught (left_nodes body) (iterate k.fuel head.var.text (run_nodes (record k { reduces = head.reduces }) body) (Chance ∷ []) [] (int_gap i j) i t)) s)
   run_tree k (NFold x e) s = given_tree e s (λ n. done (record s { vars = folded (operator_tree k.reduces x.text) s.vars x.text n }))
   run_tree k (NCall x f) s = call_tree k x f s
   run_tree k (NBoth x f y g) s = both_tree k x f y g s
   run_tree k (NPrint place e) s = given_tree e s (λ n. done (print_line n s))
   run_tree k (NEmit place t) s = noted (Emits t.text ∷ []) (done (print_table (table_of s.tables t.text) s))
+  run_tree k (NLeave x e) s = given_tree e s (λ n. left_with n s)
+  run_tree k (NFill f t r es) s = done s
 
   run_nodes : TreeSetting → Nodes → State → Ran
   run_nodes k Last s = done s
@@ -188,7 +226,8 @@ mutual
       ∙ ap (λ (f : State → Ran). given_two_trees (tree_of a) (tree_of b) s (λ i j. iterate k.fuel x.text.items f [] [] (int_gap i j) i s)) (row_same k body)
   step_same k (Par' place x a b carry_place carries reduces p body) s =
       given_two_same a b s _
-      ∙ ap (λ (f : State → Ran). given_two_trees (tree_of a) (tree_of b) s (λ i j. unless_wide (too_wide i j) place (iterate k.fuel x.text.items f (Chance ∷ []) [] (int_gap i j) i) s)) (row_same (record k { reduces = reduces.items }) body)
+      ∙ ap (λ (f : State → Ran). given_two_trees (tree_of a) (tree_of b) s (λ i j. unless_wide (too_wide i j) place (λ t. caught (left_in body) (iterate k.fuel x.text.items f (Chance ∷ []) [] (int_gap i j) i t)) s)) (row_same (record k { reduces = reduces.items }) body)
+      ∙ ap (λ (y : Option (List ℕ)). given_two_trees (tree_of a) (tree_of b) s (λ i j. unless_wide (too_wide i j) place (λ t. caught y (iterate k.fuel x.text.items (run_nodes (setting_tree (record k { reduces = reduces.items })) (row_nodes body)) (Chance ∷ []) [] (int_gap i j) i t)) s)) (left_row body)
   step_same k (Fold x e) s =
       given_same e s _
       ∙ ap (λ (o : Option Op). given_tree (tree_of e) s (λ n. done (record s { vars = folded o s.vars x.text.items n }))) (operator_same k.reduces x.text.items)
@@ -199,6 +238,8 @@ mutual
       (fun_ext (λ ns. given_all_same g.args.items s (λ ms. two_calls k x f.callee ns y g.callee ms (Chance ∷ []) s)))
   step_same k (Print place e) s = given_same e s _
   step_same k (Emit place t) s = refl
+  step_same k (Leave x e) s = given_same e s _
+  step_same k (Fill f t r es) s = refl
 
   row_same : {m : _} (k : Setting) (row : Row_of-Stmt m) → run_all k row ≡ run_nodes (setting_tree k) (row_nodes row)
   row_same k end_of-Stmt = refl

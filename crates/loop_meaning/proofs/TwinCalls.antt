@@ -6,13 +6,13 @@ use Rattle.std.specs.Int.{int_gap}
 use Rattle.tp_value.specs.declared.Place.{Place}
 use Rattle.tp_value.specs.declared.TrapKind.TheVariants.{Deep}
 use Rattle.tp_value.specs.declared.Stop.{Stop}
-use Rattle.tp_value.specs.declared.Stop.TheVariants.{Done, Trap, NoFuel}
+use Rattle.tp_value.specs.declared.Stop.TheVariants.{Done, Left, Trap, NoFuel}
 use Rattle.tp_value.specs.declared.Table.{Table}
 use Rattle.loop_syntax.specs.declared.Name.{Name}
 use Rattle.loop_syntax.specs.declared.Reduce.{Reduce}
 use Rattle.loop_syntax.specs.declared.Stmt.{Stmt, Row_of-Stmt, end_of-Stmt, more_of-Stmt}
 use Rattle.loop_syntax.specs.declared.Stmt.TheVariants.{Let, Set, Put, If', While', Loop', Par'}
-use Rattle.loop_syntax.specs.declared.Stmt.TheVariants.{Fold, Call, Both, Print, Emit}
+use Rattle.loop_syntax.specs.declared.Stmt.TheVariants.{Fold, Call, Both, Print, Emit, Leave, Fill}
 use Rattle.loop_syntax.specs.declared.Func.{Func}
 use Rattle.loop_rules.specs.Names.{func_of, operator_of}
 use Rattle.loop_meaning.specs.State.{assign, declare, State, Note, Chance, Ran, done, trapped}
@@ -28,7 +28,8 @@ use Rattle.loop_meaning.proofs.Twins.{twins_print, twins_emit, twins_trap, twins
 use Rattle.loop_meaning.proofs.Twins.{twins_pre, twins_end, seen_after, seen_next, within_back}
 use Rattle.loop_meaning.proofs.Twins.{twins_seq, seen_given, twins_given, twins_two, twins_args}
 use Rattle.loop_meaning.proofs.Twins.{twins_choose, twins_wide, twins_leave, twins_tick}
-use Rattle.loop_meaning.proofs.Twins.{twins_turns, twins_iterate}
+use Rattle.loop_meaning.specs.Leaving.{left_in}
+use Rattle.loop_meaning.proofs.Twins.{twins_turns, twins_iterate, twins_left, twins_caught}
 
 -- what comes after a run plays a part only where that is done
 swap_after : (q : Ran) (f g : State → Ran) → (q.stop ≡ Done → f ≡ g) → after q f ≡ after q g
@@ -36,6 +37,7 @@ swap_after q f g h = go q.stop refl
   where
     go : (x : Stop) → q.stop ≡ x → go_on x q f ≡ go_on x q g
     go Done e = ap (λ k. noted q.notes (k q.state)) (h e)
+    go (Left n) e = refl
     go (Trap k p) e = refl
     go NoFuel e = refl
 
@@ -45,6 +47,7 @@ done_first r g = go r.stop refl
   where
     go : (x : Stop) → r.stop ≡ x → (go_on x r g).stop ≡ Done → r.stop ≡ Done
     go Done e d = e
+    go (Left n) e d = d
     go (Trap k p) e d = d
     go NoFuel e d = d
 
@@ -119,8 +122,8 @@ module _ (fuel t : ℕ) (o : List ℕ) where
       twins_stmt rs (Loop' x a b p body) =
           twins_two fuel t o a b _ (λ i j. twins_iterate fuel t o (int_gap i j) x.text.items (run_all (under rs) body) [] [] i no_writes_none no_writes_none (twins_all rs body))
       twins_stmt rs (Par' place x a b carry_place carries reduces p body) =
-          twins_two fuel t o a b _ (λ i j. twins_wide fuel t o (too_wide i j) place _
-          (twins_iterate fuel t o (int_gap i j) x.text.items (run_all (under reduces.items) body) (Chance ∷ []) [] i chance_writes no_writes_none (twins_all reduces.items body)))
+          twins_two fuel t o a b _ (λ i j. twins_wide fuel t o (too_wide i j) place _ (twins_caught fuel t o (left_in body) _
+          (twins_iterate fuel t o (int_gap i j) x.text.items (run_all (under reduces.items) body) (Chance ∷ []) [] i chance_writes no_writes_none (twins_all reduces.items body))))
       twins_stmt rs (Fold x e) = twins_given fuel t o e _ (λ n. twins_vars fuel t o (λ vs. folded (operator_of rs x.text.items) vs x.text.items n))
       twins_stmt rs (Call x f) =
           twins_args fuel t o f.args.items _ (λ ns. twins_with_call (call f.callee.text.items f.callee.place ns []) (λ v u. done (set_var x v u)) (calls f.callee.text.items f.callee.place ns [] no_writes_none)
@@ -130,6 +133,8 @@ module _ (fuel t : ℕ) (o : List ℕ) where
           (λ ns. twins_args fuel t o g.args.items (λ ms. two_calls (under rs) x f.callee ns y g.callee ms (Chance ∷ [])) (λ ms. twins_two_calls rs x f.callee ns y g.callee ms))
       twins_stmt rs (Print place e) = twins_given fuel t o e _ (λ n. twins_print fuel t o _)
       twins_stmt rs (Emit place x) = twins_emit fuel t o x.text.items
+      twins_stmt rs (Leave x e) = twins_given fuel t o e _ (λ n. twins_left fuel t o n)
+      twins_stmt rs (Fill f x r es) = twins_done fuel t o
 
       twins_all : {m : _} (rs : List Reduce) (row : Row_of-Stmt m) → Twins fuel t o (run_all (under rs) row)
       twins_all rs end_of-Stmt = twins_done fuel t o
@@ -191,6 +196,7 @@ module _ (fuel t : ℕ) (o : List ℕ) where
 
   on_ran : (r : Ran) (go : State → Called) (x : Stop) → (call_on x r go).ran ≡ go_on x r (λ u. (go u).ran)
   on_ran r go Done = refl
+  on_ran r go (Left n) = refl
   on_ran r go (Trap k p) = refl
   on_ran r go NoFuel = refl
 

@@ -1,15 +1,15 @@
 -- Two runs: the second is over other tables that are seen alike, and with more ticks and more output before it.
 use Rattle.std.proofs.Common.{◌≡◌, ◌<◌, ◌≤◌, ◌+◌, ◌++◌, ◌∷◌, [], ℕ, zero, suc, ℤ, pos, negsuc, ◌+ℤ◌}
-use Rattle.std.proofs.Common.{List, Bool, true, false, nat_lt, length, take, Contains, ◌⊎◌, inl}
+use Rattle.std.proofs.Common.{List, Option, Some, None, Bool, true, false, nat_lt, length, take, Contains, ◌⊎◌, inl}
 use Rattle.std.proofs.Common.{inr, refl, sym, ap, subst, ◌∙◌, append_assoc, arith}
 use Rattle.std.proofs.lemmas.Bool.{ltb-true, ltb-false}
 use Rattle.std.proofs.lemmas.Bool.Decides.{nat_tests}
-use native.Mathlib.Decide.{ℕ_discrete}
+use native.Mathlib.Decide.{dec_lt, ℕ_discrete}
 use Rattle.tp_value.specs.declared.Place.{Place}
 use Rattle.tp_value.specs.declared.TrapKind.{TrapKind}
 use Rattle.tp_value.specs.declared.TrapKind.TheVariants.{Index, Wide}
 use Rattle.tp_value.specs.declared.Stop.{Stop}
-use Rattle.tp_value.specs.declared.Stop.TheVariants.{Done, Trap, NoFuel}
+use Rattle.tp_value.specs.declared.Stop.TheVariants.{Done, Left, Trap, NoFuel}
 use Rattle.tp_value.specs.declared.Table.{Table}
 use Rattle.loop_syntax.specs.declared.Name.{Name}
 use Rattle.loop_syntax.specs.declared.Expr.{Expr}
@@ -17,9 +17,11 @@ use Rattle.loop_meaning.specs.declared.value.Answer.{Answer}
 use Rattle.loop_meaning.specs.declared.value.Answer.TheVariants.{Number, Traps}
 use Rattle.loop_meaning.specs.declared.value.Variable.{Variable}
 use Rattle.loop_meaning.specs.State.{declare, table_of, has_cell, write_cell, print_table, State}
-use Rattle.loop_meaning.specs.State.{Note, Emits, Ran, done, trapped, out_of_fuel, noted, after}
+use Rattle.loop_meaning.specs.State.{Note, Emits, Ran, done, left_with, trapped, out_of_fuel, noted}
+use Rattle.loop_meaning.specs.State.{after}
 use Rattle.loop_meaning.specs.State.{go_on, tick, leave_block}
 use Rattle.loop_meaning.specs.Expressions.{Value, eval}
+use Rattle.loop_meaning.specs.Leaving.{caught_by, caught}
 use Rattle.loop_meaning.specs.Statements.{given, given_answer, given_two, given_all, put_cell}
 use Rattle.loop_meaning.specs.Statements.{choose, turns, iteration, iterate, unless_wide}
 use Rattle.loop_meaning.specs.Cells.{Cell, write_cells}
@@ -116,6 +118,12 @@ module _ (fuel t : ℕ) (o : List ℕ) where
   twins_trap k p = record {
     goes = goes_still _ (λ s. refl);
     twin = λ s us w h. still s us (trapped k p s) refl w no_writes_none h.sizes _ refl;
+  }
+
+  pub twins_left : (n : ℤ) → Twins (left_with n)
+  twins_left n = record {
+    goes = goes_still _ (λ s. refl);
+    twin = λ s us w h. still s us (left_with n s) refl w no_writes_none h.sizes _ refl;
   }
 
   pub twins_put : (x : Name) (i j n : ℤ) → Twins (put_cell x i j n)
@@ -224,6 +232,7 @@ module _ (fuel t : ℕ) (o : List ℕ) where
     where
       go : (x : Stop) → SeenAlike (go_on x r g).notes ts us → SeenAlike r.notes ts us
       go Done h = seen_front r.notes (g r.state).notes ts us h
+      go (Left n) h = h
       go (Trap k p) h = h
       go NoFuel h = h
 
@@ -242,16 +251,19 @@ module _ (fuel t : ℕ) (o : List ℕ) where
           let first : s.ticks ≤ (a s).state.ticks = p.later s l in
           let second : (a s).state.ticks ≤ (b (a s).state).state.ticks = q.later (a s).state (p.stops s l e) in
           omega arith
+      later s l (Left n) e = p.later s l
       later s l (Trap k y) e = p.later s l
       later s l NoFuel e = p.later s l
 
       stops : (s : State) → s.ticks ≤ fuel → (x : Stop) → (a s).stop ≡ x → (go_on x (a s) b).stop ≡ Done → (go_on x (a s) b).state.ticks ≤ fuel
       stops s l Done e d = q.stops (a s).state (p.stops s l e) d
+      stops s l (Left n) e d = p.stops s l d
       stops s l (Trap k y) e d = p.stops s l d
       stops s l NoFuel e d = p.stops s l d
 
       spends : (s : State) → s.ticks ≤ fuel → (x : Stop) → (a s).stop ≡ x → fuel < (go_on x (a s) b).state.ticks → Spent fuel (go_on x (a s) b)
       spends s l Done e m = (let h = q.spends (a s).state (p.stops s l e) m in record { stop = h.stop; ticks = h.ticks })
+      spends s l (Left n) e m = p.spends s l m
       spends s l (Trap k y) e m = p.spends s l m
       spends s l NoFuel e m = p.spends s l m
 
@@ -308,8 +320,74 @@ module _ (fuel t : ℕ) (o : List ℕ) where
 
       go : (s : State) (us : List Table) → Within s.ticks → (x : Stop) → (a s).stop ≡ x → SeenAlike (go_on x (a s) b).notes s.tables us → Twin s.tables us (go_on x (a s) b) (after (a (shift us s)) b)
       go s us w Done e h = first s us w e h (p.twin s us w (seen_front (a s).notes (b (a s).state).notes s.tables us h))
+      go s us w (Left n) e h = early s us (Left n) e (λ vs. refl) (p.twin s us w h)
       go s us w (Trap k y) e h = early s us (Trap k y) e (λ vs. refl) (p.twin s us w h)
       go s us w NoFuel e h = early s us NoFuel e (λ vs. refl) (p.twin s us w h)
+
+  -- ---- a `par` that catches its iterations
+
+  caught_over : (target : Option (List ℕ)) (us : List Table) (r : Ran) → caught target (over us r) ≡ over us (caught target r)
+  caught_over target us r = go r.stop target
+    where
+      go : (x : Stop) (target : Option (List ℕ)) → caught_by x target (over us r) ≡ over us (caught_by x target r)
+      go (Left n) (Some y) = refl
+      go (Left n) None = refl
+      go Done target = refl
+      go (Trap k p) target = refl
+      go NoFuel target = refl
+
+  -- catching changes the stop and the variables alone
+  caught_keeps : (P : List Table → ℕ → List Note → Type 0) (target : Option (List ℕ)) (r : Ran) → P r.state.tables r.state.ticks r.notes → P (caught target r).state.tables (caught target r).state.ticks (caught target r).notes
+  caught_keeps P target r h = go r.stop target
+    where
+      go : (x : Stop) (target : Option (List ℕ)) → P (caught_by x target r).state.tables (caught_by x target r).state.ticks (caught_by x target r).notes
+      go (Left n) (Some y) = h
+      go (Left n) None = h
+      go Done target = h
+      go (Trap k p) target = h
+      go NoFuel target = h
+
+  spent_caught : (target : Option (List ℕ)) (q : Ran) → Spent fuel q → Spent fuel (caught target q)
+  spent_caught target q h = spent_is (caught target q) q (ap (λ x. caught_by x target q) h.stop) h
+
+  goes_caught : (target : Option (List ℕ)) (f : State → Ran) → Goes f → Goes (λ s. caught target (f s))
+  goes_caught target f p = record {
+    later = λ s l. caught_keeps (λ ts n ns. s.ticks ≤ n) target (f s) (p.later s l);
+    stops = λ s l d. stops s l (f s).stop refl target d;
+    spends = λ s l m. spent_caught target (f s) (p.spends s l (high s m));
+  }
+    where
+      high : (s : State) → fuel < (caught target (f s)).state.ticks → fuel < (f s).state.ticks
+      high s = caught_keeps (λ ts n ns. fuel < n → fuel < (f s).state.ticks) target (f s) (λ m. m)
+
+      within : (s : State) → s.ticks ≤ fuel → (n : ℤ) → (f s).stop ≡ Left n → Dec (fuel < (f s).state.ticks) → (f s).state.ticks ≤ fuel
+      within s l n e (yes m) = absurd (let c : Left n ≡ NoFuel = sym e ∙ (p.spends s l m).stop in cc)
+      within s l n e (no m) = omega arith
+
+      stops : (s : State) → s.ticks ≤ fuel → (x : Stop) → (f s).stop ≡ x → (target : Option (List ℕ)) → (caught_by x target (f s)).stop ≡ Done → (caught_by x target (f s)).state.ticks ≤ fuel
+      stops s l (Left n) e (Some y) d = within s l n e (dec_lt fuel (f s).state.ticks)
+      stops s l (Left n) e None d = within s l n e (dec_lt fuel (f s).state.ticks)
+      stops s l Done e target d = p.stops s l d
+      stops s l (Trap k y) e target d = p.stops s l d
+      stops s l NoFuel e target d = p.stops s l d
+
+  pub twins_caught : (target : Option (List ℕ)) (f : State → Ran) → Twins f → Twins (λ s. caught target (f s))
+  twins_caught target f p = record {
+    goes = goes_caught target f p.goes;
+    twin = λ s us w h. go s us (p.twin s us w (caught_keeps (λ ts n ns. SeenAlike ns s.tables us → SeenAlike (f s).notes s.tables us) target (f s) (λ k. k) h));
+  }
+    where
+      go : (s : State) (us : List Table) → Twin s.tables us (f s) (f (shift us s)) → Twin s.tables us (caught target (f s)) (caught target (f (shift us s)))
+      go s us (inl h) =
+          let r : Ran = f s in
+          let end : List Table = h.1.end in
+          let k = caught_keeps (λ vs n ns. Within n × (shapes vs ≡ shapes end)
+          × ((c : Cell) → number_at s.tables c ≡ number_at us c → number_at vs c ≡ number_at end c)
+          × ((x : List ℕ) → table_of s.tables x ≡ table_of us x → table_of vs x ≡ table_of end x)
+          × ((c : Cell) → Contains (write_cells ns) c → number_at vs c ≡ number_at end c)
+          × (s.tables ≡ us → vs ≡ end)) target r (h.0, h.1.sizes, h.1.stays, h.1.tables, h.1.written, h.1.whole) in
+          inl (k.0, record { end = end; same = ap (caught target) h.1.same ∙ caught_over target end r; sizes = k.1; stays = k.2; tables = k.3; written = k.4; whole = k.5 })
+      go s us (inr h) = inr (caught_keeps (λ ts n ns. Within n → ⊥) target (f s) h.0, spent_caught target (f (shift us s)) h.1)
 
   -- ---- numbers of expressions
 

@@ -1,12 +1,12 @@
 -- A frame of the whole range of a `par`, and one of both calls of a `both`.
-use Rattle.std.proofs.Common.{◌≡◌, ℕ, zero, suc, Bool, true, false, ℤ, pos, ◌+ℤ◌, List, [], ◌∷◌}
+use Rattle.std.proofs.Common.{◌≡◌, Option, ℕ, zero, suc, Bool, true, false, ℤ, pos, ◌+ℤ◌, List, [], ◌∷◌}
 use Rattle.std.proofs.Common.{cond, map, length, nat_lt, bytes_eq, append_assoc, refl, sym, ap, ◌∙◌}
 use mathlib.Core.Path.{fun_ext}
 use Rattle.std.specs.Prelude.{if◌then◌else◌}
 use Rattle.std.specs.Int.{int_gap}
 use Rattle.tp_value.specs.declared.Op.{Op}
 use Rattle.tp_value.specs.declared.Stop.{Stop}
-use Rattle.tp_value.specs.declared.Stop.TheVariants.{Done, Trap, NoFuel}
+use Rattle.tp_value.specs.declared.Stop.TheVariants.{Done, Left, Trap, NoFuel}
 use Rattle.loop_syntax.specs.declared.Name.{Name}
 use Rattle.loop_syntax.specs.declared.Expr.{Expr}
 use Rattle.loop_syntax.specs.declared.App.{App}
@@ -14,15 +14,18 @@ use Rattle.loop_syntax.specs.declared.Reduce.{Reduce}
 use Rattle.loop_syntax.specs.declared.ParLoop.{ParLoop}
 use Rattle.loop_syntax.specs.declared.Program.{Program}
 use Rattle.loop_syntax.specs.declared.Stmt.TheVariants.{Par, Both}
+use Rattle.loop_syntax.specs.declared.Stmt.TheBlock.{hidden-the_row-Stmt-0}
 use Rattle.loop_meaning.specs.declared.frame.Frame.TheVariants.{Range, Pair}
 use Rattle.loop_meaning.specs.declared.value.Variable.{Variable}
 use Rattle.loop_meaning.specs.State.{lookup, assign, declare, State, Note, Chance, Ran, done, noted}
 use Rattle.loop_meaning.specs.State.{after, go_on, leave_block}
 use Rattle.loop_meaning.specs.Statements.{Called, given_two, given_all, too_wide, unless_wide}
 use Rattle.loop_meaning.specs.Statements.{iteration, iterate, set_var, two_calls, run, run_list}
+use Rattle.loop_meaning.specs.Leaving.{left_in, left_list, caught}
 use Rattle.loop_meaning.specs.Calls.{setting}
 use Rattle.loop_meaning.specs.Frames.{OfPar, OfBoth, with_accs, accs_of, two_calls_of, run_frame}
 use Rattle.loop_meaning.specs.WholeFrames.{iterations, first_chance, then_set, both_by_frame}
+use Rattle.loop_meaning.proofs.Caught.{vec_left}
 use Rattle.loop_meaning.proofs.Runs.{vec_list}
 use Rattle.loop_meaning.proofs.Ticks.{tick_allowed, tick_refused}
 
@@ -60,6 +63,7 @@ after_noted ns r go = f r.stop
   where
     f : (x : Stop) → go_on x (noted ns r) go ≡ noted ns (go_on x r go)
     f Done = ap {A = List Note} {B = Ran} (λ ms. record { stop = (go r.state).stop; state = (go r.state).state; notes = ms }) (append_assoc ns r.notes (go r.state).notes)
+    f (Left n) = refl
     f (Trap k p) = refl
     f NoFuel = refl
 
@@ -104,10 +108,13 @@ pub whole_results : (p : Program) (fuel depth : ℕ) (l : ParLoop) (i j : ℤ) (
 whole_results p fuel depth l i j accs s h = ap (λ r. accs_of l.reduces.items r.state.vars) (whole_range p fuel depth l i j accs s h)
 
 pub par_is : (p : Program) (fuel depth : ℕ) (rs : List Reduce) (l : ParLoop) (s : State)
-    → run (setting p fuel depth rs) (Par l) s ≡ given_two l.from l.to s (λ i j. unless_wide (too_wide i j) l.place (iterations p fuel depth l i j) s)
+    → run (setting p fuel depth rs) (Par l) s ≡ given_two l.from l.to s (λ i j. unless_wide (too_wide i j) l.place (λ t. caught (left_list l.body.items) (iterations p fuel depth l i j t)) s)
 par_is p fuel depth rs l s =
-    ap (λ f. given_two l.from l.to s (λ i j. unless_wide (too_wide i j) l.place (iterate fuel l.var.text.items f (Chance ∷ []) [] (int_gap i j) i) s))
-    (vec_list (setting p fuel depth l.reduces.items) l.body)
+    ap (λ f. whole f (left_in (hidden-the_row-Stmt-0 l.body))) (vec_list (setting p fuel depth l.reduces.items) l.body)
+    ∙ ap (whole (run_list (setting p fuel depth l.reduces.items) l.body.items)) (vec_left l.body)
+  where
+    whole : (State → Ran) → Option (List ℕ) → Ran
+    whole f x = given_two l.from l.to s (λ i j. unless_wide (too_wide i j) l.place (λ t. caught x (iterate fuel l.var.text.items f (Chance ∷ []) [] (int_gap i j) i t)) s)
 
 -- ---- both calls
 
@@ -116,6 +123,7 @@ after_at r f g h = go r.stop
   where
     go : (x : Stop) → go_on x r f ≡ go_on x r g
     go Done = ap (noted r.notes) h
+    go (Left n) = refl
     go (Trap k p) = refl
     go NoFuel = refl
 
@@ -124,6 +132,7 @@ after_after r f g = go r.stop refl
   where
     go : (x : Stop) → r.stop ≡ x → after (go_on x r f) g ≡ go_on x r (λ s. after (f s) g)
     go Done e = after_noted r.notes (f r.state) g
+    go (Left n) e = ap (λ x. go_on x r g) e
     go (Trap k p) e = ap (λ x. go_on x r g) e
     go NoFuel e = ap (λ x. go_on x r g) e
 

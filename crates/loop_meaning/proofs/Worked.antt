@@ -17,7 +17,7 @@ use Rattle.loop_syntax.specs.declared.App.{App}
 use Rattle.loop_syntax.specs.declared.Stmt.{Stmt}
 use Rattle.loop_syntax.specs.declared.Stmt.TheBlock.{hidden-the_row-Stmt-0, shape-the_row-Stmt-0}
 use Rattle.loop_syntax.specs.declared.Stmt.TheVariants.{Let, Set, Put, If, Loop, Par, Fold, Call}
-use Rattle.loop_syntax.specs.declared.Stmt.TheVariants.{Both, Print, Emit}
+use Rattle.loop_syntax.specs.declared.Stmt.TheVariants.{Both, Print, Emit, Leave}
 use Rattle.loop_syntax.specs.declared.Func.{Func}
 use Rattle.loop_syntax.specs.declared.Reduce.{Reduce}
 use Rattle.loop_syntax.specs.declared.TableDecl.TheVariants.{Made}
@@ -216,3 +216,30 @@ module _ (g : Global) (q : Ptr) where
   spent_text : text_of (meaning three_turns [] 2) ≡ codes "out of fuel\n"
   unfolding vec nm at three_turns meaning whole_run iterate turns call_at hidden-the_row-Stmt-0 shape-the_row-Stmt-0 denote.Hole.Carrier.hidden
   spent_text = refl
+
+  -- the second iteration leaves the outer loop from the inner one; the trap behind it isn't met
+  found : Program
+  unfolding vec nm at int var bin box none par
+  found = record {
+    tables = none;
+    funcs = none;
+    main = vec (Let (nm 120) (int (negsuc 0))
+        ∷ par (at 3 3) 105 (pos 0) (pos 4) none
+        (vec (Loop (nm 106) (int (pos 0)) (int (pos 3))
+        (vec (If (bin op.Eq (at 1 1) (var 105) (int (pos 1))) (vec (Leave (nm 120) (bin op.Mul (at 1 1) (int (pos 7)) (var 105)) ∷ []) (lit< tt)) none ∷ []) (lit< tt))
+        ∷ If (bin op.Eq (at 1 1) (var 105) (int (pos 2))) (vec (Let (nm 113) (bin op.Div (at 6 31) (int (pos 1)) (int (pos 0))) ∷ []) (lit< tt)) none ∷ []) (lit< tt))
+        ∷ Print (at 1 1) (var 120) ∷ []) (lit< tt);
+  }
+
+  found_done : meaning found [] 6 ≡ record { stop = Done; output = codes "7\n"; ticks = 6 }
+  unfolding vec nm at box int var bin none par found meaning whole_run iterate turns call_at hidden-the_row-Stmt-0 shape-the_row-Stmt-0 denote.Hole.Carrier.hidden int_wrap digits
+  found_done = refl
+
+  found_spent : meaning found [] 5 ≡ record { stop = NoFuel; output = []; ticks = 6 }
+  unfolding vec nm at box int var bin none par found meaning whole_run iterate turns call_at hidden-the_row-Stmt-0 shape-the_row-Stmt-0 denote.Hole.Carrier.hidden int_wrap digits
+  found_spent = refl
+
+  -- the iteration that leaves is begun, and isn't the first
+  found_chances : chances found [] 6 ≡ 1
+  unfolding vec nm at box int var bin none par found chances whole_run iterate turns call_at hidden-the_row-Stmt-0 shape-the_row-Stmt-0 denote.Hole.Carrier.hidden int_wrap digits
+  found_chances = refl

@@ -5,7 +5,7 @@ use Rattle.tp_value.specs.declared.Place.{Place}
 use Rattle.tp_value.specs.declared.TrapKind.{TrapKind}
 use Rattle.tp_value.specs.declared.TrapKind.TheVariants.{Divide, Index, Deep, Size, Wide}
 use Rattle.tp_value.specs.declared.Stop.{Stop}
-use Rattle.tp_value.specs.declared.Stop.TheVariants.{Done, Trap, NoFuel}
+use Rattle.tp_value.specs.declared.Stop.TheVariants.{Done, Left, Trap, NoFuel}
 use Rattle.tp_value.specs.declared.Outcome.{Outcome}
 
 -- the name of a trap
@@ -23,6 +23,7 @@ place_text p = decimal p.line ++ (58 ∷ decimal p.col)
 -- the line of a run that stopped early
 abbrev pub stop_line : Stop → List ℕ
 stop_line Done = []
+stop_line (Left n) = []
 stop_line (Trap kind place) =
     codes "trap " ++ (kind_name kind ++ (codes " at " ++ (place_text place ++ 10 ∷ [])))
 stop_line NoFuel = codes "out of fuel" ++ 10 ∷ []
@@ -33,6 +34,7 @@ text_of o = o.output ++ stop_line o.stop
 
 abbrev pub by_stop : {A : Type 0} → A → A → A → Stop → A
 by_stop done trap spent Done = done
+by_stop done trap spent (Left n) = done
 by_stop done trap spent (Trap kind place) = trap
 by_stop done trap spent NoFuel = spent
 

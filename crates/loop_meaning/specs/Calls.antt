@@ -4,7 +4,7 @@ use Rattle.tp_value.specs.declared.limits.TheConstants.{MAX_CALL_DEPTH}
 use Rattle.tp_value.specs.declared.Place.{Place}
 use Rattle.tp_value.specs.declared.TrapKind.TheVariants.{Deep}
 use Rattle.tp_value.specs.declared.Stop.{Stop}
-use Rattle.tp_value.specs.declared.Stop.TheVariants.{Done, Trap, NoFuel}
+use Rattle.tp_value.specs.declared.Stop.TheVariants.{Done, Left, Trap, NoFuel}
 use Rattle.loop_syntax.specs.declared.Name.{Name}
 use Rattle.loop_syntax.specs.declared.Expr.{Expr}
 use Rattle.loop_syntax.specs.declared.Reduce.{Reduce}
@@ -53,6 +53,7 @@ abbrev pub call_on : Stop → Ran → (State → Called) → Called
 call_on Done r go =
     let c : Called = go r.state in
     record { value = c.value; ran = noted r.notes c.ran }
+call_on (Left n) r go = no_value r
 call_on (Trap k p) r go = no_value r
 call_on NoFuel r go = no_value r
 

@@ -7,7 +7,7 @@ use Rattle.loop_syntax.specs.declared.Expr.{Expr}
 use Rattle.loop_syntax.specs.declared.Expr.TheVariants.{Int, Var, Cell', Rows, Cols, Neg', Bin'}
 use Rattle.loop_syntax.specs.declared.Stmt.{Stmt, Row_of-Stmt, end_of-Stmt, more_of-Stmt}
 use Rattle.loop_syntax.specs.declared.Stmt.TheVariants.{Let, Set, Put, If', While', Loop', Par'}
-use Rattle.loop_syntax.specs.declared.Stmt.TheVariants.{Fold, Call, Both, Print, Emit}
+use Rattle.loop_syntax.specs.declared.Stmt.TheVariants.{Fold, Call, Both, Print, Emit, Leave, Fill}
 use Rattle.loop_syntax.specs.declared.Func.{Func}
 use Rattle.loop_syntax.specs.declared.TableDecl.{TableDecl}
 use Rattle.loop_syntax.specs.declared.TableDecl.TheVariants.{Input, Made}
@@ -59,6 +59,8 @@ abbrev mutual
   StmtInRange (Both x f y g) = All ExprInRange f.args.items × All ExprInRange g.args.items
   StmtInRange (Print place e) = ExprInRange e
   StmtInRange (Emit place t) = ⊤
+  StmtInRange (Leave x e) = ExprInRange e
+  StmtInRange (Fill f t r es) = ⊤
 
   pub BlockInRange : {m : _} → Row_of-Stmt m → Type 0
   BlockInRange end_of-Stmt = ⊤

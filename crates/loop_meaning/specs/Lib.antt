@@ -4,6 +4,8 @@
 pub mod State
 -- Expressions: the value of an expression, or its trap
 pub mod Expressions
+-- Leaving: the end of a `par` of which an iteration is left
+pub mod Leaving
 -- Statements: what a statement does, and those of a block in order
 pub mod Statements
 -- Calls: functions, their arguments and the depth of calls

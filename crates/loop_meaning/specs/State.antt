@@ -6,7 +6,7 @@ use Rattle.std.specs.Fmt.{signed_decimal}
 use Rattle.tp_value.specs.declared.Place.{Place}
 use Rattle.tp_value.specs.declared.TrapKind.{TrapKind}
 use Rattle.tp_value.specs.declared.Stop.{Stop}
-use Rattle.tp_value.specs.declared.Stop.TheVariants.{Done, Trap, NoFuel}
+use Rattle.tp_value.specs.declared.Stop.TheVariants.{Done, Left, Trap, NoFuel}
 use Rattle.tp_value.specs.declared.Table.{Table}
 use Rattle.loop_meaning.specs.declared.value.Variable.{Variable}
 use Rattle.beat_count.specs.Ticks.{is_tick_allowed, ticked}
@@ -111,6 +111,10 @@ trapped k p s = record { stop = Trap k p; state = s; notes = [] }
 abbrev pub out_of_fuel : State → Ran
 out_of_fuel s = record { stop = NoFuel; state = s; notes = [] }
 
+-- an iteration that is left with a number
+abbrev pub left_with : ℤ → State → Ran
+left_with n s = record { stop = Left n; state = s; notes = [] }
+
 -- with notes made before
 abbrev pub noted : List Note → Ran → Ran
 noted ns r = record { stop = r.stop; state = r.state; notes = ns ++ r.notes }
@@ -118,6 +122,7 @@ noted ns r = record { stop = r.stop; state = r.state; notes = ns ++ r.notes }
 -- goes on where the run is done
 abbrev pub go_on : Stop → Ran → (State → Ran) → Ran
 go_on Done r go = noted r.notes (go r.state)
+go_on (Left n) r go = r
 go_on (Trap k p) r go = r
 go_on NoFuel r go = r
 

@@ -13,7 +13,7 @@ use Rattle.loop_syntax.specs.declared.Reduce.{Reduce}
 use Rattle.loop_syntax.specs.declared.App.{App}
 use Rattle.loop_syntax.specs.declared.Stmt.{Stmt, Row_of-Stmt, end_of-Stmt, more_of-Stmt}
 use Rattle.loop_syntax.specs.declared.Stmt.TheVariants.{Let, Set, Put, If', While', Loop', Par'}
-use Rattle.loop_syntax.specs.declared.Stmt.TheVariants.{Fold, Call, Both, Print, Emit}
+use Rattle.loop_syntax.specs.declared.Stmt.TheVariants.{Fold, Call, Both, Print, Emit, Leave, Fill}
 use Rattle.loop_rules.specs.Names.{operator_of}
 use Rattle.loop_meaning.specs.declared.value.Answer.{Answer}
 use Rattle.loop_meaning.specs.declared.value.Answer.TheVariants.{Number, Traps}
@@ -21,8 +21,9 @@ use Rattle.loop_meaning.specs.declared.value.Variable.{Variable}
 use Rattle.reduce_ops.specs.Reduction.{combine}
 use Rattle.loop_meaning.specs.State.{lookup, assign, declare, table_of, has_cell, write_cell}
 use Rattle.loop_meaning.specs.State.{print_line, print_table, State, Note, Writes, Emits, Chance}
-use Rattle.loop_meaning.specs.State.{Ran, done, trapped, out_of_fuel, noted, after, tick}
+use Rattle.loop_meaning.specs.State.{Ran, done, trapped, out_of_fuel, left_with, noted, after, tick}
 use Rattle.loop_meaning.specs.State.{leave_block}
+use Rattle.loop_meaning.specs.Leaving.{left_in, caught}
 use Rattle.loop_meaning.specs.Expressions.{Value, eval}
 
 -- ---- numbers of expressions
@@ -159,9 +160,9 @@ abbrev mutual
       given_two a b s (λ i j. iterate k.fuel x.text.items (run_all k body) [] [] (int_gap i j) i s)
   run k (Par' place x a b carry_place carries reduces p body) s =
       given_two a b s
-      (λ i j. unless_wide (too_wide i j) place
+      (λ i j. unless_wide (too_wide i j) place (λ t. caught (left_in body)
       (iterate k.fuel x.text.items (run_all (record k { reduces = reduces.items }) body)
-      (Chance ∷ []) [] (int_gap i j) i)
+      (Chance ∷ []) [] (int_gap i j) i t))
       s)
   run k (Fold x e) s =
       given e s
@@ -172,6 +173,8 @@ abbrev mutual
   run k (Print place e) s = given e s (λ n. done (print_line n s))
   run k (Emit place t) s =
       noted (Emits t.text.items ∷ []) (done (print_table (table_of s.tables t.text.items) s))
+  run k (Leave x e) s = given e s (λ n. left_with n s)
+  run k (Fill f t r es) s = done s
 
   pub run_all : {m : _} → Setting → Row_of-Stmt m → State → Ran
   run_all k end_of-Stmt s = done s

@@ -1,7 +1,7 @@
 // What follows from the definitions alone.
 
 ghost use Rattle.std.specs.Prelude.{◌≡◌, ◌+◌, ◌++◌, ◌<◌, ◌≤◌, ◌↔◌, ◌≢◌, ℕ, Bool, ℤ, List, [], map};
-ghost use Rattle.std.specs.Prelude.{Contains, ◌∷◌};
+ghost use Rattle.std.specs.Prelude.{Contains, ◌∷◌, false};
 ghost use Rattle.std.specs.Int.{int_gap};
 ghost use Rattle.std.specs.List.{All};
 ghost use Rattle.tp_value.specs.declared.limits.TheConstants.{MAX_CALL_DEPTH};
@@ -27,13 +27,15 @@ ghost use Rattle.loop_meaning.specs.Expressions.{eval};
 ghost use Rattle.loop_meaning.specs.State.{State, Note, Ran, noted, trapped, out_of_fuel};
 ghost use Rattle.loop_meaning.specs.Statements.{given_two, unless_wide, too_wide, iterate, run};
 ghost use Rattle.loop_meaning.specs.Statements.{run_list};
+ghost use Rattle.loop_meaning.specs.Leaving.{left_list, caught};
 ghost use Rattle.loop_meaning.specs.Calls.{setting, enter, no_value};
 ghost use Rattle.loop_meaning.specs.Frames.{OfPar, accs_of, run_frame};
 ghost use Rattle.loop_meaning.specs.WholeFrames.{iterations, first_chance, both_by_frame};
 ghost use Rattle.loop_meaning.specs.Meaning.{meaning, whole_run, chances};
 ghost use Rattle.loop_meaning.specs.Cells.{Cell, write_cells, body_of, bodies, bodies_of_list};
 ghost use Rattle.loop_meaning.specs.Told.{NotesTell, CallNotesTell, Moves, CallMoves, leaving};
-ghost use Rattle.loop_meaning.specs.Only.{PrintsNothing, OnlyCounts};
+ghost use Rattle.loop_meaning.specs.Only.{StmtOnly, PrintsNothing, OnlyCounts, Untouched};
+ghost use Rattle.loop_meaning.specs.Only.{LeavesNothing, IsNeverLeft};
 
 use loop_syntax::{ParLoop as Parallel, Program};
 use tp_value::{Stop, Table};
@@ -76,15 +78,17 @@ pub fn more_fuel_changes_nothing(program: &Program, tables: &[Table], fuel: u64)
         ≡ run_list (setting program.now fuel depth rs) body s }
 {}
 
-/// A frame of the whole range of a `par`, with the reduced variables' own values as accumulators,
-/// runs its iterations, and ends with the values of those variables; it notes one chance more, that
-/// of the first iteration, where that is begun. A frame of both calls is what a `both` does between
-/// its arguments and its assignments.
+/// A `par` runs its iterations and catches one that is left. A frame of the whole range of a `par`,
+/// with the reduced variables' own values as accumulators, runs its iterations, and ends with the
+/// values of those variables; it stops as they do, left where one of them is, and it notes one
+/// chance more, that of the first iteration, where that is begun. A frame of both calls is what a
+/// `both` does between its arguments and its assignments.
 pub fn whole_frames_are_the_loop(program: &Program, fuel: u64)
     ensures par { (depth : ℕ) (rs : List Reduce) (l : ParLoop) (s : State) →
         run (setting program.now fuel depth rs) (Par l) s ≡
         given_two l.from l.to s (λ i j.
-        unless_wide (too_wide i j) l.place (iterations program.now fuel depth l i j) s) }
+        unless_wide (too_wide i j) l.place (λ t. caught (left_list l.body.items)
+        (iterations program.now fuel depth l i j t)) s) }
     ensures range { (depth : ℕ) (l : ParLoop) (i j : ℤ) (accs : List (Op × ℤ)) (s : State) →
         map (λ (a : Op × ℤ). a.1) accs ≡ accs_of l.reduces.items s.vars →
         (run_frame program.now fuel depth (OfPar l) (Range i j accs) s).ran ≡
@@ -123,8 +127,9 @@ pub fn calls_reach_the_limit(program: &Program, fuel: u64)
 
 /// Numbers stay in the range of 64 bits: where the variables, the cells and sizes of the tables,
 /// and the literals are in it, so are the values of expressions, and so are the variables and
-/// tables after a run of statements at any depth, however it stops. So are those after a whole
-/// program whose literals are in it, over given tables that are in it.
+/// tables after a run of statements at any depth, however it stops, and the number with which an
+/// iteration is left. So are those after a whole program whose literals are in it, over given tables
+/// that are in it.
 pub fn numbers_stay_in_range(program: &Program, tables: &[Table], fuel: u64)
     ensures values { (s : State) (e : Expr) (n : ℤ)
         → StateInRange s
@@ -134,6 +139,9 @@ pub fn numbers_stay_in_range(program: &Program, tables: &[Table], fuel: u64)
     ensures runs { (depth : ℕ) (rs : List Reduce) (body : List statement.Stmt) (s : State) →
         All FuncInRange program.now.funcs.items → All StmtInRange body → StateInRange s →
         StateInRange (run_list (setting program.now fuel depth rs) body s).state }
+    ensures left { (depth : ℕ) (rs : List Reduce) (body : List statement.Stmt) (s : State) (n : ℤ) →
+        All FuncInRange program.now.funcs.items → All StmtInRange body → StateInRange s →
+        (run_list (setting program.now fuel depth rs) body s).stop ≡ Stop.Left n → InRange n }
     ensures whole { ProgramInRange program.now
         → All TableInRange tables.now
         → StateInRange (whole_run program.now tables.now fuel).state }
@@ -187,11 +195,23 @@ pub fn calls_see_no_variables(program: &Program, fuel: u64)
 {}
 
 /// Where the functions of a program neither print nor write cells, a call keeps the output and the
-/// tables and notes no write, and statements with no `print` and no `emit` in them keep the output.
+/// tables and notes no write. Statements with no `print` and no `emit` in them then keep the output;
+/// those with no write to a cell in them keep the tables and note no write. So do their iterations,
+/// and all this however they stop.
 pub fn only_prints_print(program: &Program, fuel: u64)
     ensures statements { (depth : ℕ) (rs : List Reduce) (body : List statement.Stmt) (s : State) →
         All OnlyCounts program.now.funcs.items → All PrintsNothing body →
         (run_list (setting program.now fuel depth rs) body s).state.output ≡ s.output }
+    ensures untouched { (prints : Bool) (depth : ℕ) (rs : List Reduce)
+        (body : List statement.Stmt) (s : State) →
+        All OnlyCounts program.now.funcs.items → All (StmtOnly false prints) body →
+        Untouched s (run_list (setting program.now fuel depth rs) body s) }
+    ensures iterations { (prints : Bool) (depth : ℕ) (rs : List Reduce)
+        (body : List statement.Stmt) (x : List ℕ) (again ns : List Note) →
+        write_cells again ≡ [] → write_cells ns ≡ [] → (n : ℕ) (i : ℤ) (s : State) →
+        All OnlyCounts program.now.funcs.items → All (StmtOnly false prints) body →
+        Untouched s
+        (iterate fuel x (run_list (setting program.now fuel depth rs) body) again ns n i s) }
     ensures output { (depth : ℕ) (rs : List Reduce) (f : List ℕ) (place : Place) (ns : List ℤ)
         (begin : List Note) (s : State) →
         All OnlyCounts program.now.funcs.items →
@@ -206,6 +226,28 @@ pub fn only_prints_print(program: &Program, fuel: u64)
         Contains
         (write_cells ((setting program.now fuel depth rs).call f place ns begin s).ran.notes) c →
         Contains (write_cells begin) c }
+{}
+
+/// Only a `leave` leaves, and only its nearest `par`: where no function has one outside of its `par`
+/// loops, a call is never left; neither are statements with none outside of theirs, nor iterations
+/// over such a body, nor the whole program where main is so.
+pub fn only_leaves_leave(program: &Program, tables: &[Table], fuel: u64)
+    ensures statements { (depth : ℕ) (rs : List Reduce) (body : List statement.Stmt) (s : State)
+        (n : ℤ) →
+        All IsNeverLeft program.now.funcs.items → LeavesNothing body →
+        (run_list (setting program.now fuel depth rs) body s).stop ≢ Stop.Left n }
+    ensures iterations { (depth : ℕ) (rs : List Reduce) (body : List statement.Stmt) (x : List ℕ)
+        (again ns : List Note) (m : ℕ) (i : ℤ) (s : State) (n : ℤ) →
+        All IsNeverLeft program.now.funcs.items → LeavesNothing body →
+        (iterate fuel x (run_list (setting program.now fuel depth rs) body) again ns m i s).stop
+        ≢ Stop.Left n }
+    ensures calls { (depth : ℕ) (rs : List Reduce) (f : List ℕ) (place : Place) (ns : List ℤ)
+        (begin : List Note) (s : State) (n : ℤ) →
+        All IsNeverLeft program.now.funcs.items →
+        ((setting program.now fuel depth rs).call f place ns begin s).ran.stop ≢ Stop.Left n }
+    ensures outcome { (n : ℤ) →
+        All IsNeverLeft program.now.funcs.items → LeavesNothing program.now.main.items →
+        (meaning program.now tables.now fuel).stop ≢ Stop.Left n }
 {}
 
 /// Where a program lies in memory is no matter: two programs with one tree run in the same way over

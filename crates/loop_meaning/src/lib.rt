@@ -8,6 +8,7 @@ mod argument;
 mod expression;
 mod frame;
 pub mod laws;
+mod left;
 mod memory;
 mod number;
 mod plain;

@@ -6,11 +6,13 @@ ghost use Rattle.tp_value.specs.declared.limits.TheConstants.{MAX_CALL_DEPTH};
 ghost use Rattle.loop_meaning.specs.Statements.{run, run_list, run_call, run_both, two_calls};
 ghost use Rattle.loop_meaning.specs.Statements.{block, turns, iteration, iterate, given_two};
 ghost use Rattle.loop_meaning.specs.Statements.{unless_wide, too_wide};
+ghost use Rattle.loop_meaning.specs.Leaving.{left_list, caught};
 ghost use Rattle.loop_meaning.specs.Calls.{call_at, enter};
 ghost use Rattle.loop_meaning.specs.Ends.{setting_of, state_of, Ends, CallEnds};
 
 use crate::argument::{Numbers, Returned, bound, numbers_of, stopped};
 use crate::expression::value_of;
+use crate::left::{caught, run_leave};
 use crate::memory::{Memory, assign, count_tick, declare, leave};
 use crate::setting::Setting;
 use crate::simple::{run_emit, run_fold, run_let, run_print, run_put, run_set};
@@ -48,6 +50,8 @@ fn run_stmt(setting: &Setting, memory: &mut Memory, statement: &Stmt) -> Result<
         Stmt::Both(x, f, y, g) => run_both(setting, memory, x, f, y, g),
         Stmt::Print(_, e) => run_print(setting.alloc, memory, e),
         Stmt::Emit(_, t) => run_emit(memory, t),
+        Stmt::Leave(_, e) => Ok(run_leave(memory, e)),
+        Stmt::Fill { .. } => Ok(Stop::Done),
     }
 }
 
@@ -253,11 +257,11 @@ fn run_par(setting: &Setting, memory: &mut Memory, par: &ParLoop) -> Result<Stop
     ensures { IfOk result
         (λ y. Ends
         (let s = state_of memory.old in given_two par.now.from par.now.to s
-        (λ i j. unless_wide (too_wide i j) par.now.place
+        (λ i j. unless_wide (too_wide i j) par.now.place (λ t. caught (left_list par.now.body.items)
         (iterate setting.now.fuel par.now.var.text.items
         (run_list (record (setting_of setting.now) { reduces = par.now.reduces.items })
         par.now.body.items)
-        [] [] (int_gap i j) i)
+        [] [] (int_gap i j) i t))
         s))
         y (state_of memory.new)) }
 {
@@ -268,7 +272,8 @@ fn run_par(setting: &Setting, memory: &mut Memory, par: &ParLoop) -> Result<Stop
                 if n > MAX_PAR_LENGTH {
                     Ok(Stop::Trap(TrapKind::Wide, par.place))
                 } else {
-                    run_body(setting, memory, par, i, n)
+                    let stop = run_body(setting, memory, par, i, n)?;
+                    Ok(caught(memory, stop, &par.body))
                 }
             }
             Answer::Traps(kind, place) => Ok(Stop::Trap(kind, place)),
