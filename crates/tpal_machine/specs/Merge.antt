@@ -5,7 +5,7 @@ use Rattle.beat_count.specs.Heartbeat.{no_beat}
 use Rattle.beat_count.specs.Joining.{joined_stop, joined_ticks}
 use Rattle.slices.specs.Holding.{Holding, together, SameSize, CommonCell}
 use Rattle.tp_value.specs.declared.values.Stop.{Stop}
-use Rattle.tp_value.specs.declared.values.Stop.TheVariants.{Done, Trap, NoFuel}
+use Rattle.tp_value.specs.declared.values.Stop.TheVariants.{Done, Left, Trap, NoFuel}
 use Rattle.tpal_syntax.specs.declared.notes.CarryAt.{CarryAt}
 use Rattle.tpal_syntax.specs.declared.notes.Target.{Target}
 use Rattle.tpal_syntax.specs.declared.words.Word.{Word}
@@ -28,6 +28,7 @@ use Rattle.tpal_machine.specs.State.{State, no_words}
 -- what holds of a side that is done
 abbrev pub WhereDone : Stop → Type 0 → Type 0
 WhereDone Done P = P
+WhereDone (Left number) P = Unit {0}
 WhereDone (Trap kind place) P = Unit {0}
 WhereDone NoFuel P = Unit {0}
 
@@ -128,6 +129,8 @@ merged_task target rest left right ticks output = record {
 abbrev pub joined_by : Stop → ℕ → List ℕ → Target → RestState → Side → Side → Joined
 joined_by Done ticks output target rest left right =
     Goes (merged_task target rest left right ticks output)
+joined_by (Left number) ticks output target rest left right =
+    Ends (ended_together rest.goal (Left number) ticks output)
 joined_by (Trap kind place) ticks output target rest left right =
     Ends (ended_together rest.goal (Trap kind place) ticks output)
 joined_by NoFuel ticks output target rest left right =

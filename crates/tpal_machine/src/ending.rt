@@ -25,7 +25,7 @@ pub(crate) fn is_done(stop: Stop) -> bool
 {
     match stop {
         Stop::Done => true,
-        Stop::Trap(_, _) | Stop::NoFuel => false,
+        Stop::Left(_) | Stop::Trap(_, _) | Stop::NoFuel => false,
     }
 }
 

@@ -228,7 +228,7 @@ pub(crate) fn merge_parts(
             let task = merged_task(kept, left, right, code, ticks, output)?;
             Ok(Merged::Runs(task))
         }
-        Stop::Trap(_, _) | Stop::NoFuel => Ok(ended_together(
+        Stop::Left(_) | Stop::Trap(_, _) | Stop::NoFuel => Ok(ended_together(
             alloc, kept.goal, stop, ticks, output,
         )),
     }
