@@ -14,7 +14,8 @@ use Rattle.loop_syntax.specs.declared.Expr.{Expr}
 use Rattle.loop_meaning.specs.declared.value.Answer.TheVariants.{Number}
 use Rattle.loop_meaning.specs.Expressions.{eval}
 use Rattle.loop_meaning.specs.State.{State, Note, Ran, done, after, go_on, tick, noted, trapped}
-use Rattle.loop_meaning.specs.Statements.{Setting, Called, given, given_all, run_list, two_calls, with_call}
+use Rattle.loop_meaning.specs.Statements.{Setting, Called, given, given_all, run_list, two_calls}
+use Rattle.loop_meaning.specs.Statements.{with_call}
 use Rattle.loop_meaning.specs.Statements.{set_var}
 use Rattle.loop_meaning.specs.Calls.{call_at, call_on, no_value, enter, bound}
 use Rattle.loop_rules.specs.Names.{func_of}

@@ -1,7 +1,7 @@
 -- What is never left: runs of statements with no `leave` but in a `par` of theirs.
 use Rattle.std.proofs.Common.{◌≡◌, ◌∷◌, [], ℕ, zero, suc, ◌+◌, ◌-◌, ◌*◌, ℤ, pos, negsuc, ◌+ℤ◌, List}
-use Rattle.std.proofs.Common.{Option, Some, None, Bool, true, false, cond, nat_lt, length, bytes_eq}
-use Rattle.std.proofs.Common.{unsigned_abs, All, refl, sym, ap, ◌∙◌}
+use Rattle.std.proofs.Common.{Option, Some, None, Bool, true, false, cond, nat_lt, bytes_eq}
+use Rattle.std.proofs.Common.{unsigned_abs, All, refl, sym, ◌∙◌}
 use Rattle.std.specs.Int.{int_gap}
 use Rattle.std.specs.Prelude.{⊤}
 use Rattle.std.proofs.lemmas.List.Elements.{All-head, All-tail}
@@ -25,7 +25,7 @@ use Rattle.loop_rules.specs.Names.{func_of}
 use Rattle.loop_meaning.specs.declared.value.Answer.{Answer}
 use Rattle.loop_meaning.specs.declared.value.Answer.TheVariants.{Number, Traps}
 use Rattle.loop_meaning.specs.State.{declare, table_of, has_cell, State, Note, Chance, Ran, done}
-use Rattle.loop_meaning.specs.State.{trapped, noted, after, go_on, tick, leave_block}
+use Rattle.loop_meaning.specs.State.{trapped, noted, after, go_on, tick}
 use Rattle.loop_meaning.specs.Expressions.{eval}
 use Rattle.loop_meaning.specs.Leaving.{or_else, left_of, left_in, left_list, caught_by, caught}
 use Rattle.loop_meaning.specs.Statements.{Setting, Called, given, given_answer, given_two}

@@ -25,12 +25,14 @@ use Rattle.loop_rules.specs.Names.{func_of}
 use Rattle.loop_meaning.specs.declared.value.Answer.{Answer}
 use Rattle.loop_meaning.specs.declared.value.Answer.TheVariants.{Number, Traps}
 use Rattle.loop_meaning.specs.State.{table_of, has_cell, assign, declare, State, Note, Emits, Ran}
-use Rattle.loop_meaning.specs.State.{Chance, done, left_with, trapped, noted, after, go_on, tick, leave_block}
+use Rattle.loop_meaning.specs.State.{Chance, done, left_with, trapped, noted, after, go_on, tick}
+use Rattle.loop_meaning.specs.State.{leave_block}
 use Rattle.loop_meaning.specs.Expressions.{eval}
 use Rattle.loop_meaning.specs.Leaving.{left_in, caught_by, caught}
 use Rattle.loop_meaning.specs.Statements.{Setting, Called, given, given_answer, given_two}
 use Rattle.loop_meaning.specs.Statements.{given_all, choose, block, turns, iteration, iterate}
-use Rattle.loop_meaning.specs.Statements.{too_wide, unless_wide, put_cell, run_call, run_both, run, run_all}
+use Rattle.loop_meaning.specs.Statements.{too_wide, unless_wide, put_cell, run_call, run_both, run}
+use Rattle.loop_meaning.specs.Statements.{run_all}
 use Rattle.loop_meaning.specs.Statements.{run_list}
 use Rattle.loop_meaning.specs.Calls.{call_at, call_on, enter, bound, setting}
 use Rattle.loop_meaning.specs.Meaning.{make_tables, unless_large, add_table, zero_table}

@@ -18,7 +18,8 @@ use Rattle.loop_meaning.specs.Cells.{Cell, write_cells}
 use Rattle.loop_meaning.specs.Only.{StmtOnly, BlockOnly, PrintsNothing, OnlyCounts, Untouched}
 use Rattle.loop_meaning.specs.Told.{shapes, number_at, SeenAlike, AlikeOver, NotesTell}
 use Rattle.loop_meaning.specs.Told.{CallNotesTell, moved, moved_ran, Spent, Moves, CallMoves}
-use Rattle.loop_meaning.proofs.Seen.{no_writes_is, writes_append, writes_left, writes_right, writes_cases}
+use Rattle.loop_meaning.proofs.Seen.{no_writes_is, writes_append, writes_left, writes_right}
+use Rattle.loop_meaning.proofs.Seen.{writes_cases}
 use Rattle.loop_meaning.proofs.Seen.{contains_none, contains_only}
 use Rattle.loop_meaning.proofs.Traces.{Tells, Traced, CallsTraced, traced_iterate, traced_list}
 use Rattle.loop_meaning.proofs.Traces.{traced_call, any_list, any_funcs}

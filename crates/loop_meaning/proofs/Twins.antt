@@ -1,6 +1,7 @@
 -- Two runs: the second is over other tables that are seen alike, and with more ticks and more output before it.
 use Rattle.std.proofs.Common.{◌≡◌, ◌<◌, ◌≤◌, ◌+◌, ◌++◌, ◌∷◌, [], ℕ, zero, suc, ℤ, pos, negsuc, ◌+ℤ◌}
-use Rattle.std.proofs.Common.{List, Option, Some, None, Bool, true, false, nat_lt, length, take, Contains, ◌⊎◌, inl}
+use Rattle.std.proofs.Common.{List, Option, Some, None, Bool, true, false, nat_lt, length, take}
+use Rattle.std.proofs.Common.{Contains, ◌⊎◌, inl}
 use Rattle.std.proofs.Common.{inr, refl, sym, ap, subst, ◌∙◌, append_assoc, arith}
 use Rattle.std.proofs.lemmas.Bool.{ltb-true, ltb-false}
 use Rattle.std.proofs.lemmas.Bool.Decides.{nat_tests}
