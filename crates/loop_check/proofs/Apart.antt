@@ -1,5 +1,6 @@
--- The rules of disjoint writes look at the visible variables and at the `par` loops round, and at nothing else of a spot.
-use Rattle.std.proofs.Common.{◌≡◌, ◌++◌, ◌∷◌, [], List, length, Option, refl, sym, ap, ◌∙◌}
+-- The rules of disjoint writes look at the visible variables, at loops' variables and at the `par` loops round, and at nothing else of a spot.
+use Rattle.std.proofs.Common.{◌≡◌, ◌++◌, ◌∷◌, [], ℕ, ◌||◌, List, length, Option, refl, sym, ap, ◌∙◌}
+use Rattle.loop_syntax.specs.declared.Name.{Name}
 use Rattle.loop_syntax.specs.declared.RowAt.TheVariants as row
 use Rattle.loop_syntax.specs.declared.Carry.{Carry}
 use Rattle.loop_syntax.specs.declared.Carry.TheVariants as carry
@@ -8,20 +9,27 @@ use Rattle.loop_syntax.specs.declared.Expr.TheVariants.{Int, Var, Cell', Rows, C
 use Rattle.loop_syntax.specs.declared.App.{App}
 use Rattle.loop_syntax.specs.declared.Stmt.{Stmt, Row_of-Stmt, end_of-Stmt, more_of-Stmt}
 use Rattle.loop_syntax.specs.declared.Stmt.TheVariants.{Let, Set, Put, If', While', Loop', Par'}
-use Rattle.loop_syntax.specs.declared.Stmt.TheVariants.{Fold, Call, Both, Print, Emit}
+use Rattle.loop_syntax.specs.declared.Stmt.TheVariants.{Fold, Call, Both, Print, Emit, Leave, Fill}
 use Rattle.loop_rules.specs.declared.fault.Fault.{Fault}
-use Rattle.loop_rules.specs.Sites.{Site, Spot, site, Calls, in_expr, in_whole, in_args, in_app}
+use Rattle.loop_rules.specs.declared.rule.Rule.TheVariants as rules
+use Rattle.loop_rules.specs.Leaves.{has_other, bad_lefts}
+use Rattle.loop_rules.specs.Names.{is_in}
+use Rattle.loop_rules.specs.Reductions.{any_loop}
+use Rattle.loop_rules.specs.Scopes.{at}
+use Rattle.loop_rules.specs.Sites.{Site, Spot, site, Calls, LeavesAll, in_expr, in_whole, in_args}
+use Rattle.loop_rules.specs.Sites.{in_app}
+use Rattle.loop_rules.specs.Targets.{targets_all}
 use Rattle.loop_rules.specs.Sites.{in_carries, in_stmt, in_all, in_list, in_loop, in_par}
 use Rattle.loop_rules.specs.Sites.{spot_after}
 use Rattle.loop_check.specs.declared.reader.Reader.{Reader}
 use Rattle.loop_check.specs.Walk.{spot}
-use Rattle.loop_rules.specs.Search.{lowest_at, lowest_in}
+use Rattle.loop_rules.specs.Search.{lowest, lowest_at, lowest_in}
 use Rattle.loop_check.specs.Search.{checked_rules}
 use Rattle.loop_rules.proofs.Searching.{lowest_in_append}
 
 -- with no more than these rules look at
 abbrev pub bare : Spot → Spot
-bare w = spot w.scope w.rounds
+bare w = spot w.scope w.loops w.rounds
 
 record Same (xs ys : List Site) : Type 0 where
   at : (rs : List Reader) (b : Option Fault) → lowest_in (checked_rules rs) b xs ≡ lowest_in (checked_rules rs) b ys
@@ -71,6 +79,12 @@ after_bare w _ = refl
 two_bare : (xs ys zs : List Site) → Same xs zs → Same ys zs → Same xs ys
 two_bare xs ys zs f g = record { at = λ rs b. f.at rs b ∙ sym (g.at rs b) }
 
+lefts_bare : (before : List (List ℕ)) (xs : List Name) (w : Spot) → bad_lefts before xs w ≡ bad_lefts before xs (bare w)
+lefts_bare before [] w = refl
+lefts_bare before (x ∷ xs) w =
+    ap (λ ps. at x (any_loop (λ loop. is_in loop.outside x.text.items) w.rounds || is_in w.loops x.text.items || has_other before x.text.items) ++ ps)
+    (lefts_bare (x.text.items ∷ before) xs w)
+
 mutual
   stmt_apart : (w : Spot) (s : Stmt) → Same (in_stmt w s) (in_stmt (bare w) s)
   stmt_apart w (Let x e) = same_cons _ _ _ _ (λ rs b. refl) (whole_apart w e)
@@ -82,16 +96,18 @@ mutual
   stmt_apart w (Loop' x a b p body) =
       same_cons _ _ _ _ (λ rs b. refl) (same_append _ _ _ _ (whole_apart w a) (same_append _ _ _ _ (whole_apart w b) (two_bare _ _ _ (all_apart (in_loop w x) body) (all_apart (in_loop (bare w) x) body))))
   stmt_apart w (Par' place x a b carry_place carries reduces p body) =
-      same_cons _ _ _ _ (λ rs b. refl) (same_cons _ _ _ _ (λ rs b. refl)
+      same_cons _ _ _ _ (λ rs b. refl) (same_cons (site w (LeavesAll (targets_all body))) (site (bare w) (LeavesAll (targets_all body))) _ _ (λ rs b. ap (lowest b rules.Leaves) (lefts_bare [] (targets_all body) w)) (same_cons _ _ _ _ (λ rs b. refl)
       (same_append _ _ _ _ (whole_apart w a) (same_append _ _ _ _ (whole_apart w b)
       (same_append _ _ _ _ (carries_apart w carries.items)
-      (two_bare _ _ _ (all_apart (in_par w x carries.items reduces.items) body) (all_apart (in_par (bare w) x carries.items reduces.items) body))))))
+      (two_bare _ _ _ (all_apart (in_par w x carries.items reduces.items) body) (all_apart (in_par (bare w) x carries.items reduces.items) body)))))))
   stmt_apart w (Fold x e) = same_cons _ _ _ _ (λ rs b. refl) (whole_apart w e)
   stmt_apart w (Call x f) = same_cons _ _ _ _ (λ rs b. refl) (app_apart w f)
   stmt_apart w (Both x f y g) =
       same_cons _ _ _ _ (λ rs b. refl) (same_append _ _ _ _ (app_apart w f) (same_cons _ _ _ _ (λ rs b. refl) (same_cons _ _ _ _ (λ rs b. refl) (app_apart w g))))
   stmt_apart w (Print place e) = same_cons _ _ _ _ (λ rs b. refl) (whole_apart w e)
   stmt_apart w (Emit place t) = record { at = λ rs b. refl }
+  stmt_apart w (Leave x e) = same_cons _ _ _ _ (λ rs b. refl) (whole_apart w e)
+  stmt_apart w (Fill f t r es) = none
 
   all_apart : {m : _} (w : Spot) (row : Row_of-Stmt m) → Same (in_all w row) (in_all (bare w) row)
   all_apart w end_of-Stmt = none

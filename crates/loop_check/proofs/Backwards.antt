@@ -35,7 +35,7 @@ or_none : (a : Bool) → (a || false) ≡ a
 or_none true = refl
 or_none false = refl
 
-onto_in : {A : Type 0} (f : A → List ℕ) (ys : List A) (xs : List (List ℕ)) (x : List ℕ) → is_in (onto f ys xs) x ≡ (is_in (map f ys) x || is_in xs x)
+pub onto_in : {A : Type 0} (f : A → List ℕ) (ys : List A) (xs : List (List ℕ)) (x : List ℕ) → is_in (onto f ys xs) x ≡ (is_in (map f ys) x || is_in xs x)
 onto_in f [] xs x = refl
 onto_in f (y ∷ ys) xs x = onto_in f ys (f y ∷ xs) x ∙ swapped (is_in (map f ys) x) (bytes_eq (f y) x) (is_in xs x)
 

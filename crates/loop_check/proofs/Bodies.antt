@@ -7,7 +7,7 @@ use Rattle.loop_syntax.specs.declared.Reduce.{Reduce}
 use Rattle.loop_syntax.specs.declared.Stmt.{Stmt, Row_of-Stmt, end_of-Stmt, more_of-Stmt}
 use Rattle.loop_syntax.specs.declared.Stmt.{items-the_row-Stmt}
 use Rattle.loop_syntax.specs.declared.Stmt.TheVariants.{Let, Set, Put, If', While', Loop', Par'}
-use Rattle.loop_syntax.specs.declared.Stmt.TheVariants.{Fold, Call, Both, Print, Emit}
+use Rattle.loop_syntax.specs.declared.Stmt.TheVariants.{Fold, Call, Both, Print, Emit, Leave, Fill}
 use Rattle.loop_syntax.specs.declared.Func.{Func}
 use Rattle.loop_syntax.specs.declared.Program.{Program}
 use Rattle.loop_rules.specs.declared.part.Part.{Part}
@@ -35,6 +35,8 @@ after_spot w (Call y f) = refl
 after_spot w (Both y f z g) = refl
 after_spot w (Print p e) = refl
 after_spot w (Emit p t) = refl
+after_spot w (Leave y e) = refl
+after_spot w (Fill f t r es) = refl
 
 -- the `par` over x with these clauses and this body
 abbrev pub body_at : Spot → Name → List Carry → List Reduce → List Stmt → Body
@@ -60,6 +62,8 @@ module _ (F : Site → Type 0) (I : Spot → Type 0)
   after_ok w (Both y f z g) i h = i
   after_ok w (Print p e) i h = i
   after_ok w (Emit p t) i h = i
+  after_ok w (Leave y e) i h = i
+  after_ok w (Fill f t r es) i h = i
 
   mutual
     pub each_stmt : (w : Spot) → I w → (s : Stmt) → Each F (in_stmt w s) → Each Q (bodies w.scope w.rounds s)
@@ -75,18 +79,20 @@ module _ (F : Site → Type 0) (I : Spot → Type 0)
         each_row (in_loop w y) (loop_ok w y h.0 i) body
         (each_right F (in_whole w b) (in_all (in_loop w y) body) (each_right F (in_whole w a) (in_whole w b ++ in_all (in_loop w y) body) h.1))
     each_stmt w i (Par' place y a b z cs rs p body) h =
-        let k1 = each_right F (in_whole w a) (in_whole w b ++ (in_carries w cs.items ++ in_all (in_par w y cs.items rs.items) body)) h.1.1 in
+        let k1 = each_right F (in_whole w a) (in_whole w b ++ (in_carries w cs.items ++ in_all (in_par w y cs.items rs.items) body)) h.1.1.1 in
         let k2 = each_right F (in_whole w b) (in_carries w cs.items ++ in_all (in_par w y cs.items rs.items) body) k1 in
         let k3 = each_right F (in_carries w cs.items) (in_all (in_par w y cs.items rs.items) body) k2 in (
-          step w y cs.items rs.items (items-the_row-Stmt _ body) place z i h.0 h.1.0 (each_left F (in_carries w cs.items) (in_all (in_par w y cs.items rs.items) body) k2)
+          step w y cs.items rs.items (items-the_row-Stmt _ body) place z i h.0 h.1.1.0 (each_left F (in_carries w cs.items) (in_all (in_par w y cs.items rs.items) body) k2)
               (subst (Each F) (rows_list (in_par w y cs.items rs.items) body) k3),
-          each_row (in_par w y cs.items rs.items) (par_ok w y cs.items rs.items h.1.0 i) body k3,
+          each_row (in_par w y cs.items rs.items) (par_ok w y cs.items rs.items h.1.1.0 i) body k3,
         )
     each_stmt w i (Fold y e) h = tt
     each_stmt w i (Call y f) h = tt
     each_stmt w i (Both y f z g) h = tt
     each_stmt w i (Print p e) h = tt
     each_stmt w i (Emit p t) h = tt
+    each_stmt w i (Leave y e) h = tt
+    each_stmt w i (Fill f t r es) h = tt
 
     pub each_row : {n : _} → (w : Spot) → I w → (row : Row_of-Stmt n) → Each F (in_all w row) → Each Q (bodies_all w.scope w.rounds row)
     each_row w i end_of-Stmt h = tt

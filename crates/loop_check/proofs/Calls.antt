@@ -3,7 +3,7 @@ use Rattle.std.proofs.Common.{◌≡◌, ℕ, zero, suc, ℤ, pos, List, [], ◌
 use Rattle.std.proofs.Common.{Contains}
 use Rattle.tp_value.specs.declared.TrapKind.TheVariants.{Deep}
 use Rattle.tp_value.specs.declared.Stop.{Stop}
-use Rattle.tp_value.specs.declared.Stop.TheVariants.{Done, Trap, NoFuel}
+use Rattle.tp_value.specs.declared.Stop.TheVariants.{Done, Left, Trap, NoFuel}
 use Rattle.loop_syntax.specs.declared.Func.{Func}
 use Rattle.loop_syntax.specs.declared.Program.{Program}
 use Rattle.loop_meaning.specs.declared.value.Variable.{Variable}
@@ -12,7 +12,7 @@ use Rattle.loop_rules.specs.Reading.{ReadsTable, itself, through}
 use Rattle.loop_rules.specs.declared.part.Part.TheVariants.{OfFunc}
 use Rattle.loop_rules.specs.Sites.{Act, DeclaresTable, DeclaresFunc, DeclaresAll, Declares, Uses}
 use Rattle.loop_rules.specs.Sites.{Assigns, Folds, AssignsBoth, NamesTable, ReadsCell, WritesCell}
-use Rattle.loop_rules.specs.Sites.{Calls, Evaluates, Shows, Parallel, Spot, Site, in_whole, in_list}
+use Rattle.loop_rules.specs.Sites.{Calls, Evaluates, Shows, Parallel, Leaves, LeavesAll, Spot, Site, in_whole, in_list}
 use Rattle.loop_rules.specs.Sites.{in_params, spot_of_list, func_spot, in_func, top, tables_of}
 use Rattle.loop_meaning.specs.Calls.{bound, enter, no_value, call_on, call_at}
 use Rattle.loop_meaning.specs.State.{State, Note, Ran, done, trapped, noted, after, tick}
@@ -68,6 +68,8 @@ sites_ok m prog quiet f g e r = each_of (λ (s : Site). ActOk (loosened m) prog 
     go (Evaluates x) w h = tt
     go (Shows q) w h = absurd (each_at (λ (s : Site). Quiet s.act) (in_func prog g) (record { act = Shows q; spot = w }) (quiet f g e) h)
     go (Parallel p q l) w h = tt
+    go (Leaves x) w h = tt
+    go (LeavesAll xs) w h = λ y q. absurd q
 
 restored : (m : Mode) (r : Ran) (s : State) → Fixed m s → Good (loosened m) r → Good m (record r { state = record r.state { vars = s.vars } })
 restored m r s h g = record { fixed = record { found = h.found; written = g.fixed.written; shown = g.fixed.shown }; notes = g.notes }
@@ -90,6 +92,7 @@ enter_ok m prog quiet k c f (Some g) e r ns b s hb h =
 
 on_ok : (m : Mode) (prog : Program) (x : Stop) (r : Ran) (go : State → Called) → Good m r → ((s : State) → Fixed m s → Good m (go s).ran) → Good m (call_on x r go).ran
 on_ok m prog Done r go g f = noted_ok m prog r.notes (go r.state).ran g.notes (f r.state g.fixed)
+on_ok m prog (Left n) r go g f = g
 on_ok m prog (Trap k p) r go g f = g
 on_ok m prog NoFuel r go g f = g
 

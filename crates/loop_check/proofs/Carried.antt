@@ -24,7 +24,7 @@ use Rattle.loop_rules.specs.Reductions.{any_loop}
 use Rattle.loop_rules.specs.Reading.{CallsReader}
 use Rattle.loop_rules.specs.Sites.{Loop, Act, DeclaresTable, DeclaresFunc, DeclaresAll, Declares}
 use Rattle.loop_rules.specs.Sites.{Uses, Assigns, Folds, AssignsBoth, NamesTable, ReadsCell}
-use Rattle.loop_rules.specs.Sites.{WritesCell, Calls, Evaluates, Shows, Parallel, Spot, Site}
+use Rattle.loop_rules.specs.Sites.{WritesCell, Calls, Evaluates, Shows, Parallel, Leaves, LeavesAll, Spot, Site}
 use Rattle.loop_rules.specs.Sites.{in_carries, in_expr, in_whole, in_params, in_decls, in_list}
 use Rattle.loop_rules.specs.Sites.{in_func, in_funcs, in_main, in_par, the_loop, declared_var}
 use Rattle.loop_rules.specs.Sites.{spot_of_list, func_spot, main_spot, top, sites, tables_of}
@@ -226,6 +226,8 @@ module _ (p : Program) where
     back_at (Evaluates e) w q h = absurd (contains_none q h)
     back_at (Shows z) w q h = absurd (contains_none q h)
     back_at (Parallel y z l) w q h = absurd (contains_none q h)
+    back_at (Leaves y) w q h = absurd (contains_none q h)
+    back_at (LeavesAll ys) w q h = absurd (contains_none q h)
 
     pub tells : Tells p rs
     tells = record {

@@ -9,18 +9,20 @@ use Rattle.loop_rules.specs.declared.part.Part.TheVariants.{OfFunc}
 use Rattle.loop_rules.specs.Names.{func_of}
 use Rattle.loop_rules.specs.Sites.{Act, DeclaresTable, DeclaresFunc, DeclaresAll, Declares, Uses}
 use Rattle.loop_rules.specs.Sites.{Assigns, Folds, AssignsBoth, NamesTable, ReadsCell, WritesCell}
-use Rattle.loop_rules.specs.Sites.{Calls, Evaluates, Shows, Parallel, Spot, Site, in_whole, in_list}
+use Rattle.loop_rules.specs.Sites.{Calls, Evaluates, Shows, Parallel, Leaves, LeavesAll, Spot, Site, in_whole, in_list}
 use Rattle.loop_rules.specs.Sites.{in_params, in_decls, declared_var, spot_of_list, top, tables_of}
 use Rattle.loop_rules.specs.Sites.{func_spot, in_func, in_funcs, in_main, sites}
 use Rattle.loop_rules.specs.declared.rule.Rule.TheVariants.{Names, OuterVariables, Reductions}
 use Rattle.loop_rules.specs.declared.rule.Rule.TheVariants.{TableWrites, TableReads, CarryLists}
 use Rattle.loop_rules.specs.declared.rule.Rule.TheVariants.{Functions, ReadingCalls, Output}
 use Rattle.loop_rules.specs.declared.rule.Rule.TheVariants.{LoopVariables}
+use Rattle.loop_rules.specs.declared.rule.Rule.TheVariants as rules
 use Rattle.loop_rules.specs.Scopes.{at, misnamed, loop_variable_set}
 use Rattle.loop_rules.specs.Reductions.{any_loop, outer_set, misreduced}
 use Rattle.loop_rules.specs.Carries.{carries, miswritten, misread, miscarried}
 use Rattle.loop_rules.specs.Keeps.{in_function, unfit_for_functions, shown_in_par}
 use Rattle.loop_rules.specs.Reading.{ReadsTable}
+use Rattle.loop_rules.specs.Leaves.{misleft}
 use Rattle.loop_check.specs.Unbroken.{NoneBroken}
 use Rattle.loop_check.proofs.Lists.{Each, each_left, each_right, each_both, each_of, contains_here}
 use Rattle.loop_check.proofs.Calls.{Quiet, QuietFuncs}
@@ -54,6 +56,7 @@ pub record Fine (p : Program) (a : Act) (w : Spot) : Type 0 where
   pub f8 : (c : Name) (n : ℕ) → a ≡ Calls c n → (t : List ℕ) → ReadsTable p c.text.items t → any_loop (carries t) w.rounds ≡ true → ⊥
   pub f9 : shown_in_par a w ≡ []
   pub f10 : loop_variable_set a w ≡ []
+  pub f12 : misleft a w ≡ []
 
 abbrev pub AllFine : Program → List Site → Type 0
 AllFine p ss = Each (λ (s : Site). Fine p s.act s.spot) ss
@@ -73,6 +76,7 @@ module _ (p : Program) (none : NoneBroken p) where
     f8 = λ c n e t r k. none.unbroken ReadingCalls c.place (record { where_at = s; stands = h; breaks = record { callee = c; arguments = n; is_call = e; table = t; reads = r; carried = k; here = refl } });
     f9 = none_of (shown_in_par s.act s.spot) (λ q k. none.unbroken Output q (record { where_at = s; stands = h; breaks = k }));
     f10 = none_of (loop_variable_set s.act s.spot) (λ q k. none.unbroken LoopVariables q (record { where_at = s; stands = h; breaks = k }));
+    f12 = none_of (misleft s.act s.spot) (λ q k. none.unbroken rules.Leaves q (record { where_at = s; stands = h; breaks = k }));
   }
 
   behind_tables : AllFine p (in_funcs p [] p.funcs.items ++ in_main p)
@@ -108,6 +112,8 @@ act_quiet p (NamesTable t) w f i = tt
 act_quiet p (Evaluates e) w f i = tt
 act_quiet p (Shows q) w f i = let h : in_function OfFunc q ≡ [] = subst (λ z. in_function z q ≡ []) i f.f7 in absurd (cc)
 act_quiet p (Parallel q z l) w f i = tt
+act_quiet p (Leaves y) w f i = tt
+act_quiet p (LeavesAll ys) w f i = tt
 
 params_quiet : (w : Spot) (xs : List Name) → Each (λ (s : Site). Quiet s.act) (in_params w xs)
 params_quiet w [] = tt

@@ -1,5 +1,5 @@
 -- What the search for a broken rule of disjoint writes comes to.
-use Rattle.std.proofs.Common.{◌≡◌, ◌⊎◌, inl, inr, List, Option, Some, None, refl, sym, subst}
+use Rattle.std.proofs.Common.{◌≡◌, inl, inr, List, Some, None, refl, sym, subst}
 use Rattle.std.specs.List.{Contains}
 use Rattle.tp_value.specs.declared.Place.{Place}
 use Rattle.loop_syntax.specs.declared.Program.{Program}
@@ -7,7 +7,7 @@ use Rattle.loop_rules.specs.declared.rule.Rule.{Rule}
 use Rattle.loop_rules.specs.declared.rule.Rule.TheVariants.{Names, OuterVariables, Reductions}
 use Rattle.loop_rules.specs.declared.rule.Rule.TheVariants.{TableWrites, TableReads, CarryLists}
 use Rattle.loop_rules.specs.declared.rule.Rule.TheVariants.{Functions, ReadingCalls, Output}
-use Rattle.loop_rules.specs.declared.rule.Rule.TheVariants.{LoopVariables, Limits}
+use Rattle.loop_rules.specs.declared.rule.Rule.TheVariants.{LoopVariables, Limits, Leaves}
 use Rattle.loop_rules.specs.declared.fault.Fault.{Fault}
 use Rattle.loop_rules.specs.Broken.{BreaksAt, Broken}
 use Rattle.loop_rules.specs.Reading.{CallsReader}
@@ -43,6 +43,7 @@ module _ (p : Program) (rs : List Reader) (tells : Tells p rs) where
     at_site Output q u h = absurd u
     at_site LoopVariables q u h = absurd u
     at_site Limits q u h = absurd u
+    at_site Leaves q u h = inr (inr (inr (inr (inr (inr (inl (refl, h)))))))
 
     abbrev Breaks : Rule → Place → Type 0
     Breaks r q = IsOfCheck r × BreaksAt p r s q
@@ -58,7 +59,8 @@ module _ (p : Program) (rs : List Reader) (tells : Tells p rs) where
     breaks r q (inr (inr (inr (inr (inl h))))) = is_rule r CarryLists q h.0 (tt, h.1)
     breaks r q (inr (inr (inr (inr (inr (inl h)))))) =
         is_rule r ReadingCalls q h.0 (tt, tells.back s q stands h.1)
-    breaks r q (inr (inr (inr (inr (inr (inr h)))))) = absurd h
+    breaks r q (inr (inr (inr (inr (inr (inr (inl h))))))) = is_rule r Leaves q h.0 (tt, h.1)
+    breaks r q (inr (inr (inr (inr (inr (inr (inr h))))))) = absurd h
 
   in_sites : (r : Rule) (q : Place) → IsOfCheck r → Broken p r q →
       InSites (checked_rules rs) (sites p) r q

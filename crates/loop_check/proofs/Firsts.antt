@@ -8,7 +8,7 @@ use Rattle.loop_rules.specs.declared.rule.Rule.{Rule}
 use Rattle.loop_rules.specs.declared.rule.Rule.TheVariants.{Names, OuterVariables, Reductions}
 use Rattle.loop_rules.specs.declared.rule.Rule.TheVariants.{TableWrites, TableReads, CarryLists}
 use Rattle.loop_rules.specs.declared.rule.Rule.TheVariants.{Functions, ReadingCalls, Output}
-use Rattle.loop_rules.specs.declared.rule.Rule.TheVariants.{LoopVariables, Limits}
+use Rattle.loop_rules.specs.declared.rule.Rule.TheVariants.{LoopVariables, Limits, Leaves}
 use Rattle.loop_rules.specs.Broken.{BreaksAt, Broken}
 use Rattle.loop_rules.specs.Carries.{carries}
 use Rattle.loop_rules.specs.Reading.{CallsReader, ReadsTable}
@@ -20,7 +20,7 @@ use Rattle.loop_check.specs.Unbroken.{NoneBroken}
 use Rattle.loop_check.proofs.TreeSites.{Called, SiteTree, tree_sites}
 use Rattle.loop_check.proofs.TreeWalk.{act_tree, site_tree, program_same}
 use Rattle.loop_check.proofs.TreeBroken.{any_round, any_same, carries_in, carries_same, two, three}
-use Rattle.loop_check.proofs.TreeBroken.{four, five, six, same_places}
+use Rattle.loop_check.proofs.TreeBroken.{four, five, six, twelve, same_places}
 use Rattle.loop_check.proofs.TreeReads.{has_tree, Stands, of_tree, Callee, callee_of, reads_too}
 use Rattle.loop_check.proofs.Verdict.{all_unbroken}
 
@@ -42,22 +42,23 @@ pub record BadCall (p : Program) (t : SiteTree) (place : Place) : Type 0 where
   pub is_call : t.act ≡ Called callee
   pub table : List ℕ
   pub reads : ReadsTable p callee.text table
-  pub carried : any_round (carries_in table) t.rounds ≡ true
+  pub carried : any_round (carries_in table) t.spot.rounds ≡ true
   pub here : place ≡ callee.place
 
 -- one of the rules of disjoint writes is broken there
 abbrev pub TreeBreaks : Program → Rule → SiteTree → Place → Type 0
 TreeBreaks p Names t place = ⊥
-TreeBreaks p OuterVariables t place = Contains (two t.act t.rounds) place
-TreeBreaks p Reductions t place = Contains (three t.act t.rounds) place
-TreeBreaks p TableWrites t place = Contains (four t.act t.rounds) place
-TreeBreaks p TableReads t place = Contains (five t.act t.rounds) place
-TreeBreaks p CarryLists t place = Contains (six t.act t.rounds) place
+TreeBreaks p OuterVariables t place = Contains (two t.act t.spot.rounds) place
+TreeBreaks p Reductions t place = Contains (three t.act t.spot.rounds) place
+TreeBreaks p TableWrites t place = Contains (four t.act t.spot.rounds) place
+TreeBreaks p TableReads t place = Contains (five t.act t.spot.rounds) place
+TreeBreaks p CarryLists t place = Contains (six t.act t.spot.rounds) place
 TreeBreaks p Functions t place = ⊥
 TreeBreaks p ReadingCalls t place = BadCall p t place
 TreeBreaks p Output t place = ⊥
 TreeBreaks p LoopVariables t place = ⊥
 TreeBreaks p Limits t place = ⊥
+TreeBreaks p Leaves t place = Contains (twelve t.act t.spot) place
 
 module _ (place : Place) where
   moved : {xs ys : List Place} → xs ≡ ys → Contains xs place → Contains ys place
@@ -99,6 +100,7 @@ module _ (p : Program) (s : Site) (place : Place) where
   tree_breaks Output u h = absurd u
   tree_breaks LoopVariables u h = absurd u
   tree_breaks Limits u h = absurd u
+  tree_breaks Leaves u h = moved place (same_places s.spot s.act).by12 h
 
   breaks_back : (r : Rule) → TreeBreaks p r (site_tree s) place → BreaksAt p r s place
   breaks_back Names h = absurd h
@@ -112,6 +114,7 @@ module _ (p : Program) (s : Site) (place : Place) where
   breaks_back Output h = absurd h
   breaks_back LoopVariables h = absurd h
   breaks_back Limits h = absurd h
+  breaks_back Leaves h = moved place (sym (same_places s.spot s.act).by12) h
 
 -- ---- programs with one tree
 
@@ -129,6 +132,7 @@ module _ (p q : Program) (same : program_of p ≡ program_of q) where
   breaks_too Output t place h = h
   breaks_too LoopVariables t place h = h
   breaks_too Limits t place h = h
+  breaks_too Leaves t place h = h
 
   site_too : (s : Site) → Contains (sites p) s → Stands (sites q) (site_tree s)
   site_too s h =

@@ -1,6 +1,6 @@
 -- Each site inside a `par` keeps within that par's part of each table.
 use Rattle.std.proofs.Common.{◌≡◌, ℕ, ℤ, List, [], ◌∷◌, ◌++◌, Option, Some, None, refl, sym, subst}
-use Rattle.std.proofs.Common.{◌∙◌, Bool, true, false, bytes_eq, ◌⊎◌, inl, inr, int_eq}
+use Rattle.std.proofs.Common.{◌∙◌, Bool, true, false, ◌||◌, bytes_eq, ◌⊎◌, inl, inr, int_eq}
 use Rattle.std.proofs.lemmas.Bool.Decides.{Decides-int_eq}
 use Rattle.tp_value.specs.declared.Table.{Table}
 use Rattle.loop_syntax.specs.declared.Name.{Name}
@@ -13,19 +13,21 @@ use Rattle.loop_syntax.specs.declared.Stmt.{Stmt}
 use Rattle.loop_syntax.specs.declared.Program.{Program}
 use Rattle.loop_rules.specs.Names.{is_in, item_of}
 use Rattle.loop_rules.specs.Carries.{carries, is_var, is_int, fits, bad_read, bad_write, last_index}
+use Rattle.loop_rules.specs.Leaves.{has_other, bad_lefts}
 use Rattle.loop_rules.specs.Reading.{ReadsTable}
+use Rattle.loop_rules.specs.Scopes.{at}
 use Rattle.loop_rules.specs.Reductions.{any_loop, reduced}
 use Rattle.loop_rules.specs.Sites.{Loop, Act, DeclaresTable, DeclaresFunc, DeclaresAll, Declares}
 use Rattle.loop_rules.specs.Sites.{Uses, Assigns, Folds, AssignsBoth, NamesTable, ReadsCell}
-use Rattle.loop_rules.specs.Sites.{WritesCell, Calls, Evaluates, Shows, Parallel, Spot, in_list}
+use Rattle.loop_rules.specs.Sites.{WritesCell, Calls, Evaluates, Shows, Parallel, Leaves, LeavesAll, Spot, in_list}
 use Rattle.loop_meaning.specs.declared.value.Answer.TheVariants.{Number}
 use Rattle.loop_meaning.specs.declared.value.Variable.{Variable}
 use Rattle.loop_meaning.specs.State.{State, lookup, declare}
 use Rattle.loop_meaning.specs.Expressions.{eval}
-use Rattle.loop_check.proofs.Bools.{no_both, not_false, and_left, and_right}
+use Rattle.loop_check.proofs.Bools.{no_both, not_false, and_left, and_right, or_left, or_right}
 use Rattle.loop_check.proofs.Found.{found_lookup, place_in, eq_is, is_in_more}
 use Rattle.loop_check.proofs.Keeps.{Mode, Fixed, ActOk, SitesOk}
-use Rattle.loop_check.proofs.Fine.{Fine, AllFine, at_none}
+use Rattle.loop_check.proofs.Fine.{Fine, AllFine, at_none, append_none_left, append_none_right}
 use Rattle.loop_check.proofs.Shapes.{HeadOk, Inside, any_inside, carried, read_shape, write_shape}
 use Rattle.loop_check.proofs.Shapes.{write_carried, fold_apart, item_fine, item_index}
 use Rattle.loop_check.proofs.Walk.{list_walk}
@@ -157,6 +159,19 @@ module _ (prog : Program) (r : Loop) (outer : List Loop) (x : List ℕ) (start :
   abbrev pub Within : Spot → Type 0
   Within w = Inside r outer w.rounds × (is_in w.loops r.var ≡ true)
 
+  -- nor is what a `par` inside is left with
+  left_ok : (w : Spot) → Within w → (before : List (List ℕ)) (ys : List Name) → bad_lefts before ys w ≡ [] → ActOk (mode_of r x start) prog (LeavesAll ys)
+  left_ok w i before [] h y f = tt
+  left_ok w i before (z ∷ ys) h y f =
+      let bad = any_loop (λ q. is_in q.outside z.text.items) w.rounds || is_in w.loops z.text.items || has_other before z.text.items in
+      let round = any_loop (λ q. is_in q.outside z.text.items) w.rounds in
+      let none = at_none z bad (append_none_left (at z bad) (bad_lefts (z.text.items ∷ before) ys w) h) in
+      let both = or_left (round || is_in w.loops z.text.items) (has_other before z.text.items) none in (
+        target_ok z.text.items w.loops i.1 (or_right round (is_in w.loops z.text.items) both)
+            (λ o n. no_both round (any_inside (λ q. is_in q.outside z.text.items) r outer w.rounds i.0 o) (or_left round (is_in w.loops z.text.items) both)) y f,
+        left_ok w i (z.text.items ∷ before) ys (append_none_right (at z bad) (bad_lefts (z.text.items ∷ before) ys w) h) y f,
+      )
+
   pub site_ok : (a : Act) (w : Spot) → Fine prog a w → Within w → ActOk (mode_of r x start) prog a
   site_ok (ReadsCell t a b) w f i = reads_ok t a b w i.0 (at_none t _ f.f5)
   site_ok (WritesCell t a b) w f i = writes_ok t a b w i.0 (at_none t _ f.f4)
@@ -176,6 +191,8 @@ module _ (prog : Program) (r : Loop) (outer : List Loop) (x : List ℕ) (start :
   site_ok (Evaluates e) w f i = tt
   site_ok (Shows p) w f i = tt
   site_ok (Parallel p q l) w f i = tt
+  site_ok (Leaves y) w f i = tt
+  site_ok (LeavesAll ys) w f i = left_ok w i [] ys f.f12
 
   -- all the sites of a body
   pub list_inner : (w : Spot) → Within w → (ss : List Stmt) → AllFine prog (in_list w ss) → SitesOk (mode_of r x start) prog (in_list w ss)

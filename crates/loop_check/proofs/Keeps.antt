@@ -5,7 +5,7 @@ use Rattle.std.proofs.Common.{int_div, int_rem}
 use Rattle.std.specs.Int.{int_gap}
 use Rattle.tp_value.specs.declared.Place.{Place}
 use Rattle.tp_value.specs.declared.Stop.{Stop}
-use Rattle.tp_value.specs.declared.Stop.TheVariants.{Done, Trap, NoFuel}
+use Rattle.tp_value.specs.declared.Stop.TheVariants.{Done, Left, Trap, NoFuel}
 use Rattle.loop_syntax.specs.declared.Name.{Name}
 use Rattle.loop_syntax.specs.declared.BinOp.{BinOp}
 use Rattle.loop_syntax.specs.declared.BinOp.TheVariants as op
@@ -13,7 +13,7 @@ use Rattle.loop_syntax.specs.declared.Expr.{Expr}
 use Rattle.loop_syntax.specs.declared.Expr.TheVariants.{Int, Var, Cell', Rows, Cols, Neg', Bin'}
 use Rattle.loop_syntax.specs.declared.Stmt.{Stmt, Row_of-Stmt, end_of-Stmt, more_of-Stmt}
 use Rattle.loop_syntax.specs.declared.Stmt.TheVariants.{Let, Set, Put, If', While', Loop', Par'}
-use Rattle.loop_syntax.specs.declared.Stmt.TheVariants.{Fold, Call, Both, Print, Emit}
+use Rattle.loop_syntax.specs.declared.Stmt.TheVariants.{Fold, Call, Both, Print, Emit, Leave, Fill}
 use Rattle.loop_syntax.specs.declared.Program.{Program}
 use Rattle.tp_value.specs.declared.Op.{Op}
 use Rattle.tp_value.specs.declared.Table.{Table}
@@ -23,7 +23,8 @@ use Rattle.loop_meaning.specs.declared.value.Variable.{Variable}
 use Rattle.loop_rules.specs.Names.{operator_of}
 use Rattle.loop_rules.specs.Reading.{ReadsTable}
 use Rattle.loop_rules.specs.Sites.{Act, Assigns, AssignsBoth, Folds, ReadsCell, WritesCell, Calls}
-use Rattle.loop_rules.specs.Sites.{Shows, Spot, Site, site, in_expr, in_whole, in_args, in_app}
+use Rattle.loop_rules.specs.Sites.{Shows, LeavesAll, Spot, Site, site, in_expr, in_whole}
+use Rattle.loop_rules.specs.Sites.{in_args, in_app}
 use Rattle.loop_rules.specs.Sites.{in_carries, in_stmt, in_all, in_list, spot_after, in_loop}
 use Rattle.loop_rules.specs.Sites.{in_par}
 use Rattle.beat_count.specs.Ticks.{is_tick_allowed}
@@ -36,6 +37,8 @@ use Rattle.loop_meaning.specs.Statements.{given, given_answer, given_all, choose
 use Rattle.loop_meaning.specs.Statements.{iteration, iterate, folded, put_cell, set_var, Called}
 use Rattle.loop_meaning.specs.Statements.{with_call, Setting, unless_wide, too_wide, run, run_all}
 use Rattle.loop_meaning.specs.Statements.{run_list}
+use Rattle.loop_meaning.specs.Leaving.{left_in, caught, caught_by}
+use Rattle.loop_check.proofs.Leaving.{left_row}
 use Rattle.loop_check.proofs.Lists.{Each, each_left, each_right}
 use Rattle.loop_check.proofs.Found.{Found, found_more, found_below, found_take, found_assign}
 
@@ -77,6 +80,7 @@ ActOk m p (WritesCell t a b) =
     (s : State) (i j : ℤ) → Fixed m s → (eval s.vars s.tables a).answer ≡ Number i → (eval s.vars s.tables b).answer ≡ Number j → m.writes t.text.items i j
 ActOk m p (Assigns x) = (y : List ℕ) → m.frozen y → bytes_eq x.text.items y ≡ false
 ActOk m p (Folds x) = (y : List ℕ) → m.frozen y → bytes_eq x.text.items y ≡ false
+ActOk m p (LeavesAll xs) = (y : List ℕ) → m.frozen y → Each (λ (x : Name). bytes_eq x.text.items y ≡ false) xs
 ActOk m p (Calls f n) = (t : List ℕ) → ReadsTable p f.text.items t → (i j : ℤ) → m.reads t i j
 ActOk m p (Shows q) = m.shows
 ActOk m p _ = Unit
@@ -152,6 +156,7 @@ module _ (m : Mode) (prog : Program) where
     where
       by_stop : (x : Stop) → Good m (go_on x r go)
       by_stop Done = noted_ok r.notes (go r.state) g.notes (f r.state g.fixed)
+      by_stop (Left n) = g
       by_stop (Trap k p) = g
       by_stop NoFuel = g
 
@@ -226,6 +231,17 @@ module _ (m : Mode) (prog : Program) where
   iterate_ok (suc n) fuel x body again ns i a k p s h =
       after_ok (iteration fuel x body ns i s) _ (iteration_ok fuel x body ns i k p s h) (iterate_ok n fuel x body again again (i +ℤ pos 1) a a p)
 
+  -- where it isn't left with a variable that stays
+  caught_ok : (target : Option (List ℕ)) (act : State → Ran) → ((x : List ℕ) → target ≡ Some x → (y : List ℕ) → m.frozen y → bytes_eq x y ≡ false) → Keeps act → Keeps (λ t. caught target (act t))
+  caught_ok target act free p s h = by_stop (act s).stop target free (p s h)
+    where
+      by_stop : (x : Stop) (target : Option (List ℕ)) → ((x : List ℕ) → target ≡ Some x → (y : List ℕ) → m.frozen y → bytes_eq x y ≡ false) → Good m (act s) → Good m (caught_by x target (act s))
+      by_stop Done target free g = g
+      by_stop (Left n) None free g = record { fixed = g.fixed; notes = g.notes }
+      by_stop (Left n) (Some x) free g = record { fixed = assign_fixed (act s).state x n (free x refl) g.fixed; notes = g.notes }
+      by_stop (Trap k q) target free g = g
+      by_stop NoFuel target free g = g
+
   all_ok : (w : Spot) (es : List Expr) (s : State) (go : List ℤ → Ran) → Fixed m s → SitesOk m prog (in_args w es) → ((ns : List ℤ) → Good m (go ns)) → Good m (given_all es s go)
   all_ok w [] s go h k f = f []
   all_ok w (e ∷ es) s go h k f =
@@ -266,12 +282,12 @@ module _ (m : Mode) (prog : Program) where
         given_ok w b s _ h (each_left _ (in_whole w b) (in_all (in_loop w x) body) (each_right _ (in_whole w a) (in_whole w b ++ in_all (in_loop w x) body) o.1)) (λ j r.
         iterate_ok (int_gap i j) k.fuel x.text.items (run_all k body) [] [] i tt tt (all_run_ok (in_loop w x) k c body (each_right _ (in_whole w b) (in_all (in_loop w x) body) (each_right _ (in_whole w a) (in_whole w b ++ in_all (in_loop w x) body) o.1))) s h))
     run_ok w k c (Par' place x a b carry_place carries reduces p body) o s h =
-        let o1 = each_right _ (in_whole w a) (in_whole w b ++ (in_carries w carries.items ++ in_all (in_par w x carries.items reduces.items) body)) o.1.1 in
+        let o1 = each_right _ (in_whole w a) (in_whole w b ++ (in_carries w carries.items ++ in_all (in_par w x carries.items reduces.items) body)) o.1.1.1 in
         let o2 = each_right _ (in_whole w b) (in_carries w carries.items ++ in_all (in_par w x carries.items reduces.items) body) o1 in
-        given_ok w a s _ h (each_left _ (in_whole w a) (in_whole w b ++ (in_carries w carries.items ++ in_all (in_par w x carries.items reduces.items) body)) o.1.1) (λ i q.
+        given_ok w a s _ h (each_left _ (in_whole w a) (in_whole w b ++ (in_carries w carries.items ++ in_all (in_par w x carries.items reduces.items) body)) o.1.1.1) (λ i q.
         given_ok w b s _ h (each_left _ (in_whole w b) (in_carries w carries.items ++ in_all (in_par w x carries.items reduces.items) body) o1) (λ j r.
-        wide_ok (too_wide i j) place _ (iterate_ok (int_gap i j) k.fuel x.text.items _ (Chance ∷ []) [] i (tt, tt) tt
-        (all_run_ok (in_par w x carries.items reduces.items) (record k { reduces = reduces.items }) c body (each_right _ (in_carries w carries.items) (in_all (in_par w x carries.items reduces.items) body) o2))) s h))
+        wide_ok (too_wide i j) place _ (caught_ok (left_in body) _ (λ z e y f. left_row (λ v. bytes_eq v y ≡ false) z body (o.1.0 y f) e) (iterate_ok (int_gap i j) k.fuel x.text.items _ (Chance ∷ []) [] i (tt, tt) tt
+        (all_run_ok (in_par w x carries.items reduces.items) (record k { reduces = reduces.items }) c body (each_right _ (in_carries w carries.items) (in_all (in_par w x carries.items reduces.items) body) o2)))) s h))
     run_ok w k c (Fold x e) o s h = given_ok w e s _ h o.1 (λ n q. record { fixed = folded_fixed (operator_of k.reduces x.text.items) s x.text.items n o.0 h; notes = tt })
     run_ok w k c (Call x f) o s h =
         all_ok w f.args.items s _ h o.1.1 (λ ns.
@@ -288,6 +304,8 @@ module _ (m : Mode) (prog : Program) where
         record { fixed = assign_fixed (set_var x u q) y.text.items v second.0 (assign_fixed q x.text.items u o.0 b); notes = tt }))))
     run_ok w k c (Print place e) o s h = given_ok w e s _ h o.1 (λ n q. record { fixed = shown_more s _ o.0 h; notes = tt })
     run_ok w k c (Emit place t) o s h = record { fixed = shown_more s _ o.0 h; notes = (o.0, tt) }
+    run_ok w k c (Leave x e) o s h = given_ok w e s _ h o.1 (λ n q. record { fixed = h; notes = tt })
+    run_ok w k c (Fill f t r es) o s h = done_ok s h
 
     pub all_run_ok : {n : _} → (w : Spot) (k : Setting) → CallsOk m prog k → (row : Row_of-Stmt n) → SitesOk m prog (in_all w row) → Keeps (run_all k row)
     all_run_ok w k c end_of-Stmt o s h = done_ok s h

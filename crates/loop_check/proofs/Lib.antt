@@ -1,6 +1,7 @@
 pub mod Lists  -- what holds of the elements of a list, and what a list contains
 pub mod Bools  -- what tests say, and which of two numbers is the lesser
 pub mod Found  -- names, and variables that stay where they are
+pub mod Leaving  -- what a `par` sets where it is left is one of its targets
 pub mod Keeps  -- what a run touches, which variables it leaves, and that it prints nothing
 pub mod Calls  -- a call touches no more than what its function reads
 pub mod Walk  -- what holds at every site of a statement
@@ -12,6 +13,7 @@ pub mod Law  -- the iterations of a `par` touch no cell that another one writes
 pub mod Parts  -- each iteration keeps within its part of each carried table
 pub mod Spared  -- an iteration touches no table that another `par` reserves, and prints nothing
 pub mod Backwards  -- going over the clauses of a `par`, with what stood before
+pub mod Targeting  -- the targets of `leave` statements, gathered and gone over
 pub mod Apart  -- the rules look at variables and at the `par` loops round, and at nothing else
 pub mod Walking  -- the walk over statements: where it stands after loops, and what it found
 pub mod Using  -- what a function does is the same anywhere

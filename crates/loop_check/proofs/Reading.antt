@@ -15,7 +15,7 @@ use Rattle.loop_rules.specs.Names.{is_in, texts, func_of}
 use Rattle.loop_rules.specs.Reading.{ReadsTable, itself, through}
 use Rattle.loop_rules.specs.Sites.{Act, DeclaresTable, DeclaresFunc, DeclaresAll, Declares, Uses}
 use Rattle.loop_rules.specs.Sites.{Assigns, Folds, AssignsBoth, NamesTable, ReadsCell, WritesCell}
-use Rattle.loop_rules.specs.Sites.{Calls, Evaluates, Shows, Parallel, Spot, Site, in_func}
+use Rattle.loop_rules.specs.Sites.{Calls, Evaluates, Shows, Parallel, Leaves, LeavesAll, Spot, Site, in_func}
 use Rattle.loop_check.specs.declared.usage.Usage.{Usage}
 use Rattle.loop_check.specs.declared.usage.Usage.TheVariants as usage
 use Rattle.loop_check.specs.Usage.{is_use, any_use, uses}
@@ -76,6 +76,8 @@ reads_act p f g t (NamesTable u) w e h k = absurd (cc)
 reads_act p f g t (Evaluates x) w e h k = absurd (cc)
 reads_act p f g t (Shows q) w e h k = absurd (cc)
 reads_act p f g t (Parallel q z l) w e h k = absurd (cc)
+reads_act p f g t (Leaves y) w e h k = absurd (cc)
+reads_act p f g t (LeavesAll ys) w e h k = absurd (cc)
 
 calls_act : (p : Program) (f : List ℕ) (g : Func) (c : Bor (List ℕ)) (t : List ℕ) (a : Act) (w : Spot) → func_of p.funcs.items f ≡ Some g → Contains (in_func p g) (record { act = a; spot = w }) → is_use (usage.Calls c) a ≡ true → ReadsTable p c.now t → ReadsTable p f t
 calls_act p f g c t (Calls d n) w e h k r = through f g w d n t e h (subst (λ z. ReadsTable p z t) (sym (eq_is d.text.items c.now k)) r)
@@ -93,6 +95,8 @@ calls_act p f g c t (NamesTable u) w e h k r = absurd (cc)
 calls_act p f g c t (Evaluates x) w e h k r = absurd (cc)
 calls_act p f g c t (Shows q) w e h k r = absurd (cc)
 calls_act p f g c t (Parallel q z l) w e h k r = absurd (cc)
+calls_act p f g c t (Leaves y) w e h k r = absurd (cc)
+calls_act p f g c t (LeavesAll ys) w e h k r = absurd (cc)
 
 uses_reads : (p : Program) (f : List ℕ) (t : Bor (List ℕ)) (o : Option Func) → func_of p.funcs.items f ≡ o → uses p (usage.Reads t) o ≡ true → ReadsTable p f t.now
 uses_reads p f t None e h = absurd (cc)

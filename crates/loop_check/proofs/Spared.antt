@@ -17,7 +17,7 @@ use Rattle.loop_rules.specs.Reading.{ReadsTable}
 use Rattle.loop_rules.specs.Reductions.{any_loop}
 use Rattle.loop_rules.specs.Sites.{Loop, Act, DeclaresTable, DeclaresFunc, DeclaresAll, Declares}
 use Rattle.loop_rules.specs.Sites.{Uses, Assigns, Folds, AssignsBoth, NamesTable, ReadsCell}
-use Rattle.loop_rules.specs.Sites.{WritesCell, Calls, Evaluates, Shows, Parallel, Spot, in_list}
+use Rattle.loop_rules.specs.Sites.{WritesCell, Calls, Evaluates, Shows, Parallel, Leaves, LeavesAll, Spot, in_list}
 use Rattle.loop_rules.specs.Sites.{in_par, the_loop}
 use Rattle.loop_meaning.specs.Calls.{setting}
 use Rattle.loop_meaning.specs.Cells.{Body, read_cells, write_cells, bodies_of, run_of}
@@ -85,6 +85,8 @@ module _ (prog : Program) (r : Loop) (outer : List Loop) (start : State) where
   site_spared (NamesTable t) w f i = tt
   site_spared (Evaluates e) w f i = tt
   site_spared (Parallel p q l) w f i = tt
+  site_spared (Leaves y) w f i = tt
+  site_spared (LeavesAll ys) w f i = λ z q. absurd q
 
   list_spared : (w : Spot) → Within w → (ss : List Stmt) → AllFine prog (in_list w ss) → SitesOk (spared_mode r outer start) prog (in_list w ss)
   list_spared w i ss h =

@@ -19,7 +19,7 @@ use Rattle.loop_syntax.specs.Tree.{reduce_of}
 use Rattle.loop_rules.specs.Names.{is_in, table_name, operator_of, item_of}
 use Rattle.loop_rules.specs.Sites.{Loop, Act, DeclaresTable, DeclaresFunc, DeclaresAll, Declares}
 use Rattle.loop_rules.specs.Sites.{Uses, Assigns, Folds, AssignsBoth, NamesTable, ReadsCell}
-use Rattle.loop_rules.specs.Sites.{WritesCell, Calls, Evaluates, Shows, Parallel, Spot}
+use Rattle.loop_rules.specs.Sites.{WritesCell, Calls, Evaluates, Shows, Parallel, Leaves, LeavesAll, Spot}
 use Rattle.loop_rules.specs.Reductions.{any_loop, is_op, some_op, reduced, nearest_reduces}
 use Rattle.loop_rules.specs.Reductions.{other_operator, reduced_otherwise, bad_targets, outer_set}
 use Rattle.loop_rules.specs.Reductions.{misreduced}
@@ -27,10 +27,11 @@ use Rattle.loop_rules.specs.Carries.{is_some_item, carries, is_var, is_int, is_r
 use Rattle.loop_rules.specs.Carries.{has_shape, bad_write, bad_read, last_index, row_reduced}
 use Rattle.loop_rules.specs.Carries.{is_rows_item, is_within, outside_nearest, bad_item, bad_items}
 use Rattle.loop_rules.specs.Carries.{miswritten, misread, miscarried}
+use Rattle.loop_rules.specs.Leaves.{is_empty, cannot_leave, is_inner, has_other, bad_lefts, misleft}
 use Rattle.loop_rules.proofs.TreeRules.{at_name, carried}
 use Rattle.loop_check.proofs.TreeSites.{LoopTree, ActTree, Declared, Used, Assigned, Folded, Read}
-use Rattle.loop_check.proofs.TreeSites.{Written, InParallel}
-use Rattle.loop_check.proofs.TreeWalk.{loop_tree, rounds_tree, act_tree}
+use Rattle.loop_check.proofs.TreeSites.{Written, InParallel, Left, LeftAll, TreeSpot}
+use Rattle.loop_check.proofs.TreeWalk.{loop_tree, rounds_tree, act_tree, spot_tree}
 
 -- ---- loops
 
@@ -280,6 +281,47 @@ items_same before (c ∷ cs) r rs =
     ∙ ap (found (bad_item_in (rounds_tree rs) (loop_tree r) (carry_of c)) (spelled (table_name c))) (items_same ((table_name c).text.items ∷ before) cs r rs)
     ∙ ap (λ (x : Spelled). found (bad_item_in (rounds_tree rs) (loop_tree r) (carry_of c)) x (items_in (x.text ∷ before) (map carry_of cs) (loop_tree r) (rounds_tree rs))) (carried_at c)
 
+-- ---- leaving a loop
+
+empty_same : {A B : Type 0} (f : A → B) (xs : List A) → is_empty xs ≡ is_empty (map f xs)
+empty_same f [] = refl
+empty_same f (x ∷ xs) = refl
+
+abbrev cannot_leave_in : List LoopTree → Bool
+cannot_leave_in [] = true
+cannot_leave_in (r ∷ rs) = not (is_empty r.carries) || not (is_empty r.reduces)
+
+cannot_same : (rs : List Loop) → cannot_leave rs ≡ cannot_leave_in (rounds_tree rs)
+cannot_same [] = refl
+cannot_same (r ∷ rs) =
+    ap (λ b. not b || not (is_empty r.reduces)) (empty_same carry_of r.carries) ∙ ap (λ b. not (is_empty (map carry_of r.carries)) || not b) (empty_same reduce_of r.reduces)
+
+abbrev inner_in : List (List ℕ) → List LoopTree → List ℕ → Bool
+inner_in scope [] x = false
+inner_in scope (r ∷ rs) x = is_in scope x && not (is_in r.outside x)
+
+inner_same : (scope : List (List ℕ)) (rs : List Loop) (x : List ℕ) → is_inner scope rs x ≡ inner_in scope (rounds_tree rs) x
+inner_same scope [] x = refl
+inner_same scope (r ∷ rs) x = refl
+
+left_same : (w : Spot) (x : Name) → misleft (Leaves x) w ≡ at_name (spelled x) (cannot_leave_in (rounds_tree w.rounds) || inner_in w.scope (rounds_tree w.rounds) x.text.items)
+left_same w x =
+    ap (λ b. at_name (spelled x) (b || is_inner w.scope w.rounds x.text.items)) (cannot_same w.rounds)
+    ∙ ap (λ b. at_name (spelled x) (cannot_leave_in (rounds_tree w.rounds) || b)) (inner_same w.scope w.rounds x.text.items)
+
+abbrev lefts_in : List (List ℕ) → List Spelled → TreeSpot → List Place
+lefts_in before [] v = []
+lefts_in before (x ∷ xs) v =
+    at_name x (any_round (λ r. is_in r.outside x.text) v.rounds || is_in v.loops x.text || has_other before x.text) ++ lefts_in (x.text ∷ before) xs v
+
+lefts_same : (before : List (List ℕ)) (xs : List Name) (w : Spot) → bad_lefts before xs w ≡ lefts_in before (map spelled xs) (spot_tree w)
+lefts_same before [] w = refl
+lefts_same before (x ∷ xs) w =
+    let y = x.text.items in
+    let found = λ (a : Bool) (more : List Place). at_name (spelled x) (a || is_in w.loops y || has_other before y) ++ more in
+    ap (λ a. found a (bad_lefts (y ∷ before) xs w)) (any_same (λ r. is_in r.outside y) (λ r. is_in r.outside y) (λ r. refl) w.rounds)
+    ∙ ap (found (any_round (λ r. is_in r.outside y) (rounds_tree w.rounds))) (lefts_same (y ∷ before) xs w)
+
 -- ---- rules
 
 abbrev pub two : ActTree → List LoopTree → List Place
@@ -291,6 +333,7 @@ three (Used x) rs = at_name x (any_round (reduces_in x.text) rs)
 three (Assigned x) rs = at_name x (any_round (reduces_in x.text) rs)
 three (Declared x) rs = at_name x (any_round (reduces_in x.text) rs)
 three (Folded x) rs = at_name x (not (nearest_in rs x.text))
+three (Left x) rs = at_name x (any_round (reduces_in x.text) rs)
 three (InParallel r) rs = targets_in [] r.reduces rs
 three _ rs = []
 
@@ -306,6 +349,11 @@ abbrev pub six : ActTree → List LoopTree → List Place
 six (InParallel r) rs = items_in [] r.carries r rs
 six _ rs = []
 
+abbrev pub twelve : ActTree → TreeSpot → List Place
+twelve (Left x) v = at_name x (cannot_leave_in v.rounds || inner_in v.scope v.rounds x.text)
+twelve (LeftAll xs) v = lefts_in [] xs v
+twelve _ v = []
+
 -- each rule is broken at the same places
 pub record SamePlaces (a : Act) (w : Spot) : Type 0 where
   pub by2 : outer_set a w ≡ two (act_tree a) (rounds_tree w.rounds)
@@ -313,6 +361,7 @@ pub record SamePlaces (a : Act) (w : Spot) : Type 0 where
   pub by4 : miswritten a w ≡ four (act_tree a) (rounds_tree w.rounds)
   pub by5 : misread a w ≡ five (act_tree a) (rounds_tree w.rounds)
   pub by6 : miscarried a w ≡ six (act_tree a) (rounds_tree w.rounds)
+  pub by12 : misleft a w ≡ twelve (act_tree a) (spot_tree w)
 
 module _ (w : Spot) where
   abbrev reduced_at : Name → Type 0
@@ -322,18 +371,20 @@ module _ (w : Spot) where
   places_reduced x = ap (at_name (spelled x)) (any_same (reduced x.text.items) (reduces_in x.text.items) (reduced_same x.text.items) w.rounds)
 
   pub same_places : (a : Act) → SamePlaces a w
-  same_places (DeclaresTable t) = record { by2 = refl; by3 = refl; by4 = refl; by5 = refl; by6 = refl }
-  same_places (DeclaresFunc f) = record { by2 = refl; by3 = refl; by4 = refl; by5 = refl; by6 = refl }
-  same_places (DeclaresAll xs) = record { by2 = refl; by3 = refl; by4 = refl; by5 = refl; by6 = refl }
-  same_places (Declares x) = record { by2 = refl; by3 = places_reduced x; by4 = refl; by5 = refl; by6 = refl }
-  same_places (Uses x) = record { by2 = refl; by3 = places_reduced x; by4 = refl; by5 = refl; by6 = refl }
-  same_places (Assigns x) = record { by2 = ap (at_name (spelled x)) (any_same (λ r. is_in r.outside x.text.items) (λ r. is_in r.outside x.text.items) (λ r. refl) w.rounds); by3 = places_reduced x; by4 = refl; by5 = refl; by6 = refl }
-  same_places (Folds x) = record { by2 = refl; by3 = ap (λ b. at_name (spelled x) (not b)) (nearest_same w.rounds x.text.items); by4 = refl; by5 = refl; by6 = refl }
-  same_places (AssignsBoth x y) = record { by2 = refl; by3 = refl; by4 = refl; by5 = refl; by6 = refl }
-  same_places (NamesTable t) = record { by2 = refl; by3 = refl; by4 = refl; by5 = refl; by6 = refl }
-  same_places (ReadsCell t a b) = record { by2 = refl; by3 = refl; by4 = refl; by5 = ap (at_name (spelled t)) (read_same w.rounds t.text.items a b); by6 = refl }
-  same_places (WritesCell t a b) = record { by2 = refl; by3 = refl; by4 = ap (at_name (spelled t)) (write_same w.rounds t.text.items a b); by5 = refl; by6 = refl }
-  same_places (Calls f n) = record { by2 = refl; by3 = refl; by4 = refl; by5 = refl; by6 = refl }
-  same_places (Evaluates e) = record { by2 = refl; by3 = refl; by4 = refl; by5 = refl; by6 = refl }
-  same_places (Shows p) = record { by2 = refl; by3 = refl; by4 = refl; by5 = refl; by6 = refl }
-  same_places (Parallel p q r) = record { by2 = refl; by3 = targets_same [] r.reduces w.rounds; by4 = refl; by5 = refl; by6 = items_same [] r.carries r w.rounds }
+  same_places (DeclaresTable t) = record { by2 = refl; by3 = refl; by4 = refl; by5 = refl; by6 = refl; by12 = refl }
+  same_places (DeclaresFunc f) = record { by2 = refl; by3 = refl; by4 = refl; by5 = refl; by6 = refl; by12 = refl }
+  same_places (DeclaresAll xs) = record { by2 = refl; by3 = refl; by4 = refl; by5 = refl; by6 = refl; by12 = refl }
+  same_places (Declares x) = record { by2 = refl; by3 = places_reduced x; by4 = refl; by5 = refl; by6 = refl; by12 = refl }
+  same_places (Uses x) = record { by2 = refl; by3 = places_reduced x; by4 = refl; by5 = refl; by6 = refl; by12 = refl }
+  same_places (Assigns x) = record { by2 = ap (at_name (spelled x)) (any_same (λ r. is_in r.outside x.text.items) (λ r. is_in r.outside x.text.items) (λ r. refl) w.rounds); by3 = places_reduced x; by4 = refl; by5 = refl; by6 = refl; by12 = refl }
+  same_places (Folds x) = record { by2 = refl; by3 = ap (λ b. at_name (spelled x) (not b)) (nearest_same w.rounds x.text.items); by4 = refl; by5 = refl; by6 = refl; by12 = refl }
+  same_places (AssignsBoth x y) = record { by2 = refl; by3 = refl; by4 = refl; by5 = refl; by6 = refl; by12 = refl }
+  same_places (NamesTable t) = record { by2 = refl; by3 = refl; by4 = refl; by5 = refl; by6 = refl; by12 = refl }
+  same_places (ReadsCell t a b) = record { by2 = refl; by3 = refl; by4 = refl; by5 = ap (at_name (spelled t)) (read_same w.rounds t.text.items a b); by6 = refl; by12 = refl }
+  same_places (WritesCell t a b) = record { by2 = refl; by3 = refl; by4 = ap (at_name (spelled t)) (write_same w.rounds t.text.items a b); by5 = refl; by6 = refl; by12 = refl }
+  same_places (Calls f n) = record { by2 = refl; by3 = refl; by4 = refl; by5 = refl; by6 = refl; by12 = refl }
+  same_places (Evaluates e) = record { by2 = refl; by3 = refl; by4 = refl; by5 = refl; by6 = refl; by12 = refl }
+  same_places (Shows p) = record { by2 = refl; by3 = refl; by4 = refl; by5 = refl; by6 = refl; by12 = refl }
+  same_places (Parallel p q r) = record { by2 = refl; by3 = targets_same [] r.reduces w.rounds; by4 = refl; by5 = refl; by6 = items_same [] r.carries r w.rounds; by12 = refl }
+  same_places (Leaves x) = record { by2 = refl; by3 = places_reduced x; by4 = refl; by5 = refl; by6 = refl; by12 = left_same w x }
+  same_places (LeavesAll xs) = record { by2 = refl; by3 = refl; by4 = refl; by5 = refl; by6 = refl; by12 = lefts_same [] xs w }

@@ -14,7 +14,7 @@ use Rattle.loop_rules.specs.Names.{func_of}
 use Rattle.loop_rules.specs.Reading.{ReadsTable, itself, through}
 use Rattle.loop_rules.specs.Sites.{Act, DeclaresTable, DeclaresFunc, DeclaresAll, Declares, Uses}
 use Rattle.loop_rules.specs.Sites.{Assigns, Folds, AssignsBoth, NamesTable, ReadsCell, WritesCell}
-use Rattle.loop_rules.specs.Sites.{Calls, Evaluates, Shows, Parallel, Site, in_func}
+use Rattle.loop_rules.specs.Sites.{Calls, Evaluates, Shows, Parallel, Leaves, LeavesAll, Site, in_func}
 use Rattle.loop_check.proofs.TreeSites.{Read, Called, SiteTree, func_sites}
 use Rattle.loop_check.proofs.TreeWalk.{act_tree, site_tree, func_same}
 
@@ -72,6 +72,8 @@ callee_of (Calls f n) g e = record { callee = f; arguments = n; is_call = refl; 
 callee_of (Evaluates a) g e = cc
 callee_of (Shows p) g e = cc
 callee_of (Parallel p q r) g e = cc
+callee_of (Leaves x) g e = cc
+callee_of (LeavesAll xs) g e = cc
 
 cell_of : (a : Act) (u : Spelled) (i j : Tree) → act_tree a ≡ Read u i j → Cell a u
 cell_of (DeclaresTable t) u i j e = cc
@@ -89,6 +91,8 @@ cell_of (Calls f n) u i j e = cc
 cell_of (Evaluates a) u i j e = cc
 cell_of (Shows p) u i j e = cc
 cell_of (Parallel p q r) u i j e = cc
+cell_of (Leaves x) u i j e = cc
+cell_of (LeavesAll xs) u i j e = cc
 
 -- ---- functions
 

@@ -12,7 +12,7 @@ use Rattle.loop_syntax.specs.declared.statement.App.{App}
 use Rattle.loop_syntax.specs.declared.statement.Stmt.{Stmt, Row_of-Stmt, end_of-Stmt, more_of-Stmt}
 use Rattle.loop_syntax.specs.declared.statement.Stmt.TheVariants.{Let, Set, Put, If', While', Loop'}
 use Rattle.loop_syntax.specs.declared.statement.Stmt.TheVariants.{Par', Fold, Call, Both, Print}
-use Rattle.loop_syntax.specs.declared.statement.Stmt.TheVariants.{Emit}
+use Rattle.loop_syntax.specs.declared.statement.Stmt.TheVariants.{Emit, Leave, Fill}
 use Rattle.loop_syntax.specs.declared.program.Func.{Func}
 use Rattle.loop_syntax.specs.declared.program.TableDecl.{TableDecl}
 use Rattle.loop_syntax.specs.declared.program.TableDecl.TheVariants.{Input, Made}
@@ -24,15 +24,17 @@ use Rattle.loop_rules.specs.Declarations.{declared_list, table_of_decl}
 use Rattle.loop_rules.specs.Sites as spots
 use Rattle.loop_rules.specs.Sites.{Loop, Act, DeclaresTable, DeclaresFunc, DeclaresAll, Declares}
 use Rattle.loop_rules.specs.Sites.{Uses, Assigns, Folds, AssignsBoth, NamesTable, ReadsCell}
-use Rattle.loop_rules.specs.Sites.{WritesCell, Calls, Evaluates, Shows, Parallel, Spot, Site, site}
+use Rattle.loop_rules.specs.Sites.{WritesCell, Calls, Evaluates, Shows, Parallel, Leaves, LeavesAll, Spot, Site, site}
 use Rattle.loop_rules.specs.Sites.{in_expr, in_whole, in_args, in_app, in_carries, declared_var}
 use Rattle.loop_rules.specs.Sites.{in_loop, the_loop, in_par, spot_after, in_stmt, in_all, in_list}
 use Rattle.loop_rules.specs.Sites.{spot_of_list, tables_of, in_decl, in_decls, in_params, func_spot}
 use Rattle.loop_rules.specs.Sites.{in_func, in_funcs, main_spot, in_main, sites}
+use Rattle.loop_rules.specs.Targets.{targets_in, targets_all}
 use Rattle.loop_rules.proofs.TreeParts.{texts_same}
 use Rattle.loop_rules.proofs.TreeNodes.{node_rows, rows_of, row_nodes}
 use Rattle.loop_check.proofs.TreeSites.{LoopTree, ActTree, Declared, Used, Assigned, Folded, Read}
-use Rattle.loop_check.proofs.TreeSites.{Written, Called, InParallel, Other, SiteTree, TreeSpot}
+use Rattle.loop_check.proofs.TreeSites.{Written, Called, InParallel, Left, LeftAll, Other, SiteTree}
+use Rattle.loop_check.proofs.TreeSites.{TreeSpot, stands, left_in, left_all, top}
 use Rattle.loop_check.proofs.TreeSites.{expr_sites, whole_sites, arg_sites, app_sites, carry_sites}
 use Rattle.loop_check.proofs.TreeSites.{behind, node_sites, nodes_sites, behind_all, table_sites}
 use Rattle.loop_check.proofs.TreeSites.{tables_sites, param_sites, inside, func_sites, funcs_sites}
@@ -62,12 +64,14 @@ act_tree (Calls f n) = Called (spelled f)
 act_tree (Evaluates e) = Other
 act_tree (Shows place) = Other
 act_tree (Parallel p q r) = InParallel (loop_tree r)
-
-abbrev pub site_tree : Site → SiteTree
-site_tree s = record { act = act_tree s.act; rounds = rounds_tree s.spot.rounds }
+act_tree (Leaves x) = Left (spelled x)
+act_tree (LeavesAll xs) = LeftAll (map spelled xs)
 
 abbrev pub spot_tree : Spot → TreeSpot
-spot_tree w = record { scope = w.scope; rounds = rounds_tree w.rounds }
+spot_tree w = record { scope = w.scope; loops = w.loops; rounds = rounds_tree w.rounds }
+
+abbrev pub site_tree : Site → SiteTree
+site_tree s = record { act = act_tree s.act; spot = spot_tree s.spot }
 
 abbrev trees : List Site → List SiteTree
 trees ss = map site_tree ss
@@ -126,9 +130,38 @@ after_step w (Call x f) = refl
 after_step w (Both x f y g) = refl
 after_step w (Print place e) = refl
 after_step w (Emit place t) = refl
+after_step w (Leave x e) = refl
+after_step w (Fill f t r es) = refl
 
 after_same : (w : Spot) (s : Stmt) → spot_tree (spot_after w s) ≡ behind (spot_tree w) (node_of s)
 after_same w s = after_step w s ∙ ap (behind (spot_tree w)) (sym (rows_of s))
+
+-- ---- the targets of `leave` statements
+
+mutual
+  left_step : (s : Stmt) → map spelled (targets_in s) ≡ left_in (node_rows s)
+  left_step (Let x e) = refl
+  left_step (Set x e) = refl
+  left_step (Put t a b e) = refl
+  left_step (If' e p body q other) =
+      map-append spelled (targets_all body) (targets_all other) ∙ ap (λ r. r ++ map spelled (targets_all other)) (left_row body) ∙ ap (λ r. left_all (row_nodes body) ++ r) (left_row other)
+  left_step (While' e p body) = left_row body
+  left_step (Loop' x a b p body) = left_row body
+  left_step (Par' place x a b carry_place carries reduces p body) = refl
+  left_step (Fold x e) = refl
+  left_step (Call x f) = refl
+  left_step (Both x f y g) = refl
+  left_step (Print place e) = refl
+  left_step (Emit place t) = refl
+  left_step (Leave x e) = refl
+  left_step (Fill f t r es) = refl
+
+  left_row : {m : _} (row : Row_of-Stmt m) → map spelled (targets_all row) ≡ left_all (row_nodes row)
+  left_row end_of-Stmt = refl
+  left_row (more_of-Stmt s rest) =
+      map-append spelled (targets_in s) (targets_all rest) ∙ ap (λ r. r ++ map spelled (targets_all rest)) (left_step s ∙ ap left_in (sym (rows_of s))) ∙ ap (λ r. left_in (node_of s) ++ r) (left_row rest)
+
+-- ---- statements in order
 
 mutual
   step_same : (w : Spot) (s : Stmt) → trees (in_stmt w s) ≡ node_sites (spot_tree w) (node_rows s)
@@ -150,11 +183,14 @@ mutual
   step_same w (Par' place x a b carry_place carries reduces p body) =
       let v = in_par w x carries.items reduces.items in
       let par = site w (Parallel place carry_place (the_loop w x carries.items reduces.items)) in
-      next par (site w (Declares x) ∷ in_whole w a ++ (in_whole w b ++ (in_carries w carries.items ++ in_all v body))) _
+      let left = site w (LeavesAll (targets_all body)) in
+      next par (left ∷ site w (Declares x) ∷ in_whole w a ++ (in_whole w b ++ (in_carries w carries.items ++ in_all v body))) _
+      (ap (λ xs. stands (spot_tree w) (LeftAll xs) ∷ trees (site w (Declares x) ∷ in_whole w a ++ (in_whole w b ++ (in_carries w carries.items ++ in_all v body)))) (left_row body)
+      ∙ ap (λ r. stands (spot_tree w) (LeftAll (left_all (row_nodes body))) ∷ r)
       (next (site w (Declares x)) (in_whole w a ++ (in_whole w b ++ (in_carries w carries.items ++ in_all v body))) _
       (chain (in_whole w a) (in_whole w b ++ (in_carries w carries.items ++ in_all v body)) _ _ (whole_same w a)
       (chain (in_whole w b) (in_carries w carries.items ++ in_all v body) _ _ (whole_same w b)
-      (chain (in_carries w carries.items) (in_all v body) _ _ (carries_same w carries.items) (row_same v body)))))
+      (chain (in_carries w carries.items) (in_all v body) _ _ (carries_same w carries.items) (row_same v body))))))
   step_same w (Fold x e) = next (site w (Folds x)) (in_whole w e) _ (whole_same w e)
   step_same w (Call x f) = next (site w (Assigns x)) (in_app w f) _ (app_same w f)
   step_same w (Both x f y g) =
@@ -163,6 +199,8 @@ mutual
       (next (site w (Assigns y)) (site w (AssignsBoth x y) ∷ in_app w g) _ (next (site w (AssignsBoth x y)) (in_app w g) _ (app_same w g))))
   step_same w (Print place e) = next (site w (Shows place)) (in_whole w e) _ (whole_same w e)
   step_same w (Emit place t) = refl
+  step_same w (Leave x e) = next (site w (Leaves x)) (in_whole w e) _ (whole_same w e)
+  step_same w (Fill f t r es) = refl
 
   row_same : {m : _} (w : Spot) (row : Row_of-Stmt m) → trees (in_all w row) ≡ nodes_sites (spot_tree w) (row_nodes row)
   row_same w end_of-Stmt = refl
@@ -202,7 +240,7 @@ params_same w (x ∷ xs) = next (site w (Declares x)) (in_params (declared_var w
 
 module _ (p : Program) where
   inside_same : (f : Func) → spot_tree (func_spot p f) ≡ inside (func_of f)
-  inside_same f = ap {A = List (List ℕ)} {B = TreeSpot} (λ sc. record { scope = sc; rounds = [] }) (texts_same f.params.items)
+  inside_same f = ap {A = List (List ℕ)} {B = TreeSpot} (λ sc. record { scope = sc; loops = []; rounds = [] }) (texts_same f.params.items)
 
   pub func_same : (f : Func) → trees (in_func p f) ≡ func_sites (func_of f)
   func_same f =
@@ -217,6 +255,9 @@ module _ (p : Program) where
       (whole_same (spot_of_list w f.body.items) f.result
       ∙ ap {A = TreeSpot} {B = List SiteTree} (λ u. whole_sites u (tree_of f.result))
       (list_after w f.body.items ∙ ap {A = TreeSpot} {B = TreeSpot} (λ u. behind_all u body) (inside_same f)))))
+      ∙ ap {A = TreeSpot} {B = List SiteTree}
+      (λ u. stands u Other ∷ param_sites top (map spelled f.params.items) ++ (nodes_sites (inside (func_of f)) body ++ whole_sites (behind_all (inside (func_of f)) body) (tree_of f.result)))
+      (inside_same f)
 
   funcs_same : (before fs : List Func) → trees (in_funcs p before fs) ≡ funcs_sites (map func_of fs)
   funcs_same before [] = refl

@@ -15,7 +15,7 @@ use Rattle.loop_rules.specs.declared.part.Part.TheVariants.{OfFunc}
 use Rattle.loop_syntax.specs.declared.App.{App}
 use Rattle.loop_syntax.specs.declared.Stmt.{Stmt, Row_of-Stmt, end_of-Stmt, more_of-Stmt}
 use Rattle.loop_syntax.specs.declared.Stmt.TheVariants.{Loop, Par, Let, Set, Put, If', While'}
-use Rattle.loop_syntax.specs.declared.Stmt.TheVariants.{Loop', Par', Fold, Call, Both, Print, Emit}
+use Rattle.loop_syntax.specs.declared.Stmt.TheVariants.{Loop', Par', Fold, Call, Both, Print, Emit, Leave, Fill}
 use Rattle.loop_rules.specs.Sites.{Site, Spot, site, Calls, top, tables_of, func_spot, spot_of_list}
 use Rattle.loop_rules.specs.Sites.{in_func, in_params, declared_var, in_expr, in_whole, in_args}
 use Rattle.loop_rules.specs.Sites.{in_app, in_carries, in_stmt, in_all, in_list, in_loop, in_par}
@@ -83,16 +83,18 @@ mutual
   stmt_apart w (Loop' x a b p body) =
       same_cons _ _ _ _ (λ rs. refl) (same_append _ _ _ _ (whole_apart w a) (same_append _ _ _ _ (whole_apart w b) (two_bare _ _ _ (all_apart (in_loop w x) body) (all_apart (in_loop anywhere x) body))))
   stmt_apart w (Par' place x a b carry_place carries reduces p body) =
-      same_cons _ _ _ _ (λ rs. refl) (same_cons _ _ _ _ (λ rs. refl)
+      same_cons _ _ _ _ (λ rs. refl) (same_cons _ _ _ _ (λ rs. refl) (same_cons _ _ _ _ (λ rs. refl)
       (same_append _ _ _ _ (whole_apart w a) (same_append _ _ _ _ (whole_apart w b)
       (same_append _ _ _ _ (carries_apart w carries.items)
-      (two_bare _ _ _ (all_apart (in_par w x carries.items reduces.items) body) (all_apart (in_par anywhere x carries.items reduces.items) body))))))
+      (two_bare _ _ _ (all_apart (in_par w x carries.items reduces.items) body) (all_apart (in_par anywhere x carries.items reduces.items) body)))))))
   stmt_apart w (Fold x e) = same_cons _ _ _ _ (λ rs. refl) (whole_apart w e)
   stmt_apart w (Call x f) = same_cons _ _ _ _ (λ rs. refl) (app_apart w f)
   stmt_apart w (Both x f y g) =
       same_cons _ _ _ _ (λ rs. refl) (same_append _ _ _ _ (app_apart w f) (same_cons _ _ _ _ (λ rs. refl) (same_cons _ _ _ _ (λ rs. refl) (app_apart w g))))
   stmt_apart w (Print place e) = same_cons _ _ _ _ (λ rs. refl) (whole_apart w e)
   stmt_apart w (Emit place t) = record { at = λ rs b. refl }
+  stmt_apart w (Leave x e) = same_cons _ _ _ _ (λ rs. refl) (whole_apart w e)
+  stmt_apart w (Fill f t r es) = none
 
   all_apart : {m : _} (w : Spot) (row : Row_of-Stmt m) → Same (in_all w row) (in_all anywhere row)
   all_apart w end_of-Stmt = none

@@ -7,7 +7,7 @@ use Rattle.loop_rules.specs.declared.rule.Rule.{Rule}
 use Rattle.loop_rules.specs.declared.rule.Rule.TheVariants.{Names, OuterVariables, Reductions}
 use Rattle.loop_rules.specs.declared.rule.Rule.TheVariants.{TableWrites, TableReads, CarryLists}
 use Rattle.loop_rules.specs.declared.rule.Rule.TheVariants.{Functions, ReadingCalls, Output}
-use Rattle.loop_rules.specs.declared.rule.Rule.TheVariants.{LoopVariables, Limits}
+use Rattle.loop_rules.specs.declared.rule.Rule.TheVariants.{LoopVariables, Limits, Leaves}
 use Rattle.loop_rules.specs.Broken.{Broken}
 use Rattle.loop_rules.specs.Unbroken.{IsResolved}
 use Rattle.loop_rules.specs.declared.fault.Fault.{Fault}
@@ -36,6 +36,7 @@ by_rule p r v ReadingCalls q h = v ReadingCalls q tt h
 by_rule p r v Output q h = r.unbroken Output q tt h
 by_rule p r v LoopVariables q h = r.unbroken LoopVariables q tt h
 by_rule p r v Limits q h = r.unbroken Limits q tt h
+by_rule p r v Leaves q h = v Leaves q tt h
 
 pub all_unbroken : (p : Program) → IsResolved p → IsVerdict p None → NoneBroken p
 all_unbroken p r v = record { unbroken = by_rule p r v }

@@ -11,12 +11,13 @@ use Rattle.loop_syntax.specs.declared.Carry.TheVariants as carry
 use Rattle.loop_syntax.specs.declared.Reduce.{Reduce}
 use Rattle.loop_syntax.specs.declared.Stmt.{Stmt, Row_of-Stmt, end_of-Stmt, more_of-Stmt}
 use Rattle.loop_syntax.specs.declared.Stmt.TheVariants.{Let, Set, Put, If', While', Loop', Par'}
-use Rattle.loop_syntax.specs.declared.Stmt.TheVariants.{Fold, Call, Both, Print, Emit}
+use Rattle.loop_syntax.specs.declared.Stmt.TheVariants.{Fold, Call, Both, Print, Emit, Leave, Fill}
 use Rattle.loop_rules.specs.Sites.{Act, Declares, Uses, Assigns, Folds, AssignsBoth, NamesTable}
-use Rattle.loop_rules.specs.Sites.{ReadsCell, WritesCell, Calls, Evaluates, Shows, Parallel, Spot}
+use Rattle.loop_rules.specs.Sites.{ReadsCell, WritesCell, Calls, Evaluates, Shows, Parallel, Leaves, LeavesAll, Spot}
 use Rattle.loop_rules.specs.Sites.{Site, site, in_expr, in_whole, in_args, in_app, in_carries}
 use Rattle.loop_rules.specs.Sites.{in_stmt, in_all, in_list, spot_after, spot_of_list, declared_var}
 use Rattle.loop_rules.specs.Sites.{in_loop, in_par, the_loop}
+use Rattle.loop_rules.specs.Targets.{targets_all}
 use Rattle.loop_check.proofs.Lists.{Each, each_left, each_right, each_both}
 
 module _ (F T : Act → Spot → Type 0) (I : Spot → Type 0)
@@ -76,6 +77,8 @@ module _ (F T : Act → Spot → Type 0) (I : Spot → Type 0)
   after_walk w (Both y f z g) i = i
   after_walk w (Print p e) i = i
   after_walk w (Emit p t) i = i
+  after_walk w (Leave y e) i = i
+  after_walk w (Fill f t r es) i = i
 
   two_walk : (w : Spot) → I w → (a b : Expr) (rest : List Site) → AllF (in_whole w a ++ (in_whole w b ++ rest)) → (AllF rest → AllT rest) → AllT (in_whole w a ++ (in_whole w b ++ rest))
   two_walk w i a b rest h f =
@@ -96,11 +99,14 @@ module _ (F T : Act → Spot → Type 0) (I : Spot → Type 0)
     stmt_walk w i (Par' place y a b z cs rs p body) h = (
       site_ok (Parallel place z (the_loop w y cs.items rs.items)) w h.0 i,
       (
-        site_ok (Declares y) w h.1.0 i,
-        two_walk w i a b (in_carries w cs.items ++ in_all (in_par w y cs.items rs.items) body) h.1.1 (λ k.
-            both_walk (in_carries w cs.items) (in_all (in_par w y cs.items rs.items) body) k (λ l. carries_walk w i cs.items l)
-            (λ l. row_walk (in_par w y cs.items rs.items)
-            (par_ok w y cs.items rs.items place z h.0 (each_left (λ (s : Site). F s.act s.spot) (in_carries w cs.items) (in_all (in_par w y cs.items rs.items) body) k) i) body l)),
+        site_ok (LeavesAll (targets_all body)) w h.1.0 i,
+        (
+          site_ok (Declares y) w h.1.1.0 i,
+          two_walk w i a b (in_carries w cs.items ++ in_all (in_par w y cs.items rs.items) body) h.1.1.1 (λ k.
+              both_walk (in_carries w cs.items) (in_all (in_par w y cs.items rs.items) body) k (λ l. carries_walk w i cs.items l)
+              (λ l. row_walk (in_par w y cs.items rs.items)
+              (par_ok w y cs.items rs.items place z h.0 (each_left (λ (s : Site). F s.act s.spot) (in_carries w cs.items) (in_all (in_par w y cs.items rs.items) body) k) i) body l)),
+        ),
       ),
     )
     stmt_walk w i (Fold y e) h = (site_ok (Folds y) w h.0 i, whole_walk w i e h.1)
@@ -112,6 +118,8 @@ module _ (F T : Act → Spot → Type 0) (I : Spot → Type 0)
     )
     stmt_walk w i (Print p e) h = (site_ok (Shows p) w h.0 i, whole_walk w i e h.1)
     stmt_walk w i (Emit p t) h = (site_ok (Shows p) w h.0 i, (site_ok (NamesTable t) w h.1.0 i, tt))
+    stmt_walk w i (Leave y e) h = (site_ok (Leaves y) w h.0 i, whole_walk w i e h.1)
+    stmt_walk w i (Fill f t r es) h = tt
 
     pub row_walk : {n : _} → (w : Spot) → I w → (row : Row_of-Stmt n) → AllF (in_all w row) → AllT (in_all w row)
     row_walk w i end_of-Stmt h = tt

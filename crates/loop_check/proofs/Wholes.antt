@@ -60,7 +60,7 @@ module _ (rs : List Reader) where
       let first : lowest_at (checked_rules rs) b (site w (Declares x)) ≡ b = rw h refl in
       ap (λ c. lowest_in (checked_rules rs) c (in_params (declared_var w x) xs)) first ∙ params_none b (declared_var w x) h xs
 
-  func_found : (p : Program) (b : Option Fault) (f : Func) → lowest_in (checked_rules rs) b (in_func p f) ≡ lowest_in (checked_rules rs) b (in_list (spot (texts f.params.items) []) f.body.items)
+  func_found : (p : Program) (b : Option Fault) (f : Func) → lowest_in (checked_rules rs) b (in_func p f) ≡ lowest_in (checked_rules rs) b (in_list (spot (texts f.params.items) [] []) f.body.items)
   func_found p b f =
       let outer : Spot = top OfFunc (tables_of p) p.funcs.items in
       let w : Spot = func_spot p f in
@@ -78,9 +78,9 @@ module _ (rs : List Reader) where
   funcs_found p b before (f ∷ fs) =
       lowest_in_append (checked_rules rs) b (in_func p f) (in_funcs p (before ++ f ∷ []) fs)
       ∙ ap (λ c. lowest_in (checked_rules rs) c (in_funcs p (before ++ f ∷ []) fs)) (func_found p b f)
-      ∙ funcs_found p (lowest_in (checked_rules rs) b (in_list (spot (texts f.params.items) []) f.body.items)) (before ++ f ∷ []) fs
+      ∙ funcs_found p (lowest_in (checked_rules rs) b (in_list (spot (texts f.params.items) [] []) f.body.items)) (before ++ f ∷ []) fs
 
-  pub sites_found : (p : Program) (f g : Option Fault) → f ≡ lowest_of_funcs rs None p.funcs.items → g ≡ lowest_in (checked_rules rs) f (in_list (spot [] []) p.main.items) → g ≡ lowest_in (checked_rules rs) None (sites p)
+  pub sites_found : (p : Program) (f g : Option Fault) → f ≡ lowest_of_funcs rs None p.funcs.items → g ≡ lowest_in (checked_rules rs) f (in_list (spot [] [] []) p.main.items) → g ≡ lowest_in (checked_rules rs) None (sites p)
   sites_found p f g h k =
       let decls : List Site = in_decls p.funcs.items [] p.tables.items in
       let funcs : List Site = in_funcs p [] p.funcs.items in

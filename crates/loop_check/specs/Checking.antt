@@ -9,7 +9,7 @@ use Rattle.loop_rules.specs.declared.rule.Rule.{Rule}
 use Rattle.loop_rules.specs.declared.rule.Rule.TheVariants.{Names, OuterVariables, Reductions}
 use Rattle.loop_rules.specs.declared.rule.Rule.TheVariants.{TableWrites, TableReads, CarryLists}
 use Rattle.loop_rules.specs.declared.rule.Rule.TheVariants.{Functions, ReadingCalls, Output}
-use Rattle.loop_rules.specs.declared.rule.Rule.TheVariants.{LoopVariables, Limits}
+use Rattle.loop_rules.specs.declared.rule.Rule.TheVariants.{LoopVariables, Limits, Leaves}
 use Rattle.loop_rules.specs.Broken.{Broken}
 use Rattle.loop_rules.specs.Rules.{number_of}
 use Rattle.loop_rules.specs.declared.fault.Fault.{Fault}
@@ -27,6 +27,7 @@ IsOfCheck ReadingCalls = Unit {0}
 IsOfCheck Output = ⊥
 IsOfCheck LoopVariables = ⊥
 IsOfCheck Limits = ⊥
+IsOfCheck Leaves = Unit {0}
 
 -- a rule of that number is broken at the place, and none of them comes before it
 pub record IsFirstBroken (program : Program) (number : ℕ) (place : Place) : Type 0 where

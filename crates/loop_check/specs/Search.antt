@@ -3,11 +3,12 @@ use Rattle.std.specs.Prelude.{ℕ, Bool, false, ◌||◌, ◌&&◌, List, [], �
 use Rattle.tp_value.specs.declared.Place.{Place}
 use Rattle.loop_rules.specs.declared.rule.Rule.TheVariants.{OuterVariables, Reductions, TableWrites}
 use Rattle.loop_rules.specs.declared.rule.Rule.TheVariants.{TableReads}
-use Rattle.loop_rules.specs.declared.rule.Rule.TheVariants.{CarryLists, ReadingCalls}
+use Rattle.loop_rules.specs.declared.rule.Rule.TheVariants.{CarryLists, ReadingCalls, Leaves}
 use Rattle.loop_rules.specs.Sites.{Loop, Act, Calls, Spot}
 use Rattle.loop_rules.specs.Scopes.{at}
 use Rattle.loop_rules.specs.Reductions.{any_loop, outer_set, misreduced}
 use Rattle.loop_rules.specs.Carries.{carries, miswritten, misread, miscarried}
+use Rattle.loop_rules.specs.Leaves.{misleft}
 use Rattle.loop_rules.specs.Search.{Asked}
 use Rattle.loop_check.specs.declared.reader.Reader.{Reader}
 
@@ -33,4 +34,5 @@ checked_rules readers =
     ∷ record { rule = TableReads; broken = misread }
     ∷ record { rule = CarryLists; broken = miscarried }
     ∷ record { rule = ReadingCalls; broken = calls_reader readers }
+    ∷ record { rule = Leaves; broken = misleft }
     ∷ []

@@ -30,7 +30,7 @@ any_use what found (site ∷ sites) = any_use what (is_use what site.act || foun
 
 -- a spot that nothing is known of
 abbrev pub anywhere : Spot
-anywhere = spot [] []
+anywhere = spot [] [] []
 
 -- whether a function does that
 abbrev pub uses : Program → Usage → Option Func → Bool

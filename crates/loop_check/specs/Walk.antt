@@ -47,23 +47,23 @@ abbrev pub nearest_holds : Test → List Loop → Bool
 nearest_holds asked [] = false
 nearest_holds asked (loop ∷ loops) = holds asked loop
 
--- a spot as far as these rules look at it
-abbrev pub spot : List (List ℕ) → List Loop → Spot
-spot scope rounds =
+-- a spot as far as these rules look at it: the visible variables, those of them that are a
+-- loop's, and the `par` loops round
+abbrev pub spot : List (List ℕ) → List (List ℕ) → List Loop → Spot
+spot scope loops rounds =
     record {
       part = OfMain;
       tables = [];
       funcs = [];
       scope = scope;
-      loops = [];
+      loops = loops;
       depth = 0;
-      rounds =
-          rounds;
+      rounds = rounds;
     }
 
 -- that of the walk's state
 abbrev pub inside : state.Spot.Spot → Spot
-inside walk = spot (texts_of walk.scope.items) (rounds_of walk.rounds.now)
+inside walk = spot (texts_of walk.scope.items) (texts_of walk.loops.items) (rounds_of walk.rounds.now)
 
 -- the targets of reductions
 abbrev pub targets_of : List Reduce → List (List ℕ)

@@ -15,5 +15,5 @@ lowest_of_funcs readers found [] = found
 lowest_of_funcs readers found (func ∷ funcs) =
     lowest_of_funcs readers
     (lowest_in (checked_rules readers) found
-    (in_list (spot (texts func.params.items) []) func.body.items))
+    (in_list (spot (texts func.params.items) [] []) func.body.items))
     funcs

@@ -18,7 +18,7 @@ use tp_value::NoMemory;
 
 /// A program that breaks no rule at all: beside those of `Resolved`, none on variables that a `par`
 /// body may not set (C2), on reduced ones (C3), on writes (C4), reads (C5) and carry lists (C6),
-/// and on calls in `par` loops (C8). It is seen as the program.
+/// on calls in `par` loops (C8), and on how a `par` is left (C12). It is seen as the program.
 #[derive(Drop)]
 pub struct Checked {
     resolved: Resolved,
@@ -66,7 +66,7 @@ fn fault_of(alloc: Global, program: &Program) -> Result<Option<Fault>, NoMemory>
     first_fault(alloc, program, &readers)
 }
 
-/// Looks at the rules C2, C3, C4, C5, C6 and C8. Where one of them is broken the answer is the one
+/// Looks at the rules C2, C3, C4, C5, C6, C8 and C12. Where one of them is broken the answer is the one
 /// at the least place, and among those there the one with the least number. Where none is, no
 /// iteration of a `par` writes a cell that another one reads or writes, and each keeps to its part
 /// of each carried table and touches no other one that a `par` round it carries. Which functions

@@ -7,6 +7,7 @@ mod checked;
 mod clauses;
 mod expression;
 pub mod laws;
+mod leaves;
 mod names;
 mod reader;
 mod readers;

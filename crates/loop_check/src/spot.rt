@@ -7,6 +7,8 @@ use crate::round::Round;
 pub struct Spot<'a, 'b> {
     /// The visible variables, in the order of their declarations.
     pub scope: Vec<&'a [u8]>,
+    /// Those of them that are a loop's.
+    pub loops: Vec<&'a [u8]>,
     /// The `par` loops round, nearest first.
     pub rounds: &'b [Round<'b>],
 }

@@ -4,14 +4,15 @@ ghost use Rattle.std.specs.Prelude.{◌≡◌, ◌∷◌, ◌++◌, IfOk, IsTrue
 ghost use Rattle.loop_rules.specs.Carries.{miswritten, bad_write};
 ghost use Rattle.loop_rules.specs.Reductions.{outer_set, misreduced};
 ghost use Rattle.loop_rules.specs.Sites.{site, spot_after, spot_of_list, in_stmt, in_list};
-ghost use Rattle.loop_rules.specs.Sites.{in_whole, declared_var, in_par, the_loop, Assigns, Folds};
+ghost use Rattle.loop_rules.specs.Sites.{in_whole, in_loop, Assigns, Folds};
 ghost use Rattle.loop_rules.specs.Sites.{Declares, WritesCell};
 ghost use Rattle.loop_rules.specs.Search.{lowest, lowest_in};
 ghost use Rattle.loop_check.specs.Search.{checked_rules};
-ghost use Rattle.loop_check.specs.Walk.{texts_of, rounds_of, spot, inside, Walked};
+ghost use Rattle.loop_check.specs.Walk.{rounds_of, inside, Walked};
 
 use crate::clauses::parallel;
 use crate::expression::{in_app, in_carries, in_whole, occurs};
+use crate::leaves::{all_leave, leaves};
 use crate::reader::Reader;
 use crate::round::{Round, Test, any_round, nearest};
 use crate::shape::has_shape;
@@ -189,6 +190,12 @@ fn in_stmt<'a>(
             Ok(())
         }
         Stmt::Emit(_, _) => Ok(()),
+        Stmt::Leave(x, e) => {
+            leaves(spot, found, x);
+            in_whole(spot, readers, found, e);
+            Ok(())
+        }
+        Stmt::Fill { .. } => Ok(()),
     }
 }
 
@@ -242,13 +249,15 @@ fn in_loop<'a>(
 ) -> Result<(), NoMemory>
     ensures { IfOk result
         (λ u. Walked readers.now found.old found.new
-        (in_list (declared_var (inside spot.old) variable.now) body.now) spot.new
+        (in_list (in_loop (inside spot.old) variable.now) body.now) spot.new
         (inside spot.old)) }
 {
-    let n = spot.scope.len();
+    let (n, m) = (spot.scope.len(), spot.loops.len());
     spot.scope.push(&variable.text)?;
+    spot.loops.push(&variable.text)?;
     in_list(alloc, spot, readers, found, body)?;
     spot.scope.truncate(n);
+    spot.loops.truncate(m);
     Ok(())
 }
 
@@ -268,18 +277,18 @@ fn with_round<'b>(
     Ok(all)
 }
 
-/// The visible variables once more.
-fn copied<'a>(alloc: Global, scope: &[&'a [u8]]) -> Result<Vec<&'a [u8]>, NoMemory>
-    ensures { IfOk result (λ all. all.items ≡ scope.now) }
+/// Variables once more.
+fn copied<'a>(alloc: Global, names: &[&'a [u8]]) -> Result<Vec<&'a [u8]>, NoMemory>
+    ensures { IfOk result (λ all. all.items ≡ names.now) }
 {
-    Ok(scope.to_vec(alloc)?)
+    Ok(names.to_vec(alloc)?)
 }
 
 /// The body of a `par`, where these loops are round it.
 #[cycle(walk)]
 fn in_body<'a>(
     alloc: Global,
-    scope: Vec<&'a [u8]>,
+    spot: &Spot<'a, '_>,
     rounds: &[Round],
     readers: &[Reader],
     found: &mut Option<Fault>,
@@ -289,11 +298,12 @@ fn in_body<'a>(
         (λ u. found.new
         ≡ lowest_in (checked_rules readers.now) found.old
         (in_list
-        (declared_var (spot (texts_of scope.entry.items) (rounds_of rounds.now)) par_loop.now.var)
+        (in_loop (record (inside spot.now) { rounds = rounds_of rounds.now }) par_loop.now.var)
         par_loop.now.body.items)) }
 {
     let mut w = Spot {
-        scope,
+        scope: copied(alloc, &spot.scope)?,
+        loops: copied(alloc, &spot.loops)?,
         rounds: &*rounds,
     };
     in_loop(alloc, &mut w, readers, found, &par_loop.body, &par_loop.var)
@@ -319,6 +329,7 @@ fn in_par<'a>(
         par: par_loop,
     };
     parallel(spot, found, &round);
+    all_leave(alloc, spot, found, par_loop)?;
     in_bounds(
         spot,
         readers,
@@ -329,6 +340,5 @@ fn in_par<'a>(
     );
     in_carries(spot, readers, found, &par_loop.carries);
     let rounds = with_round(alloc, round, spot.rounds)?;
-    let scope = copied(alloc, &spot.scope)?;
-    in_body(alloc, scope, &rounds, readers, found, par_loop)
+    in_body(alloc, spot, &rounds, readers, found, par_loop)
 }

@@ -138,6 +138,8 @@ fn in_stmt(usage: &Usage, found: &mut bool, statement: &Stmt)
         Stmt::Both(_, f, _, g) => in_both(usage, found, f, g),
         Stmt::Print(_, e) => in_expr(usage, found, e),
         Stmt::Emit(_, _) => {}
+        Stmt::Leave(_, e) => in_expr(usage, found, e),
+        Stmt::Fill { .. } => {}
     }
 }
 

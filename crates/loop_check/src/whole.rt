@@ -38,9 +38,13 @@ fn in_body<'a>(
     ensures { IfOk result
         (λ u. found.new
         ≡ lowest_in (checked_rules readers.now) found.old
-        (in_list (spot (texts_of scope.entry.items) []) body.now)) }
+        (in_list (spot (texts_of scope.entry.items) [] []) body.now)) }
 {
-    let mut w = Spot { scope, rounds: &[] };
+    let mut w = Spot {
+        scope,
+        loops: Vec::new(alloc),
+        rounds: &[],
+    };
     in_list(alloc, &mut w, readers, found, body)
 }
 
@@ -53,7 +57,7 @@ fn in_func(
     ensures { IfOk result
         (λ u. found.new
         ≡ lowest_in (checked_rules readers.now) found.old
-        (in_list (spot (texts func.now.params.items) []) func.now.body.items)) }
+        (in_list (spot (texts func.now.params.items) [] []) func.now.body.items)) }
 {
     let scope = texts(alloc, &func.params)?;
     in_body(alloc, scope, readers, found, &func.body)
@@ -82,7 +86,7 @@ fn in_main(
     ensures { IfOk result
         (λ u.
         found.new
-        ≡ lowest_in (checked_rules readers.now) found.old (in_list (spot [] []) body.now)) }
+        ≡ lowest_in (checked_rules readers.now) found.old (in_list (spot [] [] []) body.now)) }
 {
     in_body(alloc, Vec::new(alloc), readers, found, body)
 }

@@ -1,15 +1,14 @@
 use Rattle.std.proofs.Common.{◌≡◌, ◌∙◌, ap, arith, ℕ, List, Option, take, length, ◌++◌, ◌∷◌}
-use Rattle.loop_rules.specs.Sites.{Loop, declared_var, in_whole, in_list}
+use Rattle.loop_rules.specs.Sites.{Loop, in_loop, in_whole, in_list}
 use Rattle.std.specs.Borrow.{Bor}
 use Rattle.loop_rules.specs.declared.fault.Fault.{Fault}
 use Rattle.loop_check.specs.declared.round.Round.{Round}
 use Rattle.loop_rules.specs.Search.{lowest_in}
 use Rattle.loop_check.specs.Search.{checked_rules}
-use Rattle.loop_check.specs.Walk.{spot, inside, texts_of, rounds_of}
+use Rattle.loop_check.specs.Walk.{inside, texts_of, rounds_of}
 use Rattle.loop_rules.proofs.Walking.{two_parts, in_if, in_while, list_found, list_stands}
-use Rattle.loop_rules.proofs.Walking.{block_left, ok_map}
-use Rattle.loop_check.proofs.Walking.{texts_more, texts_take, texts_length, loop_left, looped_found}
-use Rattle.loop_check.proofs.Walking.{par_found}
+use Rattle.loop_rules.proofs.Walking.{block_left, loop_left, ok_map}
+use Rattle.loop_check.proofs.Walking.{texts_more, texts_take, texts_length, looped_found, par_found}
 use Rattle.loop_check.proofs.statement.+walk.Goals as goal
 
 pub in_block-returns : goal.in_block-returns
@@ -39,34 +38,36 @@ in_loop-returns t c =
     let w = c.args.spot.now in
     let v = c.in_list.new.spot in
     let count : c.len-n.result ≡ length (texts_of w.scope.items) = omega (arith, c.len-n.ensures, w.scope.ok, texts_length w.scope.items) in
-    let e = rw (c.in_ok-push.ensures.items, texts_more w.scope.items c.deref.result, c.deref.ensures.value) at c.in_ok-in_list.ensures in
+    let counted : c.len-m.result ≡ length (texts_of w.loops.items) = omega (arith, c.len-m.ensures, w.loops.ok, texts_length w.loops.items) in
+    let e =
+    rw (c.in_ok-push.ensures.items, texts_more w.scope.items c.deref.result, c.deref.ensures.value, c.in_ok-push-2.ensures.items, texts_more w.loops.items c.deref-2.result, c.deref-2.ensures.value)
+    at c.in_ok-in_list.ensures in
     record {
       found = e.found;
       stands =
-          loop_left (texts_of w.scope.items) (rounds_of w.rounds.now) c.args.variable.now (inside v) c.args.body.now (texts_of c.truncate.new.self.items) e.stands
-          (ap texts_of c.truncate.ensures.items ∙ texts_take c.len-n.result v.scope.items ∙ ap (λ n. take n (texts_of v.scope.items)) count);
+          loop_left (inside w) (inside v) c.args.variable.now c.args.body.now (texts_of c.truncate.new.self.items) (texts_of c.truncate-2.new.self.items) e.stands
+          (ap texts_of c.truncate.ensures.items ∙ texts_take c.len-n.result v.scope.items ∙ ap (λ n. take n (texts_of v.scope.items)) count)
+          (ap texts_of c.truncate-2.ensures.items ∙ texts_take c.len-m.result v.loops.items ∙ ap (λ n. take n (texts_of v.loops.items)) counted);
     }
 
 pub in_par-returns : goal.in_par-returns
 in_par-returns t c =
     let w = c.args.spot.now in
     let l = c.args.par_loop.now in
-    let scope = texts_of w.scope.items in
     ok_map c.in_body.result
     (λ u e.
     let head = rw c.as_slice.ensures.value at (c.parallel.ensures l.place l.carry_place) in
     let carried = rw c.deref.ensures.value at c.in_carries.ensures in
-    let step = λ (xs : List (List ℕ)) (ls : List Loop). lowest_in (checked_rules c.args.readers.now) c.in_carries.new.found (in_list (declared_var (spot xs ls) l.var) l.body.items) in
-    let body : c.in_body.new.found ≡ step (texts_of c.in_ok-scope.scope.items) (rounds_of c.deref-3.result.now) = e in
-    let deeper : c.deref-3.result.now ≡ record { outside = c.as_slice.result; par = c.args.par_loop } ∷ w.rounds.now = c.deref-3.ensures.value ∙ c.in_ok-rounds.ensures in
+    let step = λ (ls : List Loop). lowest_in (checked_rules c.args.readers.now) c.in_carries.new.found (in_list (in_loop (record (inside w) { rounds = ls }) l.var) l.body.items) in
+    let body : c.in_body.new.found ≡ step (rounds_of c.deref-2.result.now) = e in
+    let deeper : c.deref-2.result.now ≡ record { outside = c.as_slice.result; par = c.args.par_loop } ∷ w.rounds.now = c.deref-2.ensures.value ∙ c.in_ok-rounds.ensures in
     let round : List (Bor (List ℕ)) → Loop = λ outside. record { outside = texts_of outside; var = l.var.text.items; carries = l.carries.items; reduces = l.reduces.items } in
-    let last : c.in_body.new.found ≡ step scope (round w.scope.items ∷ rounds_of w.rounds.now) =
+    let last : c.in_body.new.found ≡ step (round w.scope.items ∷ rounds_of w.rounds.now) =
     body
-    ∙ ap {A = List (Bor (List ℕ))} {B = Option Fault} (λ xs. step (texts_of xs) (rounds_of c.deref-3.result.now)) (c.in_ok-scope.ensures ∙ c.deref-2.ensures.value)
-    ∙ ap {A = List Round} {B = Option Fault} (λ rs. step scope (rounds_of rs)) deeper
-    ∙ ap {A = List (Bor (List ℕ))} {B = Option Fault} (λ xs. step scope (round xs ∷ rounds_of w.rounds.now)) c.as_slice.ensures.value in
-    par_found c.args.readers.now scope (rounds_of w.rounds.now) l c.args.found.now c.parallel.new.found c.in_bounds.new.found c.in_carries.new.found c.in_body.new.found
-    head c.in_bounds.ensures carried last) c.in_body.ensures
+    ∙ ap {A = List Round} {B = Option Fault} (λ rs. step (rounds_of rs)) deeper
+    ∙ ap {A = List (Bor (List ℕ))} {B = Option Fault} (λ xs. step (round xs ∷ rounds_of w.rounds.now)) c.as_slice.ensures.value in
+    par_found c.args.readers.now (inside w) l c.args.found.now c.parallel.new.found c.all_leave.new.found c.in_bounds.new.found c.in_carries.new.found c.in_body.new.found
+    head c.in_ok-all_leave.ensures c.in_bounds.ensures carried last) c.in_body.ensures
 
 pub in_stmt-returns-in_ok-in_block-in-If : goal.in_stmt-returns-in_ok-in_block-in-If
 in_stmt-returns-in_ok-in_block-in-If t c =
@@ -105,7 +106,7 @@ in_stmt-returns-in-Loop t c =
     let two = rw c.deref-in-Loop.ensures.value at e in
     rw c.in-Loop.is (record {
       found =
-          looped_found c.args.readers.now (texts_of w.scope.items) (rounds_of w.rounds.now) c.in-Loop.x c.in-Loop.a c.in-Loop.b c.in-Loop.body
+          looped_found c.args.readers.now (inside w) c.in-Loop.x c.in-Loop.a c.in-Loop.b c.in-Loop.body
           c.args.found.now c.in_bounds.new.found c.in_loop.new.found c.in_bounds.ensures two.found;
       stands = two.stands;
     })) c.in_loop.ensures
