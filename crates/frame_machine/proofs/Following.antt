@@ -3,28 +3,43 @@ use Rattle.beat_count.specs.Joining.{joined_stop, joined_ticks}
 use Rattle.loop_meaning.proofs.Runs.{after_alike, after_done, after_stopped, alike_back, alike_refl}
 use Rattle.loop_meaning.proofs.Runs.{alike_trans}
 use Rattle.loop_meaning.specs.Ends.{EndAlike, Ends}
-use Rattle.loop_meaning.specs.State.{Ran, State, after, done, out_of_fuel, tick}
+use Rattle.loop_meaning.specs.Leaving.{caught, caught_by}
+use Rattle.loop_meaning.specs.State.{Ran, State, after, assign, done, out_of_fuel, tick}
 use Rattle.std.proofs.Common.{ap, arith, false, nat_le, nat_lt, refl, subst, sym, true, ℕ, ◌+◌, ◌<◌}
-use Rattle.std.proofs.Common.{◌∙◌, ◌≡◌, ◌≤◌}
+use Rattle.std.proofs.Common.{List, None, Option, Some, ℤ, ◌∙◌, ◌≡◌, ◌≤◌}
+use Rattle.std.specs.Prelude.{⊤}
 use Rattle.std.proofs.lemmas.Bool.Decides.{nat_tests}
 use Rattle.tp_value.specs.declared.Place.{Place}
 use Rattle.tp_value.specs.declared.Stop.{Stop}
-use Rattle.tp_value.specs.declared.Stop.TheVariants.{Done, NoFuel, Trap}
+use Rattle.tp_value.specs.declared.Stop.TheVariants.{Done, Left, NoFuel, Trap}
 use Rattle.tp_value.specs.declared.TrapKind.{TrapKind}
 use native.Mathlib.Decide.{dec_le, dec_lt}
 
+-- after a run that stops so the program goes on: behind it, or where it is left behind the loop round it
+abbrev pub GoesOn : Stop → Type 0
+GoesOn Done = ⊤
+GoesOn (Left n) = ⊤
+GoesOn (Trap k p) = ⊥
+GoesOn NoFuel = ⊥
+
+pub goes_done : {x : Stop} → x ≡ Done → GoesOn x
+goes_done e = subst GoesOn (sym e) tt
+
+pub goes_left : {x : Stop} (n : ℤ) → x ≡ Left n → GoesOn x
+goes_left n e = subst GoesOn (sym e) tt
+
 -- q is the run r with t more ticks before it: the same end, or out of fuel where those don't fit
 pub record Follows (fuel t : ℕ) (R : State → State → Type 0) (r q : Ran) : Type 0 where
-  pub inside : r.state.ticks + t ≤ fuel → (q.stop ≡ r.stop) × (q.state.ticks ≡ r.state.ticks + t) × (r.stop ≡ Done → R r.state q.state)
+  pub inside : r.state.ticks + t ≤ fuel → (q.stop ≡ r.stop) × (q.state.ticks ≡ r.state.ticks + t) × (GoesOn r.stop → R r.state q.state)
   pub beyond : fuel < r.state.ticks + t → (q.stop ≡ NoFuel) × (q.state.ticks ≡ fuel + 1)
 
--- from a state within the fuel the ticks don't fall, and where the run is done they are within the fuel
+-- from a state within the fuel the ticks don't fall, and where the program goes on they are within the fuel
 pub record Later (fuel : ℕ) (s : State) (r : Ran) : Type 0 where
   pub later : s.ticks ≤ fuel → s.ticks ≤ r.state.ticks
-  pub keeps : s.ticks ≤ fuel → r.stop ≡ Done → r.state.ticks ≤ fuel
+  pub keeps : s.ticks ≤ fuel → GoesOn r.stop → r.state.ticks ≤ fuel
 
 pub later_alike : (fuel : ℕ) (s : State) (r q : Ran) → EndAlike r q → Later fuel s q → Later fuel s r
-later_alike fuel s r q e h = record { later = λ w. rw e.state (h.later w); keeps = λ w d. rw e.state (h.keeps w (sym e.stop ∙ d)) }
+later_alike fuel s r q e h = record { later = λ w. rw e.state (h.later w); keeps = λ w d. rw e.state (h.keeps w (subst GoesOn e.stop d)) }
 
 pub follows_alike : (fuel t : ℕ) (R : State → State → Type 0) (r r' q q' : Ran) → EndAlike r r' → EndAlike q q' → Follows fuel t R r' q' → Follows fuel t R r q
 follows_alike fuel t R r r' q q' e f h = rw (e.stop, e.state, f.stop, f.state) (record { inside = h.inside; beyond = h.beyond })
@@ -34,6 +49,9 @@ no_done e = cc
 
 pub trap_done : (k : TrapKind) (p : Place) → Trap k p ≡ Done → ⊥
 trap_done k p e = cc
+
+pub left_done : (n : ℤ) → Left n ≡ Done → ⊥
+left_done n e = cc
 
 pub lt_true : (a b : ℕ) → a < b → nat_lt a b ≡ true
 lt_true a b h = grind (arith, nat_tests)
@@ -61,6 +79,7 @@ done_first r g e = go r.stop refl
   where
     go : (x : Stop) → r.stop ≡ x → r.stop ≡ Done
     go Done h = h
+    go (Left n) h = sym (after_stays r g (λ z. left_done n (sym h ∙ z))).stop ∙ e
     go (Trap k p) h = sym (after_stays r g (λ z. trap_done k p (sym h ∙ z))).stop ∙ e
     go NoFuel h = sym (after_stays r g (λ z. no_done (sym h ∙ z))).stop ∙ e
 
@@ -72,6 +91,7 @@ after_alike_at r f g h = go r.stop refl
 
     go : (x : Stop) → r.stop ≡ x → EndAlike (after r f) (after r g)
     go Done e = alike_trans (after_goes r f e) (alike_trans (h e) (alike_back (after_goes r g e)))
+    go (Left n) e = other (λ z. left_done n (sym e ∙ z))
     go (Trap k p) e = other (λ z. trap_done k p (sym e ∙ z))
     go NoFuel e = other (λ z. no_done (sym e ∙ z))
 
@@ -87,12 +107,13 @@ module _ (fuel t : ℕ) (R : State → State → Type 0) where
       go : (x : Stop) → r.stop ≡ x → Dec (r.state.ticks + t ≤ fuel) → Follows fuel t R (after r f) (after q g)
       go Done e (yes i) =
           follows_alike fuel t R _ (f r.state) _ (g q.state) (after_goes r f e) (after_goes q g ((h.inside i).0 ∙ e))
-          (step r.state q.state ((h.inside i).2 e))
+          (step r.state q.state ((h.inside i).2 (goes_done e)))
       go Done e (no n) =
           let b = h.beyond (omega arith) in
           let m : r.state.ticks ≤ (f r.state).state.ticks = (mono r.state).later (within e) in
           follows_alike fuel t R _ (f r.state) _ q (after_goes r f e) (after_stays q g (λ z. no_done (sym b.0 ∙ z)))
           (record { inside = λ i. absurd (omega arith); beyond = λ _. b })
+      go (Left n) e d = other (λ z. left_done n (sym e ∙ z)) d
       go (Trap k p) e d = other (λ z. trap_done k p (sym e ∙ z)) d
       go NoFuel e d = other (λ z. no_done (sym e ∙ z)) d
 
@@ -107,9 +128,10 @@ later_after fuel s r f h k = go r.stop refl
         later_alike fuel s _ (f r.state) (after_goes r f e)
         (record {
           later = λ w. (let a : s.ticks ≤ r.state.ticks = h.later w in
-              let b : r.state.ticks ≤ (f r.state).state.ticks = (k r.state).later (h.keeps w e) in omega arith);
-          keeps = λ w z. (k r.state).keeps (h.keeps w e) z;
+              let b : r.state.ticks ≤ (f r.state).state.ticks = (k r.state).later (h.keeps w (goes_done e)) in omega arith);
+          keeps = λ w z. (k r.state).keeps (h.keeps w (goes_done e)) z;
         })
+    go (Left n) e = other (λ z. left_done n (sym e ∙ z))
     go (Trap y p) e = other (λ z. trap_done y p (sym e ∙ z))
     go NoFuel e = other (λ z. no_done (sym e ∙ z))
 
@@ -126,6 +148,7 @@ after_assoc r f g = go r.stop refl
     go Done e =
         alike_trans (after_alike (after r f) (f r.state) g g (after_goes r f e) (λ u. alike_refl (g u)))
         (alike_back (after_goes r (λ u. after (f u) g) e))
+    go (Left n) e = other (λ z. left_done n (sym e ∙ z))
     go (Trap k p) e = other (λ z. trap_done k p (sym e ∙ z))
     go NoFuel e = other (λ z. no_done (sym e ∙ z))
 
@@ -148,7 +171,7 @@ later_tick fuel u = go (dec_lt u.ticks fuel)
     go (no h) =
         let e = tick_no fuel u (omega arith) in
         later_alike fuel u _ (out_of_fuel (record u { ticks = fuel + 1 })) (record { stop = e.stop; state = e.state })
-        (record { later = λ w. omega arith; keeps = λ w d. absurd (no_done d) })
+        (record { later = λ w. omega arith; keeps = λ w d. absurd d })
 
 -- a tick keeps what hangs on the variables and tables alone
 pub follows_tick : (fuel t : ℕ) (R : State → State → Type 0) (u v : State) → v.ticks ≡ u.ticks + t → v.ticks ≤ fuel → (u.ticks < fuel → v.ticks < fuel → R (record u { ticks = u.ticks + 1 }) (record v { ticks = v.ticks + 1 })) → Follows fuel t R (tick fuel u) (tick fuel v)
@@ -203,7 +226,7 @@ joined_from fuel R low b u follows = go low.stop refl
         record {
           stop = w.stop ∙ (f.inside h).0 ∙ rw (e, c) refl;
           ticks = ap (λ z. z.ticks) w.state ∙ (f.inside h).1 ∙ rw (e, c) (omega arith);
-          merged = λ z. subst (λ v. R (b u).state v) (sym w.state) ((f.inside h).2 (sym (w.stop ∙ (f.inside h).0) ∙ z));
+          merged = λ z. subst (λ v. R (b u).state v) (sym w.state) ((f.inside h).2 (goes_done (sym (w.stop ∙ (f.inside h).0) ∙ z)));
         }
     fits e f w (no h) =
         let c : nat_le (low.state.ticks + (b u).state.ticks) fuel ≡ false = le_false (low.state.ticks + (b u).state.ticks) fuel (omega arith) in
@@ -216,5 +239,33 @@ joined_from fuel R low b u follows = go low.stop refl
 
     go : (y : Stop) → low.stop ≡ y → Joined fuel R low (b u) (after low b)
     go Done e = fits e (follows e) (after_goes low b e) (dec_le _ _)
+    go (Left n) e = other (Left n) e (left_done n) (refl, refl)
     go (Trap k l) e = other (Trap k l) e (trap_done k l) (refl, refl)
     go NoFuel e = other NoFuel e no_done (refl, refl)
+
+-- ---- a `par` that catches its iterations
+
+-- a run that is left, as one that is done
+abbrev pub calmed : Ran → Ran
+calmed r = record r { stop = Done }
+
+-- what its `par` does then
+abbrev pub set_left : Option (List ℕ) → ℤ → State → Ran
+set_left None n s = done s
+set_left (Some x) n s = done (record s { vars = assign s.vars x n })
+
+pub caught_left : (target : Option (List ℕ)) (r : Ran) (n : ℤ) → r.stop ≡ Left n → EndAlike (caught target r) (after (calmed r) (set_left target n))
+caught_left target r n e = subst (λ x. EndAlike (caught_by x target r) (after (calmed r) (set_left target n))) (sym e) (go target)
+  where
+    go : (target : Option (List ℕ)) → EndAlike (caught_by (Left n) target r) (after (calmed r) (set_left target n))
+    go None = record { stop = refl; state = refl }
+    go (Some x) = record { stop = refl; state = refl }
+
+pub caught_stays : (target : Option (List ℕ)) (r : Ran) (x : Stop) → r.stop ≡ x → ((n : ℤ) → x ≡ Left n → ⊥) → EndAlike (caught target r) r
+caught_stays target r x e d = subst (λ y. EndAlike (caught_by y target r) r) (sym e) (go x d)
+  where
+    go : (x : Stop) → ((n : ℤ) → x ≡ Left n → ⊥) → EndAlike (caught_by x target r) r
+    go Done d = alike_refl r
+    go (Left n) d = absurd (d n refl)
+    go (Trap k p) d = alike_refl r
+    go NoFuel d = alike_refl r

@@ -2,6 +2,7 @@
 use Rattle.frame_machine.proofs.Begins.{accs_around, lawful_reduced, names_kept, ops_all}
 use Rattle.frame_machine.proofs.Framing.{accs_in, accs_merged, iterations_join_from, round_around}
 use Rattle.frame_machine.proofs.Framing.{units_are}
+use Rattle.frame_machine.proofs.Following.{goes_done}
 use Rattle.frame_machine.proofs.Joining.{low_done, lower_kept, lower_kept_from, up_done}
 use Rattle.frame_machine.proofs.Joining.{upper_kept_from}
 use Rattle.frame_machine.proofs.Numbers.{gap_back}
@@ -53,7 +54,7 @@ module _ (p : Program) (fuel depth : ℕ) (outer : Modes) (l : ParLoop) where
 
   ends_named : (n : ℕ) (i : ℤ) (s : State) → Lawful p outer (names_of s.vars) l → (iterations_in p fuel room l chance chance n i s).stop ≡ Done → names_of (iterations_in p fuel room l chance chance n i s).state.vars ≡ names_of s.vars
   ends_named n i s rules d =
-      let k = ((lower_kept p outer l fuel room chance chance n i (i +ℤ pos n) s rules (tt, tt) (tt, tt) (omega (arith, ints))).leaves d).claim in
+      let k = ((lower_kept p outer l fuel room chance chance n i (i +ℤ pos n) s rules (tt, tt) (tt, tt) (omega (arith, ints))).leaves (goes_done d)).claim in
       names_kept _ s.vars (iterations_in p fuel room l chance chance n i s).state.vars k.keeps k.size
 
   module _ (first last next middle end : ℤ) (accs : List (Op × ℤ)) (s : State) (vs : List Variable) (ts : List Table)

@@ -1,15 +1,17 @@
 -- Runs that read and write only the cells that are theirs, change no variable that is fixed, and show nothing.
 use Rattle.frame_machine.proofs.Bends.{Keeps, keeps_declare, keeps_length, keeps_refl, keeps_take}
 use Rattle.frame_machine.proofs.Bends.{keeps_trans, keeps_weaken, name_is}
-use Rattle.frame_machine.proofs.Following.{no_done, trap_done}
+use Rattle.frame_machine.proofs.Following.{GoesOn, goes_done, goes_left}
 use Rattle.frame_machine.proofs.Tables.{agree_refl, agree_trans, table_other, table_written}
 use Rattle.frame_machine.proofs.Values.{notes_append}
 use Rattle.frame_machine.specs.Parts.{AgreeAt, AgreeOn, Cells, NotesKeep, Outside}
 use Rattle.loop_meaning.proofs.Ticks.{tick_allowed, tick_refused}
 use Rattle.loop_meaning.specs.Calls.{enter}
 use Rattle.loop_meaning.specs.Expressions.{eval}
-use Rattle.loop_meaning.specs.State.{Note, Ran, State, after, cell_number, declare, done, go_on}
-use Rattle.loop_meaning.specs.State.{has_cell, is_below, leave_block, noted, table_of, tick}
+use Rattle.loop_meaning.specs.Leaving.{caught, caught_by}
+use Rattle.loop_meaning.specs.State.{Note, Ran, State, after, assign, cell_number, declare, done}
+use Rattle.loop_meaning.specs.State.{go_on, has_cell, is_below, leave_block, left_with, noted}
+use Rattle.loop_meaning.specs.State.{table_of, tick}
 use Rattle.loop_meaning.specs.State.{with_cell, write_cell}
 use Rattle.loop_meaning.specs.Statements.{Called, block, choose, given, given_answer, iterate}
 use Rattle.loop_meaning.specs.Statements.{iteration, put_cell, turns, unless_wide, with_call}
@@ -18,6 +20,8 @@ use Rattle.loop_meaning.specs.declared.value.Answer.TheVariants.{Number, Traps}
 use Rattle.loop_meaning.specs.declared.value.Variable.{Variable}
 use Rattle.loop_syntax.specs.declared.Expr.{Expr}
 use Rattle.loop_syntax.specs.declared.Name.{Name}
+use Rattle.std.specs.Prelude.{⊤}
+use Rattle.std.proofs.Common.{None, Option, Some}
 use Rattle.std.proofs.Common.{Bool, List, [], ap, arith, bytes_eq, false, length, nat_lt, negsuc}
 use Rattle.std.proofs.Common.{pos, refl, subst, suc, sym, take, true, unsigned_abs, zero, ℕ, ℤ}
 use Rattle.std.proofs.Common.{⊎_elim, ◌&&◌, ◌*◌, ◌+ℤ◌, ◌+◌, ◌<◌, ◌∙◌, ◌≡◌, ◌≤◌}
@@ -29,6 +33,7 @@ use Rattle.std.proofs.lemmas.Slice.Eq.{bytes_eq-Decides}
 use Rattle.tp_value.specs.declared.Place.{Place}
 use Rattle.tp_value.specs.declared.Stop.{Stop}
 use Rattle.tp_value.specs.declared.Stop.TheVariants.{Done, NoFuel, Trap}
+use Rattle.tp_value.specs.declared.Stop.TheVariants as stop
 use Rattle.tp_value.specs.declared.Table.{Table}
 use Rattle.tp_value.specs.declared.TrapKind.{TrapKind}
 use Rattle.tp_value.specs.declared.TrapKind.TheVariants.{Index, Wide}
@@ -92,20 +97,20 @@ write_guarded W us x i j n h w y = go (bytes_eq x y) refl
 module _ (R W : Cells) where
   -- what a call from u leaves
   pub record KeptCall (u : State) (c : Called) : Type 0 where
-    pub vars : c.ran.stop ≡ Done → c.ran.state.vars ≡ u.vars
-    pub tables : c.ran.stop ≡ Done → AgreeOn (Outside W) u.tables c.ran.state.tables
+    pub vars : GoesOn c.ran.stop → c.ran.state.vars ≡ u.vars
+    pub tables : GoesOn c.ran.stop → AgreeOn (Outside W) u.tables c.ran.state.tables
     pub notes : NotesKeep R W c.ran.notes
     pub output : c.ran.state.output ≡ u.output
 
   module _ (F : List ℕ → Type 0) where
-    -- what a run that is done leaves; the claim is about its variables
+    -- what a run leaves after which the program goes on; the claim is about its variables
     pub record Left (I : List Variable → Type 0) (u w : State) : Type 0 where
       pub keeps : Keeps F u.vars w.vars
       pub claim : I w.vars
       pub tables : AgreeOn (Outside W) u.tables w.tables
 
     pub record Kept (I : List Variable → Type 0) (u : State) (r : Ran) : Type 0 where
-      pub leaves : r.stop ≡ Done → Left I u r.state
+      pub leaves : GoesOn r.stop → Left I u r.state
       pub notes : NotesKeep R W r.notes
       pub output : r.state.output ≡ u.output
 
@@ -128,7 +133,10 @@ module _ (R W : Cells) where
     kept_vars I f u k i = record { leaves = λ d. record { keeps = k; claim = i; tables = agree_refl (Outside W) u.tables }; notes = tt; output = refl }
 
     pub kept_trap : (I : List Variable → Type 0) (k : TrapKind) (p : Place) (ns : List Note) (u : State) → NotesKeep R W ns → Kept I u (record { stop = Trap k p; state = u; notes = ns })
-    kept_trap I k p ns u h = record { leaves = λ d. absurd (trap_done k p d); notes = h; output = refl }
+    kept_trap I k p ns u h = record { leaves = λ d. absurd d; notes = h; output = refl }
+
+    pub kept_left : (I : List Variable → Type 0) (n : ℤ) (u : State) → I u.vars → Kept I u (left_with n u)
+    kept_left I n u i = record { leaves = λ d. record { keeps = keeps_refl F u.vars; claim = i; tables = agree_refl (Outside W) u.tables }; notes = tt; output = refl }
 
     pub kept_noted : (I : List Variable → Type 0) (ns : List Note) (u : State) (r : Ran) → NotesKeep R W ns → Kept I u r → Kept I u (noted ns r)
     kept_noted I ns u r h p = record { leaves = p.leaves; notes = notes_append R W ns r.notes h p.notes; output = p.output }
@@ -138,13 +146,14 @@ module _ (R W : Cells) where
       where
         go : (x : Stop) → r.stop ≡ x → Kept I u (go_on x r g)
         go Done e =
-            let l = p.leaves e in
+            let l = p.leaves (goes_done e) in
             let k = q r.state l.claim in
             record {
               leaves = λ d. left_trans I u r.state (g r.state).state l (k.leaves d);
               notes = notes_append R W r.notes (g r.state).notes p.notes k.notes;
               output = k.output ∙ p.output;
             }
+        go (stop.Left n) e = p
         go (Trap k l) e = p
         go NoFuel e = p
 
@@ -165,7 +174,7 @@ module _ (R W : Cells) where
       where
         go : (b : Bool) → nat_lt u.ticks fuel ≡ b → Kept I u (tick fuel u)
         go true e = subst (λ r. Kept I u r) (sym (tick_allowed fuel u e)) (record { leaves = λ d. record { keeps = keeps_refl F u.vars; claim = i; tables = agree_refl (Outside W) u.tables }; notes = tt; output = refl })
-        go false e = subst (λ r. Kept I u r) (sym (tick_refused fuel u e)) (record { leaves = λ d. absurd (no_done d); notes = tt; output = refl })
+        go false e = subst (λ r. Kept I u r) (sym (tick_refused fuel u e)) (record { leaves = λ d. absurd d; notes = tt; output = refl })
 
     -- a block in which another claim holds, from the state v
     pub kept_inner : (I J : List Variable → Type 0) → Lives I → (u v : State) (r : Ran) → I u.vars → Keeps F u.vars v.vars → AgreeOn (Outside W) u.tables v.tables → v.output ≡ u.output → Kept J v r → Kept I u (leave_block (length u.vars) r)
@@ -184,7 +193,7 @@ module _ (R W : Cells) where
 
     pub kept_turns : (I : List Variable → Type 0) (n fuel : ℕ) (e : Expr) (body : State → Ran) → ((u : State) → I u.vars → NotesKeep R W (eval u.vars u.tables e).notes) → Guards I body → Guards I (turns n fuel e body)
     unfolding turns
-    kept_turns I zero fuel e body h p u i = record { leaves = λ d. absurd (no_done d); notes = tt; output = refl }
+    kept_turns I zero fuel e body h p u i = record { leaves = λ d. absurd d; notes = tt; output = refl }
     kept_turns I (suc n) fuel e body h p u i =
         kept_given I e u (λ v. choose v (λ t. after (after (tick fuel t) body) (turns n fuel e body)) done u) (h u i)
         (λ v q. kept_choose I v (λ t. after (after (tick fuel t) body) (turns n fuel e body)) done
@@ -201,7 +210,7 @@ module _ (R W : Cells) where
             (kept_inner I J live u v (noted ns (body v)) c (keeps_declare F u.vars x i) (agree_refl (Outside W) u.tables) refl (kept_noted J ns v (body v) h (p v (enter u.vars c))))
         go false e =
             subst (λ r. Kept I u (leave_block (length u.vars) (after r (λ t. noted ns (body (record t { vars = declare t.vars x i })))))) (sym (tick_refused fuel u e))
-            (record { leaves = λ d. absurd (no_done d); notes = tt; output = refl })
+            (record { leaves = λ d. absurd d; notes = tt; output = refl })
 
     -- n iterations, where P says which numbers may still come
     pub kept_iterate : (I J : List Variable → Type 0) → Lives I → (P : ℕ → ℤ → Type 0) → ((n : ℕ) (i : ℤ) → P (suc n) i → P n (i +ℤ pos 1)) → (fuel : ℕ) (x : List ℕ) (body : State → Ran) → ((n : ℕ) (i : ℤ) → P (suc n) i → (us : List Variable) → I us → J (declare us x i)) → Guards J body
@@ -212,6 +221,27 @@ module _ (R W : Cells) where
         kept_after I u (iteration fuel x body ns i u) (iterate fuel x body again again n (i +ℤ pos 1))
         (kept_iteration I J live fuel x body ns i h (enter n i q) p u c)
         (kept_iterate I J live P up fuel x body enter p n again again (i +ℤ pos 1) a a (up n i q))
+
+    -- what a `par` sets where it is left
+    abbrev pub MaySet : (List Variable → Type 0) → Option (List ℕ) → Type 0
+    MaySet I None = ⊤
+    MaySet I (Some x) = (n : ℤ) (us : List Variable) → I us → Keeps F us (assign us x n) × I (assign us x n)
+
+    pub kept_caught : (I : List Variable → Type 0) (u : State) (target : Option (List ℕ)) (r : Ran) → Kept I u r → MaySet I target → Kept I u (caught target r)
+    kept_caught I u target r p set = go r.stop refl target set
+      where
+        go : (x : Stop) → r.stop ≡ x → (target : Option (List ℕ)) → MaySet I target → Kept I u (caught_by x target r)
+        go (stop.Left n) e None m = record { leaves = λ d. p.leaves (goes_left n e); notes = p.notes; output = p.output }
+        go (stop.Left n) e (Some x) m =
+            let q = p.leaves (goes_left n e) in
+            let s = m n r.state.vars q.claim in record {
+              leaves = λ d. record { keeps = keeps_trans F u.vars r.state.vars (assign r.state.vars x n) q.keeps s.0; claim = s.1; tables = q.tables };
+              notes = p.notes;
+              output = p.output;
+            }
+        go Done e target m = p
+        go (Trap k l) e target m = p
+        go NoFuel e target m = p
 
     pub kept_with_call : (I : List Variable → Type 0) (u : State) (c : Called) (g : ℤ → State → Ran) → I u.vars → KeptCall u c → ((n : ℤ) → Guards I (g n)) → Kept I u (with_call c g)
     kept_with_call I u c g i p q = kept_after I u c.ran (g c.value)

@@ -1,7 +1,8 @@
 -- The statements of a body, and the functions that it calls, touch only the cells that are theirs.
 use Rattle.frame_machine.proofs.Bends.{Keeps, keeps_assign, keeps_declare, keeps_trans}
-use Rattle.frame_machine.proofs.Guarding.{Guards, Kept, KeptCall, kept_after, kept_block}
-use Rattle.frame_machine.proofs.Guarding.{kept_choose, kept_done, kept_given, kept_iterate}
+use Rattle.frame_machine.proofs.Guarding.{Guards, Kept, KeptCall, MaySet, kept_after, kept_block}
+use Rattle.frame_machine.proofs.Guarding.{kept_caught, kept_choose, kept_done, kept_given}
+use Rattle.frame_machine.proofs.Guarding.{kept_iterate, kept_left}
 use Rattle.frame_machine.proofs.Guarding.{kept_noted, kept_put, kept_turns, kept_vars, kept_weaken}
 use Rattle.frame_machine.proofs.Guarding.{kept_wide, kept_with_call}
 use Rattle.frame_machine.proofs.Owning.{Clear, Owns, demoted_all, demoted_owns, demoted_whole}
@@ -10,12 +11,13 @@ use Rattle.frame_machine.proofs.Owning.{owns_declare, owns_survives}
 use Rattle.frame_machine.proofs.Tables.{agree_refl}
 use Rattle.frame_machine.proofs.Values.{eval_keeps, notes_append, write_owned}
 use Rattle.frame_machine.specs.Bodies.{AllKeep, AllRead, AndVar, FuncKeeps, FuncsKeep, KeepsTo}
-use Rattle.frame_machine.specs.Bodies.{ListKeeps, MayCarry, MayRead, NoVariable}
+use Rattle.frame_machine.specs.Bodies.{ListKeeps, MayCarry, MayLeave, MayRead, NoVariable}
 use Rattle.frame_machine.specs.Modes.{AllOfModes, Modes, demoted, inner_modes}
 use Rattle.frame_machine.specs.Parts.{Cells, NotesKeep, Outside}
 use Rattle.loop_meaning.proofs.Ticks.{tick_allowed, tick_refused}
 use Rattle.loop_meaning.specs.Calls.{bound, call_at, call_on, enter, no_value}
 use Rattle.loop_meaning.specs.Expressions.{eval}
+use Rattle.loop_meaning.specs.Leaving.{caught, left_in}
 use Rattle.loop_meaning.specs.State.{Chance, Note, Ran, State, after, assign, declare, done, noted}
 use Rattle.loop_meaning.specs.State.{tick, trapped}
 use Rattle.loop_meaning.specs.Statements.{Called, Setting, block, folded, given, given_all}
@@ -29,8 +31,8 @@ use Rattle.loop_syntax.specs.declared.Expr.{Expr}
 use Rattle.loop_syntax.specs.declared.Func.{Func}
 use Rattle.loop_syntax.specs.declared.Reduce.{Reduce}
 use Rattle.loop_syntax.specs.declared.Stmt.{Row_of-Stmt, Stmt, end_of-Stmt, more_of-Stmt}
-use Rattle.loop_syntax.specs.declared.Stmt.TheVariants.{Both, Call, Emit, Fold, If', Let, Loop'}
-use Rattle.loop_syntax.specs.declared.Stmt.TheVariants.{Par', Print, Put, Set, While'}
+use Rattle.loop_syntax.specs.declared.Stmt.TheVariants.{Both, Call, Emit, Fill, Fold, If', Leave}
+use Rattle.loop_syntax.specs.declared.Stmt.TheVariants.{Let, Loop', Par', Print, Put, Set, While'}
 use Rattle.std.proofs.Common.{Bool, List, None, Option, Some, [], false, inl, inr, length, nat_lt}
 use Rattle.std.proofs.Common.{refl, subst, suc, sym, true, zero, ℕ, ℤ, ◌+◌, ◌∷◌, ◌≡◌}
 use Rattle.std.specs.Int.{int_gap}
@@ -74,6 +76,10 @@ module _ (R W : Cells) (cut : List Reduce) (Safe : List ℕ → Type 0) (fuel : 
     kept_fold x n None a u w = kept_done R W F (Owned R W m) u w
     kept_fold x n (Some op) a u w = kept_vars R W F (Owned R W m) (λ vs. folded (Some op) vs x n) u (keeps_assign F u.vars x _ a) (owned_assign R W F m u.vars x _ a f w)
 
+    may_set : (target : Option (List ℕ)) → MayLeave cut F target → MaySet R W F (Owned R W m) target
+    may_set None a = tt
+    may_set (Some x) a = λ n us w. (keeps_assign F us x n a.1, owned_assign R W F m us x n a.1 f w)
+
     kept_args : (es : List Expr) (u : State) (g : List ℤ → Ran) → AllRead cut m es → Owned R W m u.vars → ((ns : List ℤ) → Kept R W F (Owned R W m) u (g ns)) → Kept R W F (Owned R W m) u (given_all es u g)
     kept_args [] u g a w p = p []
     kept_args (e ∷ es) u g a w p =
@@ -107,12 +113,12 @@ module _ (R W : Cells) (cut : List Reduce) (Safe : List ℕ → Type 0) (fuel : 
         (λ n k r us v. owned_declare R W m us x.text.items k a.2.1 v) (kept_all F rs m c f body a.3) (int_gap i j) [] [] i tt tt tt u w)
     kept_run F rs m c f (Par' place x p q carry_place carries reduces shape body) a u w =
         kept_two F m c f p q u _ a.0 a.1 w
-        (λ i j d g. kept_wide R W F (Owned R W m) (too_wide i j) place (iterate fuel x.text.items (run_all (at reduces.items) body) (Chance ∷ []) [] (int_gap i j) i)
-        (kept_iterate R W F (Owned R W m) (Owned R W (inner_modes carries.items x.text.items m)) (owned_survives R W F m f) (λ n k. ⊤) (λ n k r. tt) fuel x.text.items (run_all (at reduces.items) body)
+        (λ i j d g. kept_wide R W F (Owned R W m) (too_wide i j) place (λ v. caught (left_in body) (iterate fuel x.text.items (run_all (at reduces.items) body) (Chance ∷ []) [] (int_gap i j) i v))
+        (λ v k. kept_caught R W F (Owned R W m) v (left_in body) _ (kept_iterate R W F (Owned R W m) (Owned R W (inner_modes carries.items x.text.items m)) (owned_survives R W F m f) (λ n k. ⊤) (λ n k r. tt) fuel x.text.items (run_all (at reduces.items) body)
         (λ n k r us v. inner_owned R W m us x.text.items k a.2.1 v carries.items a.3)
         (λ v i. kept_weaken R W F (AndVar F x.text.items) (λ z. inl) (Owned R W (inner_modes carries.items x.text.items m)) v (run_all (at reduces.items) body v)
         (kept_all (AndVar F x.text.items) reduces.items (inner_modes carries.items x.text.items m) (inner_clear R m x.text.items c carries.items a.3) (inner_all (AndVar F x.text.items) m x.text.items (inr refl) (modes_and F x.text.items m f) carries.items a.3) body a.4 v i))
-        (int_gap i j) (Chance ∷ []) [] i chance tt tt) u w)
+        (int_gap i j) (Chance ∷ []) [] i chance tt tt v k) (may_set F m c f (left_in body) a.5)) u w)
     kept_run F rs m c f (Fold x e) a u w =
         kept_given R W F (Owned R W m) e u _ (reads F m c f e a.0 u w) (λ n q. kept_fold F m c f x.text.items n (operator_of rs x.text.items) a.2 u w)
     kept_run F rs m c f (Call x g) a u w =
@@ -130,6 +136,8 @@ module _ (R W : Cells) (cut : List Reduce) (Safe : List ℕ → Type 0) (fuel : 
         (owned_assign R W F m (assign z.vars x.text.items v) y.text.items k a.5.1 f (owned_assign R W F m z.vars x.text.items v a.4.1 f j))))))
     kept_run F rs m c f (Print place e) a u w = absurd a
     kept_run F rs m c f (Emit place x) a u w = absurd a
+    kept_run F rs m c f (Leave x e) a u w = kept_given R W F (Owned R W m) e u _ (reads F m c f e a u w) (λ n q. kept_left R W F (Owned R W m) n u w)
+    kept_run F rs m c f (Fill g x r es) a u w = kept_done R W F (Owned R W m) u w
 
     pub kept_all : {n : _} (F : List ℕ → Type 0) (rs : List Reduce) (m : Modes) → Clear R m → AllOfModes F m → (b : Row_of-Stmt n) → AllKeep cut Safe F rs m b → Guards R W F (Owned R W m) (run_all (at rs) b)
     kept_all F rs m c f end_of-Stmt a u w = kept_done R W F (Owned R W m) u w

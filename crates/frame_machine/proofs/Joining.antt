@@ -4,7 +4,7 @@ use Rattle.frame_machine.proofs.Begins.{At, Units, UnitsRight, at_lookup, begins
 use Rattle.frame_machine.proofs.Begins.{bent_combined, goes_bend, lawful_cut, lawful_round}
 use Rattle.frame_machine.proofs.Begins.{names_kept}
 use Rattle.frame_machine.proofs.Bends.{Bend, Goes, bent, keeps_refl}
-use Rattle.frame_machine.proofs.Following.{Joined, no_done, trap_done}
+use Rattle.frame_machine.proofs.Following.{Joined, goes_done, left_done, no_done, trap_done}
 use Rattle.frame_machine.proofs.Guarding.{Kept}
 use Rattle.frame_machine.proofs.Moving.{Near}
 use Rattle.frame_machine.proofs.Ranges.{Around, Begins, Cut, low, lower_guards, range_joined}
@@ -25,10 +25,11 @@ use Rattle.std.proofs.Common.{ℤ, ◌+ℤ◌, ◌+◌, ◌∙◌, ◌≡◌, �
 use Rattle.std.proofs.lemmas.Bool.Decides.{nat_tests}
 use Rattle.std.proofs.lemmas.Int.{ints}
 use Rattle.tp_value.specs.declared.Stop.{Stop}
-use Rattle.tp_value.specs.declared.Stop.TheVariants.{Done, NoFuel, Trap}
+use Rattle.tp_value.specs.declared.Stop.TheVariants.{Done, Left, NoFuel, Trap}
 
 pub low_done : (x : Stop) (t : ℕ) (y : Stop) (r fuel : ℕ) → joined_stop x t y r fuel ≡ Done → x ≡ Done
 low_done Done t y r fuel e = refl
+low_done (Left n) t y r fuel e = e
 low_done (Trap k q) t y r fuel e = e
 low_done NoFuel t y r fuel e = e
 
@@ -38,6 +39,7 @@ up_done Done t y r fuel e = go (nat_le (t + r) fuel) refl
     go : (b : Bool) → nat_le (t + r) fuel ≡ b → y ≡ Done
     go true f = rw f at e
     go false f = absurd (no_done (rw f at e))
+up_done (Left n) t y r fuel e = absurd (left_done n e)
 up_done (Trap k q) t y r fuel e = absurd (trap_done k q e)
 up_done NoFuel t y r fuel e = absurd (no_done e)
 
@@ -106,7 +108,7 @@ module _ (p : Program) (outer : Modes) (l : ParLoop) (fuel room : ℕ) (vs : Lis
       cut = lawful_cut p outer l vs rules
 
       around : lower.stop ≡ Done → Around F vs lower.state.vars
-      around d = ((lower_guards p.funcs.items fuel room l.var.text.items l.reduces.items l.body.items h goes F Safe (modes_in outer l) vs cut (i +ℤ pos a) a [] [] i tt tt (omega (arith, ints)) s g.around).leaves d).claim
+      around d = ((lower_guards p.funcs.items fuel room l.var.text.items l.reduces.items l.body.items h goes F Safe (modes_in outer l) vs cut (i +ℤ pos a) a [] [] i tt tt (omega (arith, ints)) s g.around).leaves (goes_done d)).claim
 
       values : lower.stop ≡ Done → At (λ y. lookup lower.state.vars y) lower.state.vars
       values d = let k = around d in at_lookup lower.state.vars (subst Distinct (sym (names_kept F vs lower.state.vars k.keeps k.size)) rules.distinct)

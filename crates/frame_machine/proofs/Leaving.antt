@@ -1,6 +1,7 @@
 -- What the lower iterations leave, the upper ones may begin with.
 use Rattle.frame_machine.proofs.Begins.{names_kept}
 use Rattle.frame_machine.proofs.Bends.{keeps_lookup}
+use Rattle.frame_machine.proofs.Following.{GoesOn}
 use Rattle.frame_machine.proofs.Joining.{lower_kept}
 use Rattle.frame_machine.proofs.Ranges.{Around, seen_spared}
 use Rattle.frame_machine.proofs.Tables.{agree_sym}
@@ -17,7 +18,6 @@ use Rattle.loop_syntax.specs.declared.Program.{Program}
 use Rattle.loop_syntax.specs.declared.Reduce.{Reduce}
 use Rattle.std.proofs.Common.{Bool, List, None, [], ap, bytes_eq, false, inl, pos, refl, sym, true}
 use Rattle.std.proofs.Common.{ℕ, ℤ, ◌+ℤ◌, ◌∙◌, ◌∷◌, ◌≡◌, ◌≤ℤ◌}
-use Rattle.tp_value.specs.declared.Stop.TheVariants.{Done}
 
 lookup_absent : (vs : List Variable) (x : List ℕ) → is_in (names_of vs) x ≡ false → lookup vs x ≡ pos 0
 lookup_absent [] x h = refl
@@ -40,7 +40,7 @@ round_kept rs x vs us a = record { names = named; values = λ y n. go y n (is_in
 
 pub lower_leaves : (p : Program) (outer : Modes) (l : ParLoop) (fuel room : ℕ) (again begin : List Note) (n : ℕ) (i c : ℤ) (s : State) (rules : Lawful p outer (names_of s.vars) l)
     → NotesKeep (Seen (Below c) s.vars (modes_in outer l)) (Written (Below c) s.vars (modes_in outer l)) again → NotesKeep (Seen (Below c) s.vars (modes_in outer l)) (Written (Below c) s.vars (modes_in outer l)) begin → (i +ℤ pos n) ≤ℤ c
-    → (iterations_in p fuel room l again begin n i s).stop ≡ Done
+    → GoesOn (iterations_in p fuel room l again begin n i s).stop
     → SameRound l.reduces.items s.vars (iterations_in p fuel room l again begin n i s).state.vars × AgreeOn (Seen (From c) s.vars (modes_in outer l)) (iterations_in p fuel room l again begin n i s).state.tables s.tables
 lower_leaves p outer l fuel room again begin n i c s rules q r h d =
     let k = (lower_kept p outer l fuel room again begin n i c s rules q r h).leaves d in

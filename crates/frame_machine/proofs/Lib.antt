@@ -1,6 +1,6 @@
 mod Bends  -- variables that are changed by name, and variables that a run keeps
 pub mod Tables  -- tables that agree on some of their cells
-mod Following  -- runs with more ticks before them, and how two parts of a run are joined
+pub mod Following  -- runs with more ticks before them, and how two parts of a run are joined
 mod Owning  -- the cells that a mode gives at some values of the variables
 mod Values  -- expressions of a body have one answer in an upper part and in the whole
 mod Moving  -- runs that do the same from a state of an upper part and from that of the whole

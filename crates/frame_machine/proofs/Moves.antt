@@ -2,9 +2,11 @@
 use Rattle.frame_machine.proofs.Bends.{Bend, Goes, Keeps, bent, bent_assign, bent_declare}
 use Rattle.frame_machine.proofs.Bends.{bent_fold, keeps_assign, keeps_declare, keeps_refl}
 use Rattle.frame_machine.proofs.Bends.{keeps_trans}
-use Rattle.frame_machine.proofs.Following.{Follows, Later, follows_alike, later_alike}
+use Rattle.frame_machine.proofs.Following.{Follows, GoesOn, Later, follows_alike, later_alike}
+use Rattle.frame_machine.proofs.Following.{set_left}
 use Rattle.frame_machine.proofs.Moving.{Agrees, AllAgree, Moves, Near, NearCall, moves_block}
-use Rattle.frame_machine.proofs.Moving.{moves_choose, moves_done, moves_given, moves_given_all}
+use Rattle.frame_machine.proofs.Moving.{moves_caught, moves_choose, moves_done, moves_given}
+use Rattle.frame_machine.proofs.Moving.{moves_given_all, moves_left}
 use Rattle.frame_machine.proofs.Moving.{moves_iterate, moves_noted, moves_pure, moves_seq}
 use Rattle.frame_machine.proofs.Moving.{moves_trap, moves_turns, moves_two, moves_weaken}
 use Rattle.frame_machine.proofs.Moving.{moves_with_call}
@@ -13,7 +15,7 @@ use Rattle.frame_machine.proofs.Owning.{owns_assign, owns_declare, owns_survives
 use Rattle.frame_machine.proofs.Tables.{agree_has, agree_write}
 use Rattle.frame_machine.proofs.Values.{eval_same}
 use Rattle.frame_machine.specs.Bodies.{AllKeep, AllRead, AndVar, FoldsBy, KeepsTo, ListKeeps}
-use Rattle.frame_machine.specs.Bodies.{MayAssign, MayDeclare, MayRead}
+use Rattle.frame_machine.specs.Bodies.{MayAssign, MayDeclare, MayLeave, MayRead}
 use Rattle.frame_machine.specs.Modes.{AllOfModes, Modes, inner_modes}
 use Rattle.frame_machine.specs.Parts.{Cells}
 use Rattle.loop_meaning.proofs.Runs.{alike_refl}
@@ -21,6 +23,7 @@ use Rattle.loop_meaning.specs.Ends.{EndAlike}
 use Rattle.loop_meaning.specs.Expressions.{eval}
 use Rattle.loop_meaning.specs.State.{Chance, Note, Ran, State, Writes, assign, declare, done}
 use Rattle.loop_meaning.specs.State.{has_cell, noted, table_of, trapped, write_cell}
+use Rattle.loop_meaning.specs.Leaving.{left_in}
 use Rattle.loop_meaning.specs.Statements.{Called, Setting, folded, put_cell, run, run_all, run_list}
 use Rattle.loop_meaning.specs.Statements.{too_wide, unless_wide}
 use Rattle.loop_meaning.specs.declared.value.Variable.{Variable}
@@ -29,15 +32,14 @@ use Rattle.loop_syntax.specs.declared.Expr.{Expr}
 use Rattle.loop_syntax.specs.declared.Name.{Name}
 use Rattle.loop_syntax.specs.declared.Reduce.{Reduce}
 use Rattle.loop_syntax.specs.declared.Stmt.{Row_of-Stmt, Stmt, end_of-Stmt, more_of-Stmt}
-use Rattle.loop_syntax.specs.declared.Stmt.TheVariants.{Both, Call, Emit, Fold, If', Let, Loop'}
-use Rattle.loop_syntax.specs.declared.Stmt.TheVariants.{Par', Print, Put, Set, While'}
+use Rattle.loop_syntax.specs.declared.Stmt.TheVariants.{Both, Call, Emit, Fill, Fold, If', Leave}
+use Rattle.loop_syntax.specs.declared.Stmt.TheVariants.{Let, Loop', Par', Print, Put, Set, While'}
 use Rattle.std.proofs.Common.{Bool, List, None, Option, Some, [], ap, false, inl, inr, refl, subst}
 use Rattle.std.proofs.Common.{sym, true, ℕ, ℤ, ◌+◌, ◌∙◌, ◌∷◌, ◌≡◌}
 use Rattle.std.specs.Int.{int_gap}
 use Rattle.std.specs.Prelude.{⊤}
 use Rattle.tp_value.specs.declared.Op.{Op}
 use Rattle.tp_value.specs.declared.Place.{Place}
-use Rattle.tp_value.specs.declared.Stop.TheVariants.{Done}
 use Rattle.tp_value.specs.declared.TrapKind.TheVariants.{Index, Wide}
 
 module _ (fuel t : ℕ) (o : List ℕ) (A : Cells) (zs : List Reduce) (h : Bend) (goes : Goes zs h) (Safe : List ℕ → Type 0) (call : List ℕ → Place → List ℤ → List Note → State → Called)
@@ -92,9 +94,9 @@ module _ (fuel t : ℕ) (o : List ℕ) (A : Cells) (zs : List Reduce) (h : Bend)
       la u true q = later_alike fuel u _ (put u) (there u q) (moves.later u)
       la u false q = later_alike fuel u _ (trapped Index x.place u) (gone u q) ((moves_trap fuel t o A h F I Index x.place).later u)
 
-      st : (u : State) (b : Bool) → has_cell (table_of u.tables x.text.items) i j ≡ b → (put_cell x i j n u).stop ≡ Done → Keeps F u.vars (put_cell x i j n u).state.vars
-      st u true q d = subst (λ s. Keeps F u.vars s.vars) (sym (there u q).state) (moves.stays u (sym (there u q).stop ∙ d))
-      st u false q d = subst (λ s. Keeps F u.vars s.vars) (sym (gone u q).state) ((moves_trap fuel t o A h F I Index x.place).stays u (sym (gone u q).stop ∙ d))
+      st : (u : State) (b : Bool) → has_cell (table_of u.tables x.text.items) i j ≡ b → GoesOn (put_cell x i j n u).stop → Keeps F u.vars (put_cell x i j n u).state.vars
+      st u true q d = subst (λ s. Keeps F u.vars s.vars) (sym (there u q).state) (moves.stays u (subst GoesOn (there u q).stop d))
+      st u false q d = subst (λ s. Keeps F u.vars s.vars) (sym (gone u q).state) ((moves_trap fuel t o A h F I Index x.place).stays u (subst GoesOn (gone u q).stop d))
 
       has : (u v : State) (b : Bool) → Near fuel t o A h I u v → has_cell (table_of u.tables x.text.items) i j ≡ b → has_cell (table_of v.tables x.text.items) i j ≡ b
       has u v b r q = agree_has (A x.text.items) (table_of u.tables x.text.items) (table_of v.tables x.text.items) i j (r.base.tables x.text.items) ∙ q
@@ -106,6 +108,11 @@ module _ (fuel t : ℕ) (o : List ℕ) (A : Cells) (zs : List Reduce) (h : Bend)
   moves_wide : (F : List ℕ → Type 0) → (I : List Variable → Type 0) (b : Bool) (p : Place) (f : State → Ran) → Moves fuel t o A h F I f → Moves fuel t o A h F I (unless_wide b p f)
   moves_wide F I true p f q = moves_trap fuel t o A h F I Wide p
   moves_wide F I false p f q = q
+
+  -- what a `par` sets where it is left
+  moves_set_left : (F : List ℕ → Type 0) → (m : Modes) → AllOfModes F m → (target : Option (List ℕ)) (n : ℤ) → MayLeave zs F target → Moves fuel t o A h F (Owns A m) (set_left target n)
+  moves_set_left F m f None n a = moves_done fuel t o A h F (Owns A m)
+  moves_set_left F m f (Some x) n a = moves_assign F m f x n a
 
   keeps_two : (F : List ℕ → Type 0) → (us : List Variable) (x y : List ℕ) (i j : ℤ) → (F x → ⊥) → (F y → ⊥) → Keeps F us (assign (assign us x i) y j)
   keeps_two F us x y i j p q = keeps_trans F us (assign us x i) (assign (assign us x i) y j) (keeps_assign F us x i p) (keeps_assign F (assign us x i) y j q)
@@ -124,10 +131,11 @@ module _ (fuel t : ℕ) (o : List ℕ) (A : Cells) (zs : List Reduce) (h : Bend)
         (λ i j. moves_iterate fuel t o A h F (Owns A m) (Owns A m) (owns_survives A F m f) (λ z. ⊤) (λ z u. tt) x.text.items _ (goes.plain x.text.items a.2.0) (λ z u us w. owns_declare A m us x.text.items z a.2.1 w) (moves_all F rs m c f body a.3) (int_gap i j) [] [] i tt)
     moves_run F rs m c f (Par' place x p q cap carries reduces cap2 body) a =
         moves_two fuel t o A h F (Owns A m) p q _ (agrees F m c p a.0) (agrees F m c q a.1)
-        (λ i j. moves_wide F (Owns A m) (too_wide i j) place _
+        (λ i j. moves_wide F (Owns A m) (too_wide i j) place _ (moves_caught fuel t o A h F (Owns A m) (left_in body) _
         (moves_iterate fuel t o A h F (Owns A m) (Owns A (inner_modes carries.items x.text.items m)) (owns_survives A F m f) (λ z. ⊤) (λ z u. tt) x.text.items _ (goes.plain x.text.items a.2.0)
         (λ z u us w. inner_owns A m us x.text.items z a.2.1 w carries.items a.3)
-        (moves_weaken fuel t o A h F (AndVar F x.text.items) (λ z. inl) (Owns A (inner_modes carries.items x.text.items m)) _ (moves_all (AndVar F x.text.items) reduces.items (inner_modes carries.items x.text.items m) (inner_clear A m x.text.items c carries.items a.3) (inner_all (AndVar F x.text.items) m x.text.items (inr refl) (modes_and F x.text.items m f) carries.items a.3) body a.4)) (int_gap i j) (Chance ∷ []) [] i tt))
+        (moves_weaken fuel t o A h F (AndVar F x.text.items) (λ z. inl) (Owns A (inner_modes carries.items x.text.items m)) _ (moves_all (AndVar F x.text.items) reduces.items (inner_modes carries.items x.text.items m) (inner_clear A m x.text.items c carries.items a.3) (inner_all (AndVar F x.text.items) m x.text.items (inr refl) (modes_and F x.text.items m f) carries.items a.3) body a.4)) (int_gap i j) (Chance ∷ []) [] i tt)
+        (λ n. moves_set_left F m f (left_in body) n a.5)))
     moves_run F rs m c f (Fold x e) a = moves_given fuel t o A h F (Owns A m) e _ (agrees F m c e a.0) (λ n. moves_fold F m f x.text.items n (operator_of rs x.text.items) a.1 a.2)
     moves_run F rs m c f (Call x g) a =
         moves_given_all fuel t o A h F (Owns A m) g.args.items _ (all_agree F m c g.args.items a.0)
@@ -142,6 +150,8 @@ module _ (fuel t : ℕ) (o : List ℕ) (A : Cells) (zs : List Reduce) (h : Bend)
         (λ us w. owns_assign A F m (assign us x.text.items i) y.text.items j a.5.1 f (owns_assign A F m us x.text.items i a.4.1 f w))))))
     moves_run F rs m c f (Print place e) a = absurd a
     moves_run F rs m c f (Emit place x) a = absurd a
+    moves_run F rs m c f (Leave x e) a = moves_given fuel t o A h F (Owns A m) e _ (agrees F m c e a) (λ n. moves_left fuel t o A h F (Owns A m) n)
+    moves_run F rs m c f (Fill g x r es) a = moves_done fuel t o A h F (Owns A m)
 
     pub moves_all : {n : _} → (F : List ℕ → Type 0) → (rs : List Reduce) (m : Modes) → Clear A m → AllOfModes F m → (b : Row_of-Stmt n) → AllKeep zs Safe F rs m b → Moves fuel t o A h F (Owns A m) (run_all (at rs) b)
     moves_all F rs m c f end_of-Stmt a = moves_done fuel t o A h F (Owns A m)

@@ -2,9 +2,11 @@
 use Rattle.frame_machine.proofs.Bends.{Bend, Keeps, Plain, bent, bent_declare, bent_length}
 use Rattle.frame_machine.proofs.Bends.{bent_take, keeps_declare, keeps_length, keeps_refl}
 use Rattle.frame_machine.proofs.Bends.{keeps_take, keeps_trans, keeps_weaken}
-use Rattle.frame_machine.proofs.Following.{Follows, Later, after_alike_at, done_first}
-use Rattle.frame_machine.proofs.Following.{follows_after, follows_alike, follows_tick, later_after}
-use Rattle.frame_machine.proofs.Following.{later_alike, later_tick, no_done, tick_no, tick_yes}
+use Rattle.frame_machine.proofs.Following.{Follows, GoesOn, Later, after_alike_at, after_goes}
+use Rattle.frame_machine.proofs.Following.{after_stays, calmed, caught_left, caught_stays}
+use Rattle.frame_machine.proofs.Following.{follows_after, follows_alike, follows_tick, goes_done}
+use Rattle.frame_machine.proofs.Following.{goes_left, later_after, later_alike, later_tick}
+use Rattle.frame_machine.proofs.Following.{left_done, no_done, set_left, tick_no, tick_yes}
 use Rattle.frame_machine.proofs.Following.{trap_done}
 use Rattle.frame_machine.specs.Parts.{AgreeOn, Cells}
 use Rattle.loop_meaning.proofs.Runs.{after_done, after_stopped, alike_refl, given_number}
@@ -13,19 +15,21 @@ use Rattle.loop_meaning.specs.Calls.{enter}
 use Rattle.loop_meaning.specs.Ends.{EndAlike}
 use Rattle.loop_meaning.specs.Expressions.{eval}
 use Rattle.loop_meaning.specs.State.{Note, Ran, State, after, declare, done, leave_block, noted}
-use Rattle.loop_meaning.specs.State.{out_of_fuel, tick, trapped}
+use Rattle.loop_meaning.specs.State.{left_with, out_of_fuel, tick, trapped}
+use Rattle.loop_meaning.specs.Leaving.{caught}
 use Rattle.loop_meaning.specs.Statements.{Called, block, choose, given, given_all, given_two}
 use Rattle.loop_meaning.specs.Statements.{iterate, iteration, turns, with_call}
 use Rattle.loop_meaning.specs.declared.value.Answer.{Answer}
 use Rattle.loop_meaning.specs.declared.value.Answer.TheVariants.{Number, Traps}
 use Rattle.loop_meaning.specs.declared.value.Variable.{Variable}
 use Rattle.loop_syntax.specs.declared.Expr.{Expr}
-use Rattle.std.proofs.Common.{List, [], ap, arith, length, negsuc, pos, refl, subst, suc, sym, take}
+use Rattle.std.proofs.Common.{List, None, Option, Some, [], ap, arith, length, negsuc, pos, refl}
+use Rattle.std.proofs.Common.{subst, suc, sym, take}
 use Rattle.std.proofs.Common.{zero, ℕ, ℤ, ◌++◌, ◌+ℤ◌, ◌+◌, ◌<◌, ◌∙◌, ◌∷◌, ◌≡◌, ◌≤◌}
 use Rattle.std.specs.Prelude.{⊤}
 use Rattle.tp_value.specs.declared.Place.{Place}
 use Rattle.tp_value.specs.declared.Stop.{Stop}
-use Rattle.tp_value.specs.declared.Stop.TheVariants.{Done, NoFuel, Trap}
+use Rattle.tp_value.specs.declared.Stop.TheVariants.{Done, Left, NoFuel, Trap}
 use Rattle.tp_value.specs.declared.TrapKind.{TrapKind}
 use native.Mathlib.Decide.{dec_le, dec_lt}
 
@@ -44,7 +48,7 @@ module _ (fuel t : ℕ) (o : List ℕ) (A : Cells) where
   -- a call that does the same, with the same value
   pub record NearCall (c : State → Called) : Type 0 where
     pub later : (u : State) → Later fuel u (c u).ran
-    pub vars : (u : State) → (c u).ran.stop ≡ Done → (c u).ran.state.vars ≡ u.vars
+    pub vars : (u : State) → GoesOn (c u).ran.stop → (c u).ran.state.vars ≡ u.vars
     pub near : (u v : State) → Base u v → Follows fuel t Base (c u).ran (c v).ran
     pub value : (u v : State) → Base u v → (c u).ran.state.ticks + t ≤ fuel → (c u).ran.stop ≡ Done → (c v).value ≡ (c u).value
 
@@ -58,7 +62,7 @@ module _ (fuel t : ℕ) (o : List ℕ) (A : Cells) where
   module _ (h : Bend) (F : List ℕ → Type 0) where
     pub record Moves (I : Claim) (act : State → Ran) : Type 0 where
       pub later : (u : State) → Later fuel u (act u)
-      pub stays : (u : State) → (act u).stop ≡ Done → Keeps F u.vars (act u).state.vars
+      pub stays : (u : State) → GoesOn (act u).stop → Keeps F u.vars (act u).state.vars
       pub near : (u v : State) → Near h I u v → Follows fuel t (Near h I) (act u) (act v)
 
     -- a claim that survives where the fixed variables are kept
@@ -82,10 +86,10 @@ module _ (fuel t : ℕ) (o : List ℕ) (A : Cells) where
       near = λ u v r. follows_same I u v (f u) (f v) r.base (e u) (e v) (n u v r);
     }
 
-    pub moves_stop : (I : Claim) (x : Stop) → (x ≡ Done → ⊥) → Moves I (λ s. record { stop = x; state = s; notes = [] })
-    moves_stop I x d = record {
+    pub moves_stop : (I : Claim) (x : Stop) → Moves I (λ s. record { stop = x; state = s; notes = [] })
+    moves_stop I x = record {
       later = λ u. record { later = λ w. omega arith; keeps = λ w e. w };
-      stays = λ u e. absurd (d e);
+      stays = λ u e. keeps_refl F u.vars;
       near = λ u v r. record {
         inside = λ i. (refl, r.base.ticks, λ e. r);
         beyond = λ b. absurd (let c : v.ticks ≡ u.ticks + t = r.base.ticks in let d : v.ticks ≤ fuel = r.base.fits in omega arith);
@@ -93,28 +97,39 @@ module _ (fuel t : ℕ) (o : List ℕ) (A : Cells) where
     }
 
     pub moves_trap : (I : Claim) (k : TrapKind) (p : Place) → Moves I (trapped k p)
-    moves_trap I k p = moves_stop I (Trap k p) (trap_done _ _)
+    moves_trap I k p = moves_stop I (Trap k p)
+
+    pub moves_left : (I : Claim) (n : ℤ) → Moves I (left_with n)
+    moves_left I n = moves_stop I (Left n)
 
     pub moves_done : (I : Claim) → Moves I done
     moves_done I = moves_pure I (λ s. s) (λ u. refl) (λ u. keeps_refl F u.vars) (λ u v r. r)
 
-    pub stays_after : (us : List Variable) (r : Ran) (g : State → Ran) → (r.stop ≡ Done → Keeps F us r.state.vars) → ((s : State) → (g s).stop ≡ Done → Keeps F s.vars (g s).state.vars) → (after r g).stop ≡ Done → Keeps F us (after r g).state.vars
-    stays_after us r g p q e =
-        let d : r.stop ≡ Done = done_first r g e in
-        let a = after_done r r.state g (record { stop = d; state = refl }) in
-        subst (λ s. Keeps F us s.vars) (sym a.state) (keeps_trans F us r.state.vars (g r.state).state.vars (p d) (q r.state (sym a.stop ∙ e)))
+    pub stays_after : (us : List Variable) (r : Ran) (g : State → Ran) → (GoesOn r.stop → Keeps F us r.state.vars) → ((s : State) → GoesOn (g s).stop → Keeps F s.vars (g s).state.vars) → GoesOn (after r g).stop → Keeps F us (after r g).state.vars
+    stays_after us r g p q e = go r.stop refl
+      where
+        other : (r.stop ≡ Done → ⊥) → Keeps F us (after r g).state.vars
+        other d = (let a = after_stays r g d in subst (λ s. Keeps F us s.vars) (sym a.state) (p (subst GoesOn a.stop e)))
+
+        go : (x : Stop) → r.stop ≡ x → Keeps F us (after r g).state.vars
+        go Done h =
+            let a = after_goes r g h in
+            subst (λ s. Keeps F us s.vars) (sym a.state) (keeps_trans F us r.state.vars (g r.state).state.vars (p (goes_done h)) (q r.state (subst GoesOn a.stop e)))
+        go (Left n) h = other (λ z. left_done n (sym h ∙ z))
+        go (Trap k l) h = other (λ z. trap_done k l (sym h ∙ z))
+        go NoFuel h = other (λ z. no_done (sym h ∙ z))
 
     pub moves_seq : (I : Claim) (a b : State → Ran) → Moves I a → Moves I b → Moves I (λ s. after (a s) b)
     moves_seq I a b p q = record {
       later = λ u. later_after fuel u (a u) b (p.later u) q.later;
       stays = λ u e. stays_after u.vars (a u) b (p.stays u) q.stays e;
-      near = λ u v r. follows_after fuel t (Near h I) (a u) (a v) b b (p.near u v r) ((p.later u).keeps (within I u v r)) q.later q.near;
+      near = λ u v r. follows_after fuel t (Near h I) (a u) (a v) b b (p.near u v r) (λ d. (p.later u).keeps (within I u v r) (goes_done d)) q.later q.near;
     }
 
     pub moves_alike : (I : Claim) (a b : State → Ran) → ((s : State) → EndAlike (a s) (b s)) → Moves I b → Moves I a
     moves_alike I a b e p = record {
       later = λ u. later_alike fuel u (a u) (b u) (e u) (p.later u);
-      stays = λ u d. subst (λ s. Keeps F u.vars s.vars) (sym (e u).state) (p.stays u (sym (e u).stop ∙ d));
+      stays = λ u d. subst (λ s. Keeps F u.vars s.vars) (sym (e u).state) (p.stays u (subst GoesOn (e u).stop d));
       near = λ u v r. follows_alike fuel t (Near h I) (a u) (b u) (a v) (b v) (e u) (e v) (p.near u v r);
     }
 
@@ -138,13 +153,13 @@ module _ (fuel t : ℕ) (o : List ℕ) (A : Cells) where
             let s = given_trap e u k l (λ m. f m u) h in
             later_alike fuel u _ (trapped k l u) (record { stop = s.stop; state = s.state }) ((moves_trap I k l).later u)
 
-        go_stays : (u : State) (a : Answer) → (eval u.vars u.tables e).answer ≡ a → (given e u (λ n. f n u)).stop ≡ Done → Keeps F u.vars (given e u (λ n. f n u)).state.vars
+        go_stays : (u : State) (a : Answer) → (eval u.vars u.tables e).answer ≡ a → GoesOn (given e u (λ n. f n u)).stop → Keeps F u.vars (given e u (λ n. f n u)).state.vars
         go_stays u (Number n) h d =
             let s = given_number e u n (λ m. f m u) h in
-            subst (λ w. Keeps F u.vars w.vars) (sym s.state) ((p n).stays u (sym s.stop ∙ d))
+            subst (λ w. Keeps F u.vars w.vars) (sym s.state) ((p n).stays u (subst GoesOn s.stop d))
         go_stays u (Traps k l) h d =
             let s = given_trap e u k l (λ m. f m u) h in
-            absurd (let z : Trap k l ≡ Done = sym s.stop ∙ d in cc)
+            absurd (subst GoesOn s.stop d)
 
         go_near : (u v : State) → Near h I u v → (a : Answer) → (eval u.vars u.tables e).answer ≡ a → Follows fuel t (Near h I) (given e u (λ n. f n u)) (given e v (λ n. f n v))
         go_near u v r (Number n) q =
@@ -225,7 +240,7 @@ module _ (fuel t : ℕ) (o : List ℕ) (A : Cells) where
 
     pub moves_turns : (I : Claim) (n : ℕ) (e : Expr) (body : State → Ran) → Agrees I e → Moves I body → Moves I (turns n fuel e body)
     moves_turns I zero e body g p =
-        moves_alike I (turns 0 fuel e body) out_of_fuel (λ s. equal_alike _ _ (turns_zero e body s)) (moves_stop I NoFuel (λ z. no_done z))
+        moves_alike I (turns 0 fuel e body) out_of_fuel (λ s. equal_alike _ _ (turns_zero e body s)) (moves_stop I NoFuel)
     moves_turns I (suc n) e body g p =
         moves_alike I (turns (suc n) fuel e body) _ (λ s. equal_alike _ _ (turns_suc n e body s))
         (moves_given I e (λ v. choose v (λ t. after (after (tick fuel t) body) (turns n fuel e body)) done) g
@@ -286,6 +301,80 @@ module _ (fuel t : ℕ) (o : List ℕ) (A : Cells) where
         moves_alike I _ (λ s. after (iteration fuel x body ns i s) (iterate fuel x body again again n (i +ℤ pos 1))) (λ s. equal_alike _ _ (iterate_suc x body again ns n i s))
         (moves_seq I (iteration fuel x body ns i) _ (moves_iteration I J live x body ns i plain (enter i q) p) (moves_iterate I J live P up x body plain enter p n again again (i +ℤ pos 1) (up i q)))
 
+    -- ---- a `par` that catches its iterations
+
+    pub moves_caught : (I : Claim) (target : Option (List ℕ)) (act : State → Ran) → Moves I act → ((n : ℤ) → Moves I (set_left target n)) → Moves I (λ s. caught target (act s))
+    moves_caught I target act p set = record {
+      later = λ u. la u (act u).stop refl;
+      stays = λ u. st u (act u).stop refl;
+      near = λ u v r. ne u v r (act u).stop refl (dec_le ((act u).state.ticks + t) fuel);
+    }
+      where
+        calm : (u : State) (n : ℤ) → (act u).stop ≡ Left n → Later fuel u (calmed (act u))
+        calm u n e = record { later = (p.later u).later; keeps = λ w d. (p.later u).keeps w (goes_left n e) }
+
+        left_only : (x : Stop) → ((n : ℤ) → x ≡ Left n → ⊥) → (u : State) → (act u).stop ≡ x → EndAlike (caught target (act u)) (act u)
+        left_only x d u e = caught_stays target (act u) x e d
+
+        la : (u : State) (x : Stop) → (act u).stop ≡ x → Later fuel u (caught target (act u))
+        la u (Left n) e =
+            later_alike fuel u _ (after (calmed (act u)) (set_left target n)) (caught_left target (act u) n e)
+            (later_after fuel u (calmed (act u)) (set_left target n) (calm u n e) (set n).later)
+        la u Done e = later_alike fuel u _ (act u) (left_only Done (λ n z. cc) u e) (p.later u)
+        la u (Trap k l) e = later_alike fuel u _ (act u) (left_only (Trap k l) (λ n z. cc) u e) (p.later u)
+        la u NoFuel e = later_alike fuel u _ (act u) (left_only NoFuel (λ n z. cc) u e) (p.later u)
+
+        same : (x : Stop) → ((n : ℤ) → x ≡ Left n → ⊥) → (u : State) → (act u).stop ≡ x → GoesOn (caught target (act u)).stop → Keeps F u.vars (caught target (act u)).state.vars
+        same x d u e g = (let a = left_only x d u e in subst (λ s. Keeps F u.vars s.vars) (sym a.state) (p.stays u (subst GoesOn a.stop g)))
+
+        st : (u : State) (x : Stop) → (act u).stop ≡ x → GoesOn (caught target (act u)).stop → Keeps F u.vars (caught target (act u)).state.vars
+        st u (Left n) e g =
+            let a = caught_left target (act u) n e in
+            subst (λ s. Keeps F u.vars s.vars) (sym a.state)
+            (stays_after u.vars (calmed (act u)) (set_left target n) (λ d. p.stays u (goes_left n e)) (set n).stays (subst GoesOn a.stop g))
+        st u Done e g = same Done (λ n z. cc) u e g
+        st u (Trap k l) e g = same (Trap k l) (λ n z. cc) u e g
+        st u NoFuel e g = same NoFuel (λ n z. cc) u e g
+
+        -- the second is out of fuel
+        beyond : (u v : State) → Near h I u v → fuel < (act u).state.ticks + t → Follows fuel t (Near h I) (act u) (caught target (act v))
+        beyond u v r b =
+            let q = (p.near u v r).beyond b in
+            follows_alike fuel t (Near h I) (act u) (act u) (caught target (act v)) (act v) (alike_refl _) (left_only NoFuel (λ n z. cc) v q.0) (p.near u v r)
+
+        -- the first isn't left
+        stays : (x : Stop) → ((n : ℤ) → x ≡ Left n → ⊥) → (u v : State) → Near h I u v → (act u).stop ≡ x → Dec ((act u).state.ticks + t ≤ fuel) → Follows fuel t (Near h I) (caught target (act u)) (caught target (act v))
+        stays x d u v r e (yes i) =
+            follows_alike fuel t (Near h I) _ (act u) _ (act v) (left_only x d u e) (left_only x d v (((p.near u v r).inside i).0 ∙ e)) (p.near u v r)
+        stays x d u v r e (no n) =
+            follows_alike fuel t (Near h I) _ (act u) _ (caught target (act v)) (left_only x d u e) (alike_refl _) (beyond u v r (omega arith))
+
+        ticks : (u : State) (n : ℤ) → (act u).stop ≡ Left n → (caught target (act u)).state.ticks ≡ (act u).state.ticks
+        ticks u n e = ap (λ s. s.ticks) (caught_left target (act u) n e).state ∙ of target
+          where
+            of : (y : Option (List ℕ)) → (after (calmed (act u)) (set_left y n)).state.ticks ≡ (act u).state.ticks
+            of None = refl
+            of (Some x) = refl
+
+        ne : (u v : State) → Near h I u v → (x : Stop) → (act u).stop ≡ x → Dec ((act u).state.ticks + t ≤ fuel) → Follows fuel t (Near h I) (caught target (act u)) (caught target (act v))
+        ne u v r (Left n) e (yes i) =
+            let f = (p.near u v r).inside i in
+            follows_alike fuel t (Near h I) _ (after (calmed (act u)) (set_left target n)) _ (after (calmed (act v)) (set_left target n))
+            (caught_left target (act u) n e) (caught_left target (act v) n (f.0 ∙ e))
+            (follows_after fuel t (Near h I) (calmed (act u)) (calmed (act v)) (set_left target n) (set_left target n)
+            (record { inside = λ j. (refl, f.1, λ g. f.2 (goes_left n e)); beyond = λ b. absurd (omega arith) })
+            (λ d. (p.later u).keeps (within I u v r) (goes_left n e)) (set n).later (set n).near)
+        ne u v r (Left n) e (no k) =
+            let b = (p.near u v r).beyond (omega arith) in
+            let a = left_only NoFuel (λ m z. cc) v b.0 in
+            let w : (caught target (act u)).state.ticks ≡ (act u).state.ticks = ticks u n e in record {
+              inside = λ i. absurd (omega (arith, w));
+              beyond = λ i. (a.stop ∙ b.0, ap (λ s. s.ticks) a.state ∙ b.1);
+            }
+        ne u v r Done e d = stays Done (λ n z. cc) u v r e d
+        ne u v r (Trap k l) e d = stays (Trap k l) (λ n z. cc) u v r e d
+        ne u v r NoFuel e d = stays NoFuel (λ n z. cc) u v r e d
+
     -- ---- calls in statements
 
     pub moves_with_call : (I : Claim) (c : State → Called) (g : ℤ → State → Ran) → NearCall c → ((n : ℤ) → Moves I (g n)) → Moves I (λ s. with_call (c s) g)
@@ -295,7 +384,7 @@ module _ (fuel t : ℕ) (o : List ℕ) (A : Cells) where
       near = λ u v r.
           follows_alike fuel t (Near h I) _ _ _ (after (c v).ran (g (c u).value)) (alike_refl _)
           (after_alike_at (c v).ran (g (c v).value) (g (c u).value) (λ d. same u v r d (dec_le ((c u).ran.state.ticks + t) fuel)))
-          (follows_after fuel t (Near h I) (c u).ran (c v).ran (g (c u).value) (g (c u).value) (ran u v r) ((p.later u).keeps (within I u v r)) (q (c u).value).later (q (c u).value).near);
+          (follows_after fuel t (Near h I) (c u).ran (c v).ran (g (c u).value) (g (c u).value) (ran u v r) (λ d. (p.later u).keeps (within I u v r) (goes_done d)) (q (c u).value).later (q (c u).value).near);
     }
       where
         ran : (u v : State) → Near h I u v → Follows fuel t (Near h I) (c u).ran (c v).ran
@@ -304,7 +393,7 @@ module _ (fuel t : ℕ) (o : List ℕ) (A : Cells) where
             (f.inside i).0,
             (f.inside i).1,
             λ d. record {
-              vars = p.vars v ((f.inside i).0 ∙ d) ∙ r.vars ∙ ap (bent h) (sym (p.vars u d));
+              vars = p.vars v (subst GoesOn (sym (f.inside i).0) d) ∙ r.vars ∙ ap (bent h) (sym (p.vars u d));
               claim = subst I (sym (p.vars u d)) r.claim;
               base = (f.inside i).2 d;
             },

@@ -1,7 +1,8 @@
 -- So do the calls in it: functions read only whole tables and write none.
 use Rattle.frame_machine.proofs.Bends.{bent_straight, goes_straight, straight}
-use Rattle.frame_machine.proofs.Following.{Follows, done_first, follows_after, follows_alike}
-use Rattle.frame_machine.proofs.Following.{follows_tick, later_after, later_alike, later_tick}
+use Rattle.frame_machine.proofs.Following.{Follows, GoesOn, done_first, follows_after}
+use Rattle.frame_machine.proofs.Following.{follows_alike, follows_tick, goes_done, later_after}
+use Rattle.frame_machine.proofs.Following.{later_alike, later_tick, no_done, tick_no, tick_yes}
 use Rattle.frame_machine.proofs.Moves.{agrees, moves_list}
 use Rattle.frame_machine.proofs.Moving.{Base, Moves, Near, NearCall, moves_done, moves_given}
 use Rattle.frame_machine.proofs.Moving.{moves_noted, moves_seq}
@@ -9,7 +10,8 @@ use Rattle.frame_machine.proofs.Owning.{Clear, Owns, demoted_all, demoted_owns, 
 use Rattle.frame_machine.specs.Bodies.{FuncKeeps, FuncsKeep}
 use Rattle.frame_machine.specs.Modes.{Modes, demoted}
 use Rattle.frame_machine.specs.Parts.{Cells}
-use Rattle.loop_meaning.proofs.Runs.{after_done, alike_refl}
+use native.Mathlib.Decide.{dec_lt}
+use Rattle.loop_meaning.proofs.Runs.{after_done, after_stopped, alike_refl}
 use Rattle.loop_meaning.specs.Calls.{bound, call_at, call_on, enter, no_value, number_in}
 use Rattle.loop_meaning.specs.Ends.{EndAlike}
 use Rattle.loop_meaning.specs.Expressions.{eval}
@@ -17,15 +19,16 @@ use Rattle.loop_meaning.specs.State.{Note, Ran, State, after, done, go_on, noted
 use Rattle.loop_meaning.specs.Statements.{Called, given, run_list}
 use Rattle.loop_rules.specs.Names.{func_of}
 use Rattle.loop_syntax.specs.declared.Func.{Func}
-use Rattle.std.proofs.Common.{Bool, List, None, Option, Some, [], ap, arith, false, nat_lt, refl}
-use Rattle.std.proofs.Common.{suc, sym, true, zero, ℕ, ℤ, ◌+◌, ◌∙◌, ◌≡◌, ◌≤◌}
+use Rattle.std.proofs.Common.{List, None, Option, Some, [], ap, arith, refl}
+use Rattle.std.proofs.Common.{subst, suc, sym, zero, ℕ, ℤ, ◌+◌, ◌<◌, ◌∙◌, ◌≡◌, ◌≤◌}
 use Rattle.tp_value.specs.declared.Place.{Place}
 use Rattle.tp_value.specs.declared.Stop.{Stop}
-use Rattle.tp_value.specs.declared.Stop.TheVariants.{Done, NoFuel, Trap}
+use Rattle.tp_value.specs.declared.Stop.TheVariants.{Done, Left, NoFuel, Trap}
 use Rattle.tp_value.specs.declared.TrapKind.TheVariants.{Deep}
 
 pub on_ran : (x : Stop) (r : Ran) (go : State → Called) → EndAlike (call_on x r go).ran (go_on x r (λ u. (go u).ran))
 on_ran Done r go = record { stop = refl; state = refl }
+on_ran (Left n) r go = alike_refl _
 on_ran (Trap k p) r go = alike_refl _
 on_ran NoFuel r go = alike_refl _
 
@@ -35,14 +38,6 @@ on_value x r go e = rw e refl
 module _ (fuel t : ℕ) (o : List ℕ) (A : Cells) where
   none : List ℕ → Type 0
   none x = ⊥
-
-  -- what a tick leaves
-  tick_base : (u : State) → (tick fuel u).stop ≡ Done → (tick fuel u).state.vars ≡ u.vars
-  tick_base u d = go (nat_lt u.ticks fuel) refl
-    where
-      go : (b : Bool) → nat_lt u.ticks fuel ≡ b → (tick fuel u).state.vars ≡ u.vars
-      go true e = rw (e, tick) refl
-      go false e = rw (e, tick) refl
 
   follows_base : (u v : State) → Base fuel t o A u v → Follows fuel t (Base fuel t o A) (tick fuel u) (tick fuel v)
   follows_base u v b =
@@ -55,26 +50,33 @@ module _ (fuel t : ℕ) (o : List ℕ) (A : Cells) where
   near_call_on : (go : State → Called) → NearCall fuel t o A go → NearCall fuel t o A (λ s. call_on (tick fuel s).stop (tick fuel s) go)
   near_call_on go q = record {
     later = λ u. later_alike fuel u _ (after (tick fuel u) (λ w. (go w).ran)) (on_ran (tick fuel u).stop (tick fuel u) go) (later_after fuel u (tick fuel u) (λ w. (go w).ran) (later_tick fuel u) q.later);
-    vars = λ u d.
-        let both = on_ran (tick fuel u).stop (tick fuel u) go in
-        let first : (tick fuel u).stop ≡ Done = done_first (tick fuel u) (λ w. (go w).ran) (sym both.stop ∙ d) in
-        let end = after_done (tick fuel u) (tick fuel u).state (λ w. (go w).ran) (record { stop = first; state = refl }) in
-        ap (λ s. s.vars) (both.state ∙ end.state) ∙ q.vars (tick fuel u).state (sym end.stop ∙ sym both.stop ∙ d) ∙ tick_base u first;
+    vars = λ u d. vars u (dec_lt u.ticks fuel) d;
     near = λ u v b.
         follows_alike fuel t (Base fuel t o A) _ (after (tick fuel u) (λ w. (go w).ran)) _ (after (tick fuel v) (λ w. (go w).ran))
         (on_ran (tick fuel u).stop (tick fuel u) go) (on_ran (tick fuel v).stop (tick fuel v) go)
-        (follows_after fuel t (Base fuel t o A) (tick fuel u) (tick fuel v) (λ w. (go w).ran) (λ w. (go w).ran) (follows_base u v b) ((later_tick fuel u).keeps (within_base u v b)) q.later q.near);
+        (follows_after fuel t (Base fuel t o A) (tick fuel u) (tick fuel v) (λ w. (go w).ran) (λ w. (go w).ran) (follows_base u v b) (λ d. (later_tick fuel u).keeps (within_base u v b) (goes_done d)) q.later q.near);
     value = λ u v b i d.
         let both = on_ran (tick fuel u).stop (tick fuel u) go in
         let first : (tick fuel u).stop ≡ Done = done_first (tick fuel u) (λ w. (go w).ran) (sym both.stop ∙ d) in
         let end = after_done (tick fuel u) (tick fuel u).state (λ w. (go w).ran) (record { stop = first; state = refl }) in
         let total : (go (tick fuel u).state).ran.state.ticks + t ≤ fuel = rw (both.state ∙ end.state) at i in
-        let later : (tick fuel u).state.ticks ≤ (go (tick fuel u).state).ran.state.ticks = (q.later (tick fuel u).state).later ((later_tick fuel u).keeps (within_base u v b) first) in
+        let later : (tick fuel u).state.ticks ≤ (go (tick fuel u).state).ran.state.ticks = (q.later (tick fuel u).state).later ((later_tick fuel u).keeps (within_base u v b) (goes_done first)) in
         let step = (follows_base u v b).inside (omega arith) in
         on_value (tick fuel v).stop (tick fuel v) go (step.0 ∙ first)
-        ∙ q.value (tick fuel u).state (tick fuel v).state (step.2 first) total (sym end.stop ∙ sym both.stop ∙ d)
+        ∙ q.value (tick fuel u).state (tick fuel v).state (step.2 (goes_done first)) total (sym end.stop ∙ sym both.stop ∙ d)
         ∙ sym (on_value (tick fuel u).stop (tick fuel u) go first);
   }
+    where
+      vars : (u : State) → Dec (u.ticks < fuel) → GoesOn (call_on (tick fuel u).stop (tick fuel u) go).ran.stop → (call_on (tick fuel u).stop (tick fuel u) go).ran.state.vars ≡ u.vars
+      vars u (yes l) d =
+          let both = on_ran (tick fuel u).stop (tick fuel u) go in
+          let v : State = record u { ticks = u.ticks + 1 } in
+          let end = after_done (tick fuel u) v (λ w. (go w).ran) (tick_yes fuel u l) in
+          ap (λ s. s.vars) (both.state ∙ end.state) ∙ q.vars v (subst GoesOn (both.stop ∙ end.stop) d)
+      vars u (no l) d =
+          let both = on_ran (tick fuel u).stop (tick fuel u) go in
+          let end = after_stopped (tick fuel u) NoFuel _ (λ w. (go w).ran) (tick_no fuel u (omega arith)) (λ z. no_done z) in
+          absurd (subst GoesOn (both.stop ∙ end.stop) d)
 
   near_deep : (p : Place) → NearCall fuel t o A (λ u. no_value (trapped Deep p u))
   near_deep p = record {
@@ -117,8 +119,8 @@ module _ (fuel t : ℕ) (o : List ℕ) (A : Cells) where
           let first : (body (start u)).stop ≡ Done = done_first (body (start u)) end d in
           let e = after_done (body (start u)) (body (start u)).state end (record { stop = first; state = refl }) in
           let total : (end (body (start u)).state).state.ticks + t ≤ fuel = rw e.state at i in
-          let later : (body (start u)).state.ticks ≤ (end (body (start u)).state).state.ticks = (moves_end.later (body (start u)).state).later ((moves.later (start u)).keeps (within_base u v r) first) in
-          let q = ((moves.near (start u) (start v) (starts u v r)).inside (omega arith)).2 first in
+          let later : (body (start u)).state.ticks ≤ (end (body (start u)).state).state.ticks = (moves_end.later (body (start u)).state).later ((moves.later (start u)).keeps (within_base u v r) (goes_done first)) in
+          let q = ((moves.near (start u) (start v) (starts u v r)).inside (omega arith)).2 (goes_done first) in
           ap number_in (agree (body (start u)).state (body (start v)).state q);
     }
       where

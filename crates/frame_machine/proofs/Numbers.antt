@@ -22,7 +22,7 @@ use Rattle.std.proofs.lemmas.Int.{ints}
 use Rattle.std.proofs.lemmas.List.Elements.{All-cons, All-head, All-nil, All-tail}
 use Rattle.std.specs.Int.{int_gap}
 use Rattle.tp_value.specs.declared.Stop.{Stop}
-use Rattle.tp_value.specs.declared.Stop.TheVariants.{Done, NoFuel, Trap}
+use Rattle.tp_value.specs.declared.Stop.TheVariants.{Done, Left, NoFuel, Trap}
 use Rattle.tp_value.specs.declared.limits.TheConstants.{MAX_CALL_DEPTH}
 
 after_nothing : (k : Setting) (r : Ran) → (after r (run_list k [])).state ≡ r.state
@@ -30,6 +30,7 @@ after_nothing k r = go r.stop
   where
     go : (x : Stop) → (go_on x r (run_list k [])).state ≡ r.state
     go Done = refl
+    go (Left m) = refl
     go (Trap a b) = refl
     go NoFuel = refl
 

@@ -1,5 +1,5 @@
 -- A pair of calls that is cut: the first call, then the second from no ticks, joined, is both.
-use Rattle.frame_machine.proofs.Following.{Joined, after_goes, done_first, joined_from}
+use Rattle.frame_machine.proofs.Following.{Joined, after_goes, done_first, goes_done, joined_from}
 use Rattle.frame_machine.proofs.Guarding.{KeptCall}
 use Rattle.frame_machine.proofs.Guards.{kept_call}
 use Rattle.frame_machine.proofs.Joining.{joined_within, up_done}
@@ -22,7 +22,7 @@ use Rattle.std.proofs.Common.{List, [], ap, arith, refl, subst, sym, ℕ, ℤ, �
 use Rattle.std.proofs.lemmas.List.{append-nil}
 use Rattle.tp_value.specs.declared.Place.{Place}
 use Rattle.tp_value.specs.declared.Stop.{Stop}
-use Rattle.tp_value.specs.declared.Stop.TheVariants.{Done, NoFuel, Trap}
+use Rattle.tp_value.specs.declared.Stop.TheVariants.{Done, Left, NoFuel, Trap}
 
 module _ (p : Program) (m : Modes) (fuel room : ℕ) (f g : List ℕ) (rules : LawfulCalls p m f g) where
   abbrev call : List ℕ → Place → List ℤ → List Note → State → Called
@@ -67,10 +67,10 @@ module _ (p : Program) (m : Modes) (fuel room : ℕ) (f g : List ℕ) (rules : L
     base : low.ran.stop ≡ Done → Base fuel low.ran.state.ticks low.ran.state.output (WholeCells m) u low.ran.state
     unfolding low
     base d = record {
-      tables = agree_trans (WholeCells m) u.tables s.tables low.ran.state.tables given (inside (kept.tables d));
+      tables = agree_trans (WholeCells m) u.tables s.tables low.ran.state.tables given (inside (kept.tables (goes_done d)));
       output = sym (rw output (append-nil low.ran.state.output));
       ticks = rw ticks (omega arith);
-      fits = (near_first.later s).keeps within d;
+      fits = (near_first.later s).keeps within (goes_done d);
     }
 
     joined : Joined fuel (Base fuel low.ran.state.ticks low.ran.state.output (WholeCells m)) low.ran up.ran (after low.ran (λ v. (next v).ran))
@@ -95,6 +95,7 @@ module _ (p : Program) (m : Modes) (fuel room : ℕ) (f g : List ℕ) (rules : L
       where
         go : (x : Stop) → low.ran.stop ≡ x → (go_on x low.ran (λ v. (next v).ran)).state.output ≡ s.output
         go Done e = (next_kept low.ran.state).output ∙ kept.output
+        go (Left n) e = kept.output
         go (Trap a b) e = kept.output
         go NoFuel e = kept.output
 
@@ -104,8 +105,8 @@ module _ (p : Program) (m : Modes) (fuel room : ℕ) (f g : List ℕ) (rules : L
       stop = joined.stop;
       ticks = joined.ticks;
       results = λ d. ap (λ n. low.value ∷ n ∷ []) (value d);
-      vars = λ d. ap (λ z. z.vars) (goes_on d).state ∙ (next_kept low.ran.state).vars (sym (goes_on d).stop ∙ d) ∙ kept.vars (low_ends d);
-      tables = λ d. agree_trans (Outside NoCell) s.tables low.ran.state.tables (after low.ran (λ v. (next v).ran)).state.tables (kept.tables (low_ends d))
-          (subst (λ (z : State). AgreeOn (Outside NoCell) low.ran.state.tables z.tables) (sym (goes_on d).state) ((next_kept low.ran.state).tables (sym (goes_on d).stop ∙ d)));
+      vars = λ d. ap (λ z. z.vars) (goes_on d).state ∙ (next_kept low.ran.state).vars (goes_done (sym (goes_on d).stop ∙ d)) ∙ kept.vars (goes_done (low_ends d));
+      tables = λ d. agree_trans (Outside NoCell) s.tables low.ran.state.tables (after low.ran (λ v. (next v).ran)).state.tables (kept.tables (goes_done (low_ends d)))
+          (subst (λ (z : State). AgreeOn (Outside NoCell) low.ran.state.tables z.tables) (sym (goes_on d).state) ((next_kept low.ran.state).tables (goes_done (sym (goes_on d).stop ∙ d))));
       output = outputs;
     }

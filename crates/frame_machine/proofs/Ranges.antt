@@ -1,7 +1,7 @@
 -- The iterations of a range that is cut: what each part touches, and that both joined are the whole.
 use Rattle.frame_machine.proofs.Bends.{Bend, Goes, Keeps, bent, keeps_lookup, keeps_trans}
 use Rattle.frame_machine.proofs.Bends.{lookup_declare}
-use Rattle.frame_machine.proofs.Following.{Joined, after_assoc, after_goes, joined_from}
+use Rattle.frame_machine.proofs.Following.{Joined, after_assoc, after_goes, goes_done, joined_from}
 use Rattle.frame_machine.proofs.Guarding.{Guards, kept_iterate}
 use Rattle.frame_machine.proofs.Guards.{Owned, kept_call, kept_list}
 use Rattle.frame_machine.proofs.Moves.{moves_list}
@@ -211,7 +211,7 @@ module _ (fs : List Func) (fuel room : ℕ) (x : List ℕ) (rs : List Reduce) (b
 
       near : Begins → low.stop ≡ Done → Near fuel low.state.ticks low.state.output (Seen (From middle) vs m) h (Around F vs) u low.state
       near g e =
-          let l = (lower_guards middle a [] [] i tt tt (omega (arith, ints)) s g.around).leaves e in
+          let l = (lower_guards middle a [] [] i tt tt (omega (arith, ints)) s g.around).leaves (goes_done e) in
           record {
             vars = g.vars e;
             claim = g.upper;
@@ -219,7 +219,7 @@ module _ (fs : List Func) (fuel room : ℕ) (x : List ℕ) (rs : List Reduce) (b
               tables = agree_trans (Seen (From middle) vs m) u.tables s.tables low.state.tables g.given (seen_spared middle vs m s.tables low.state.tables l.tables);
               output = sym (rw g.output (append-nil low.state.output));
               ticks = rw g.ticks (omega arith);
-              fits = ((upper_moves 0 [] i a i (omega (arith, ints))).later s).keeps g.within e;
+              fits = ((upper_moves 0 [] i a i (omega (arith, ints))).later s).keeps g.within (goes_done e);
             };
           }
 
@@ -239,6 +239,6 @@ module _ (fs : List Func) (fuel room : ℕ) (x : List ℕ) (rs : List Reduce) (b
       range_lower g e d =
           let w = iterate_split fuel x act a b i s in
           let f = after_goes low (loop b middle) e in
-          let l = (lower_guards middle a [] [] i tt tt (omega (arith, ints)) s g.around).leaves e in
-          let k = (upper_guards middle b [] [] middle tt tt (omega (arith, ints)) low.state l.claim).leaves (sym f.stop ∙ sym w.stop ∙ d) in
+          let l = (lower_guards middle a [] [] i tt tt (omega (arith, ints)) s g.around).leaves (goes_done e) in
+          let k = (upper_guards middle b [] [] middle tt tt (omega (arith, ints)) low.state l.claim).leaves (goes_done (sym f.stop ∙ sym w.stop ∙ d)) in
           subst (λ z. AgreeOn (Outside (Written (From middle) vs m)) low.state.tables z.tables) (sym (w.state ∙ f.state)) k.tables

@@ -163,7 +163,7 @@ module _ (p : Program) (none : NoneBroken p) (w : Spot) (x : Name) (cs : List Ca
   by_rounds : (body : List Stmt) → HasStatements w.part → AllFine p (in_list (in_par w x cs rs) body) → IsLawful p (modes_of w.rounds) (body_at w x cs rs body)
   by_rounds body part inner =
       by_body (modes_of w.rounds) body
-      (list_keeps (Fine p) rs (variables.Inner p (Fine p) (λ a w f. f) (the_loop w x cs rs) w.rounds) (variables.inner_variables p (Fine p) (λ a w f. f) (the_loop w x cs rs) w.rounds)
+      (list_keeps (Fine p) rs (variables.Inner p (Fine p) (λ a w f. f) (the_loop w x cs rs) w.rounds) (variables.inner_variables p (Fine p) (λ a w f. f) (the_loop w x cs rs) w.rounds (targets_in w.scope rs head.f1))
       (Callable p (modes_of (the_loop w x cs rs ∷ w.rounds))) (tables.Inner p (the_loop w x cs rs) w.rounds head_ok) (tables.inner_tables p (the_loop w x cs rs) w.rounds head_ok)
       (FixedIn w.scope rs x.text.items) rs (modes_of (the_loop w x cs rs ∷ w.rounds)) (in_par w x cs rs)
       (record { inside = inl (refl, refl); near = refl; fixed = fixed_kept (the_loop w x cs rs) w.loops })
@@ -174,7 +174,7 @@ module _ (p : Program) (none : NoneBroken p) (w : Spot) (x : Name) (cs : List Ca
   by_function : (outer : Modes) (f : List ℕ) (g : Func) → func_of p.funcs.items f ≡ Some g → Callable p outer f → w.part ≡ OfFunc → (body : List Stmt) → Each (Own p g) (in_list (in_par w x cs rs) body) → IsLawful p outer (body_at w x cs rs body)
   by_function outer f g is safe part body inner =
       by_body outer body
-      (list_keeps (Stands p g) rs (variables.Inner p (Stands p g) (own_fine p g) (the_loop w x cs rs) w.rounds) (variables.inner_variables p (Stands p g) (own_fine p g) (the_loop w x cs rs) w.rounds)
+      (list_keeps (Stands p g) rs (variables.Inner p (Stands p g) (own_fine p g) (the_loop w x cs rs) w.rounds) (variables.inner_variables p (Stands p g) (own_fine p g) (the_loop w x cs rs) w.rounds (targets_in w.scope rs head.f1))
       (Callable p modes) (tables.OfFunction p modes f g is reads_whole) (tables.function_tables p modes f g is reads_whole)
       (FixedIn w.scope rs x.text.items) rs modes (in_par w x cs rs)
       (record { inside = inl (refl, refl); near = refl; fixed = fixed_kept (the_loop w x cs rs) w.loops })

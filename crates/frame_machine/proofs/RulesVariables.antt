@@ -10,15 +10,19 @@ use Rattle.loop_rules.specs.Names.{is_in, operator_of}
 use Rattle.loop_rules.specs.Reductions.{any_loop, same_op, some_op, reduced, other_operator}
 use Rattle.loop_rules.specs.Reductions.{reduced_otherwise, bad_targets}
 use Rattle.loop_rules.specs.Scopes.{at}
-use Rattle.loop_rules.specs.Sites.{Loop, Act, Declares, Uses, Assigns, Folds, Parallel, Spot}
+use Rattle.loop_rules.specs.Leaves.{has_other, bad_lefts}
+use Rattle.loop_rules.specs.Sites.{Loop, Act, Declares, Uses, Assigns, Folds, Parallel, LeavesAll}
+use Rattle.loop_rules.specs.Sites.{Spot}
 use Rattle.loop_rules.specs.Sites.{the_loop}
-use Rattle.loop_check.proofs.Bools.{no_both, not_false, or_left}
+use Rattle.loop_check.proofs.Lists.{Each}
+use Rattle.loop_check.proofs.Bools.{no_both, not_false, or_left, or_right}
 use Rattle.loop_check.proofs.Found.{eq_is, is_in_end, is_in_more}
 use Rattle.loop_check.proofs.Fine.{Fine, at_none, append_none_left, append_none_right}
 use Rattle.loop_check.proofs.Inner.{Kept}
 use Rattle.loop_check.proofs.Shapes.{HeadOk, Inside, any_inside, fold_apart}
-use Rattle.frame_machine.specs.Bodies.{Unreduced, SameOp, FoldsBy, AndVar, NoVariable}
-use Rattle.frame_machine.specs.Lawful.{FixedIn}
+use Rattle.frame_machine.specs.Bodies.{Unreduced, SameOp, FoldsBy, MayAssign, AndVar, NoVariable}
+use Rattle.frame_machine.specs.Lawful.{FixedIn, TargetsIn}
+use Rattle.frame_machine.proofs.RulesNames.{new_unreduced}
 use Rattle.frame_machine.proofs.RulesWalk.{VariableRules}
 
 -- ---- operators
@@ -134,6 +138,20 @@ module _ (p : Program) (G : Act → Spot → Type 0) (fine : (a : Act) (w : Spot
   no_target : (P : List ℕ → Type 0) (w : Spot) (F : List ℕ → Type 0) (x : Name) → ((y : List ℕ) → F y → P y ⊎ (is_in w.loops y ≡ true)) → is_in w.loops x.text.items ≡ false → (P x.text.items → ⊥) → F x.text.items → ⊥
   no_target P w F x fixed l k f = elim (fixed x.text.items f) [ inl q ↦ k q | inr q ↦ no_both (is_in w.loops x.text.items) q l ]
 
+  -- a target of a `par` that is left, and those behind it
+  no_left : (before : List (List ℕ)) (z : Name) (ys : List Name) (w : Spot) → bad_lefts before (z ∷ ys) w ≡ []
+      → (any_loop (λ q. is_in q.outside z.text.items) w.rounds ≡ false) × (is_in w.loops z.text.items ≡ false) × (bad_lefts (z.text.items ∷ before) ys w ≡ [])
+  no_left before z ys w h =
+      let round = any_loop (λ q. is_in q.outside z.text.items) w.rounds in
+      let bad = round || is_in w.loops z.text.items || has_other before z.text.items in
+      let none = at_none z bad (append_none_left (at z bad) (bad_lefts (z.text.items ∷ before) ys w) h) in
+      let both = or_left (round || is_in w.loops z.text.items) (has_other before z.text.items) none in
+      (or_left round (is_in w.loops z.text.items) both, or_right round (is_in w.loops z.text.items) both, append_none_right (at z bad) (bad_lefts (z.text.items ∷ before) ys w) h)
+
+  unless : (b : Bool) → (b ≡ true → ⊥) → b ≡ false
+  unless false h = refl
+  unless true h = absurd (h refl)
+
   -- ---- inside a loop
 
   module _ (r0 : Loop) (outer : List Loop) where
@@ -143,8 +161,21 @@ module _ (p : Program) (G : Act → Spot → Type 0) (fine : (a : Act) (w : Spot
       pub near : rs ≡ nearest_of w.rounds
       pub fixed : (y : List ℕ) → F y → Kept r0 y ⊎ (is_in w.loops y ≡ true)
 
-    pub inner_variables : VariableRules G r0.reduces Inner
-    inner_variables = record {
+    -- what a `par` inside is left with
+    inner_lefts : TargetsIn r0.outside r0.reduces → (F : List ℕ → Type 0) (w : Spot) → Inside r0 outer w.rounds → ((y : List ℕ) → F y → Kept r0 y ⊎ (is_in w.loops y ≡ true)) → (before : List (List ℕ)) (ys : List Name) → bad_lefts before ys w ≡ []
+        → Each (λ (x : Name). MayAssign r0.reduces F x.text.items) ys
+    inner_lefts visible F w i fixed before [] h = tt
+    inner_lefts visible F w i fixed before (z ∷ ys) h =
+        let n = no_left before z ys w h in
+        let apart : is_in r0.outside z.text.items ≡ false = unless (is_in r0.outside z.text.items) (λ o.
+        no_both (any_loop (λ q. is_in q.outside z.text.items) w.rounds) (any_inside (λ q. is_in q.outside z.text.items) r0 outer w.rounds i o) n.0) in (
+          (new_unreduced r0.outside r0.reduces z.text.items visible apart, no_target (Kept r0) w F z fixed n.1 (λ k. no_both (is_in r0.outside z.text.items) k.0 apart)),
+          inner_lefts visible F w i fixed (z.text.items ∷ before) ys n.2,
+        )
+
+    -- where what it reduces is visible round it
+    pub inner_variables : TargetsIn r0.outside r0.reduces → VariableRules G r0.reduces Inner
+    inner_variables visible = record {
       used = λ F rs w x i h. not_reduced r0 outer x.text.items w.rounds i.inside (at_none x _ (fine (Uses x) w h).f3);
       declared = λ F rs w x i h. not_reduced r0 outer x.text.items w.rounds i.inside (at_none x _ (fine (Declares x) w h).f3);
       assigned = λ F rs w x i h.
@@ -157,6 +188,7 @@ module _ (p : Program) (G : Act → Spot → Type 0) (fine : (a : Act) (w : Spot
       free = λ F rs w x i h.
           let f = fine (Folds x) w h in
           no_target (Kept r0) w F x i.fixed (at_none x _ f.f10) (λ k. fold_apart r0 outer x.text.items w.rounds i.inside k.0 k.1 (not_false _ (at_none x _ f.f3)));
+      left = λ F rs w xs i h. inner_lefts visible F w i.inside i.fixed [] xs (fine (LeavesAll xs) w h).f12;
       after_let = λ F rs w x i. record { inside = i.inside; near = i.near; fixed = i.fixed };
       into_loop = λ F rs w x i. record {
         inside = i.inside;
@@ -181,6 +213,12 @@ module _ (p : Program) (G : Act → Spot → Type 0) (fine : (a : Act) (w : Spot
   pub record Alone (F : List ℕ → Type 0) (rs : List Reduce) (w : Spot) : Type 0 where
     pub fixed : (y : List ℕ) → F y → NoVariable y ⊎ (is_in w.loops y ≡ true)
 
+  alone_lefts : (F : List ℕ → Type 0) (w : Spot) → ((y : List ℕ) → F y → NoVariable y ⊎ (is_in w.loops y ≡ true)) → (before : List (List ℕ)) (ys : List Name) → bad_lefts before ys w ≡ [] → Each (λ (x : Name). MayAssign [] F x.text.items) ys
+  alone_lefts F w fixed before [] h = tt
+  alone_lefts F w fixed before (z ∷ ys) h =
+      let n = no_left before z ys w h in
+      ((refl, no_target NoVariable w F z fixed n.1 (λ k. k)), alone_lefts F w fixed (z.text.items ∷ before) ys n.2)
+
   pub alone_variables : VariableRules G [] Alone
   alone_variables = record {
     used = λ F rs w x i h. refl;
@@ -188,6 +226,7 @@ module _ (p : Program) (G : Act → Spot → Type 0) (fine : (a : Act) (w : Spot
     assigned = λ F rs w x i h. (refl, no_target NoVariable w F x i.fixed (at_none x _ (fine (Assigns x) w h).f10) (λ k. k));
     folded = λ F rs w x i h. any_fold x.text.items (operator_of rs x.text.items);
     free = λ F rs w x i h. no_target NoVariable w F x i.fixed (at_none x _ (fine (Folds x) w h).f10) (λ k. k);
+    left = λ F rs w xs i h. alone_lefts F w i.fixed [] xs (fine (LeavesAll xs) w h).f12;
     after_let = λ F rs w x i. record { fixed = i.fixed };
     into_loop = λ F rs w x i. record { fixed = λ y f. elim (i.fixed y f) [ inl k ↦ inl k | inr l ↦ inr (is_in_more w.loops x.text.items y l) ] };
     into_par = λ F rs w x cs qs y z i h. record { fixed = and_loop NoVariable F w.loops x.text.items i.fixed };

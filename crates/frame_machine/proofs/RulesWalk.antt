@@ -1,5 +1,5 @@
 -- Statements keep to what is asked of the body of a `par` that is cut, where it follows at each site from what stands there.
-use Rattle.std.proofs.Common.{◌≡◌, ℕ, List, [], ◌∷◌, ◌++◌}
+use Rattle.std.proofs.Common.{◌≡◌, ℕ, List, [], ◌∷◌, ◌++◌, Option, Some, None, refl}
 use Rattle.tp_value.specs.declared.Place.{Place}
 use Rattle.loop_syntax.specs.declared.Name.{Name}
 use Rattle.loop_syntax.specs.declared.Expr.{Expr}
@@ -8,17 +8,22 @@ use Rattle.loop_syntax.specs.declared.Carry.{Carry}
 use Rattle.loop_syntax.specs.declared.Reduce.{Reduce}
 use Rattle.loop_syntax.specs.declared.Stmt.{Stmt, Row_of-Stmt, end_of-Stmt, more_of-Stmt}
 use Rattle.loop_syntax.specs.declared.Stmt.TheVariants.{Let, Set, Put, If', While', Loop', Par'}
-use Rattle.loop_syntax.specs.declared.Stmt.TheVariants.{Fold, Call, Both, Print, Emit}
+use Rattle.loop_syntax.specs.declared.Stmt.TheVariants.{Fold, Call, Both, Print, Emit, Leave, Fill}
 use Rattle.loop_rules.specs.Names.{operator_of}
 use Rattle.loop_rules.specs.Sites.{Act, Declares, Uses, Assigns, Folds, AssignsBoth, ReadsCell}
-use Rattle.loop_rules.specs.Sites.{WritesCell, Calls, Shows, Parallel, Spot, Site, site, in_expr}
+use Rattle.loop_rules.specs.Sites.{WritesCell, Calls, Shows, Parallel, LeavesAll, Spot, Site, site}
+use Rattle.loop_rules.specs.Sites.{in_expr}
 use Rattle.loop_rules.specs.Sites.{in_whole, in_args, in_app, in_carries, in_stmt, in_all, in_list}
 use Rattle.loop_rules.specs.Sites.{spot_after, spot_of_list, declared_var, in_loop, in_par}
 use Rattle.loop_rules.specs.Sites.{the_loop}
+use Rattle.loop_rules.specs.Targets.{targets_all}
+use Rattle.loop_meaning.specs.Leaving.{left_in}
+use Rattle.loop_check.proofs.Leaving.{left_row}
 use Rattle.loop_check.proofs.Lists.{Each, each_left, each_right}
 use Rattle.frame_machine.specs.Modes.{Modes, inner_modes, AllOfModes}
 use Rattle.frame_machine.specs.Bodies.{Unreduced, ReadsAt, WritesAt, MayCarry, MayRead, AllRead}
-use Rattle.frame_machine.specs.Bodies.{FoldsBy, MayDeclare, MayAssign, AndVar, KeepsTo, AllKeep}
+use Rattle.frame_machine.specs.Bodies.{FoldsBy, MayDeclare, MayAssign, MayLeave, AndVar, KeepsTo}
+use Rattle.frame_machine.specs.Bodies.{AllKeep}
 use Rattle.frame_machine.specs.Bodies.{ListKeeps}
 
 -- what follows of variables at each site where G holds, and V of the spot with its fixed variables and its nearest
@@ -29,6 +34,7 @@ pub record VariableRules (G : Act → Spot → Type 0) (cut : List Reduce) (V : 
   pub assigned : (F : List ℕ → Type 0) (rs : List Reduce) (w : Spot) (x : Name) → V F rs w → G (Assigns x) w → MayAssign cut F x.text.items
   pub folded : (F : List ℕ → Type 0) (rs : List Reduce) (w : Spot) (x : Name) → V F rs w → G (Folds x) w → FoldsBy cut x.text.items (operator_of rs x.text.items)
   pub free : (F : List ℕ → Type 0) (rs : List Reduce) (w : Spot) (x : Name) → V F rs w → G (Folds x) w → F x.text.items → ⊥
+  pub left : (F : List ℕ → Type 0) (rs : List Reduce) (w : Spot) (xs : List Name) → V F rs w → G (LeavesAll xs) w → Each (λ (x : Name). MayAssign cut F x.text.items) xs
   pub after_let : (F : List ℕ → Type 0) (rs : List Reduce) (w : Spot) (x : Name) → V F rs w → V F rs (declared_var w x)
   pub into_loop : (F : List ℕ → Type 0) (rs : List Reduce) (w : Spot) (x : Name) → V F rs w → V F rs (in_loop w x)
   pub into_par : (F : List ℕ → Type 0) (rs : List Reduce) (w : Spot) (x : Name) (cs : List Carry) (qs : List Reduce) (p q : Place) → V F rs w → G (Parallel p q (the_loop w x cs qs)) w
@@ -91,6 +97,8 @@ module _ (G : Act → Spot → Type 0) (cut : List Reduce) (V : (List ℕ → Ty
   after_variables F rs w v (Both y f z g) = v
   after_variables F rs w v (Print p e) = v
   after_variables F rs w v (Emit p t) = v
+  after_variables F rs w v (Leave y e) = v
+  after_variables F rs w v (Fill f t r es) = v
 
   after_tables : (m : Modes) (w : Spot) → M m w → (s : Stmt) → M m (spot_after w s)
   after_tables m w k (Let y e) = tables.after_let m w y k
@@ -105,6 +113,12 @@ module _ (G : Act → Spot → Type 0) (cut : List Reduce) (V : (List ℕ → Ty
   after_tables m w k (Both y f z g) = k
   after_tables m w k (Print p e) = k
   after_tables m w k (Emit p t) = k
+  after_tables m w k (Leave y e) = k
+  after_tables m w k (Fill f t r es) = k
+
+  may_leave : (F : List ℕ → Type 0) (target : Option (List ℕ)) → ((x : List ℕ) → target ≡ Some x → MayAssign cut F x) → MayLeave cut F target
+  may_leave F None h = tt
+  may_leave F (Some x) h = h x refl
 
   mutual
     keeps : (F : List ℕ → Type 0) (rs : List Reduce) (m : Modes) (w : Spot) → V F rs w → M m w → (s : Stmt) → All (in_stmt w s) → KeepsTo cut Safe F rs m s
@@ -136,14 +150,15 @@ module _ (G : Act → Spot → Type 0) (cut : List Reduce) (V : (List ℕ → Ty
     keeps F rs m w v k (Par' place x a b z cs qs p body) h =
         let clauses = in_carries w cs.items in
         let inner = in_all (in_par w x cs.items qs.items) body in
-        let later = back (in_whole w a) (in_whole w b ++ (clauses ++ inner)) h.1.1 in
+        let later = back (in_whole w a) (in_whole w b ++ (clauses ++ inner)) h.1.1.1 in
         let last = back (in_whole w b) (clauses ++ inner) later in (
-          reads F rs m w v k a (front (in_whole w a) (in_whole w b ++ (clauses ++ inner)) h.1.1),
+          reads F rs m w v k a (front (in_whole w a) (in_whole w b ++ (clauses ++ inner)) h.1.1.1),
           reads F rs m w v k b (front (in_whole w b) (clauses ++ inner) later),
-          new F rs m w v k x h.1.0,
+          new F rs m w v k x h.1.1.0,
           tables.carried m w x cs.items qs.items place z k h.0,
           row_keeps (AndVar F x.text.items) qs.items (inner_modes cs.items x.text.items m) (in_par w x cs.items qs.items)
               (variables.into_par F rs w x cs.items qs.items place z v h.0) (tables.into_par m w x cs.items qs.items place z k h.0 (front clauses inner last)) body (back clauses inner last),
+          may_leave F (left_in body) (λ z e. left_row (λ y. MayAssign cut F y) z body (variables.left F rs w (targets_all body) v h.1.0) e),
         )
     keeps F rs m w v k (Fold x e) h = (reads F rs m w v k e h.1, variables.folded F rs w x v h.0, variables.free F rs w x v h.0)
     keeps F rs m w v k (Call x f) h = (reads_all F rs m w v k f.args.items h.1.1, tables.called m w f.callee _ k h.1.0, variables.assigned F rs w x v h.0)
@@ -160,6 +175,8 @@ module _ (G : Act → Spot → Type 0) (cut : List Reduce) (V : (List ℕ → Ty
         )
     keeps F rs m w v k (Print p e) h = tables.shown m w p k h.0
     keeps F rs m w v k (Emit p t) h = tables.shown m w p k h.0
+    keeps F rs m w v k (Leave x e) h = reads F rs m w v k e h.1
+    keeps F rs m w v k (Fill f t r es) h = tt
 
     row_keeps : {n : _} → (F : List ℕ → Type 0) (rs : List Reduce) (m : Modes) (w : Spot) → V F rs w → M m w → (row : Row_of-Stmt n) → All (in_all w row) → AllKeep cut Safe F rs m row
     row_keeps F rs m w v k end_of-Stmt h = tt

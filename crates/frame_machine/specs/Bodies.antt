@@ -10,8 +10,9 @@ use Rattle.loop_syntax.specs.declared.Reduce.{Reduce}
 use Rattle.loop_syntax.specs.declared.Func.{Func}
 use Rattle.loop_syntax.specs.declared.Stmt.{Stmt, Row_of-Stmt, end_of-Stmt, more_of-Stmt}
 use Rattle.loop_syntax.specs.declared.Stmt.TheVariants.{Let, Set, Put, If', While', Loop', Par'}
-use Rattle.loop_syntax.specs.declared.Stmt.TheVariants.{Fold, Call, Both, Print, Emit}
+use Rattle.loop_syntax.specs.declared.Stmt.TheVariants.{Fold, Call, Both, Print, Emit, Leave, Fill}
 use Rattle.loop_rules.specs.Names.{func_of, operator_of}
+use Rattle.loop_meaning.specs.Leaving.{left_in}
 use Rattle.frame_machine.specs.Modes.{Line, Named, Fixed, Mode, Whole, Closed, OwnRow, OwnCell}
 use Rattle.frame_machine.specs.Modes.{Modes, demoted, inner_modes, AllOfModes}
 
@@ -90,6 +91,11 @@ MayDeclare cut m x = Unreduced cut x × AllOfModes (λ y. x ≡ y → ⊥) m
 abbrev pub MayAssign : List Reduce → (List ℕ → Type 0) → List ℕ → Type 0
 MayAssign cut F x = Unreduced cut x × (F x → ⊥)
 
+-- a `par` inside may be left where it sets no variable then, or one that may be assigned
+abbrev pub MayLeave : List Reduce → (List ℕ → Type 0) → Option (List ℕ) → Type 0
+MayLeave cut F None = ⊤
+MayLeave cut F (Some x) = MayAssign cut F x
+
 -- the fixed variables in the body of a `par` over x
 abbrev pub AndVar : (List ℕ → Type 0) → List ℕ → List ℕ → Type 0
 AndVar F x = λ y. F y ⊎ (y ≡ x)
@@ -113,6 +119,7 @@ module _ (cut : List Reduce) (Safe : List ℕ → Type 0) where
         MayRead cut m a × MayRead cut m b × MayDeclare cut m x.text.items × MayCarry m carries.items
         × AllKeep (AndVar F x.text.items) reduces.items
         (inner_modes carries.items x.text.items m) body
+        × MayLeave cut F (left_in body)
     KeepsTo F rs m (Fold x e) =
         MayRead cut m e × FoldsBy cut x.text.items (operator_of rs x.text.items)
         × (F x.text.items → ⊥)
@@ -124,6 +131,8 @@ module _ (cut : List Reduce) (Safe : List ℕ → Type 0) where
         × MayAssign cut F x.text.items × MayAssign cut F y.text.items
     KeepsTo F rs m (Print place e) = ⊥
     KeepsTo F rs m (Emit place t) = ⊥
+    KeepsTo F rs m (Leave x e) = MayRead cut m e
+    KeepsTo F rs m (Fill f t r es) = ⊤
 
     pub AllKeep : {n : _} → (List ℕ → Type 0) → List Reduce → Modes → Row_of-Stmt n → Type 0
     AllKeep F rs m end_of-Stmt = ⊤

@@ -4,7 +4,7 @@
 ghost use Rattle.std.specs.Prelude.{◌≡◌, ◌≤◌, ◌+ℤ◌, ◌≤ℤ◌, ◌<ℤ◌, ℕ, true, false, ℤ, pos, List, []};
 ghost use Rattle.std.specs.Prelude.{Contains, Some};
 ghost use Rattle.tp_value.specs.declared.Op.{Op};
-ghost use Rattle.tp_value.specs.declared.Stop.TheVariants.{Done};
+ghost use Rattle.tp_value.specs.declared.Stop.TheVariants.{Done, Left};
 ghost use Rattle.loop_syntax.specs.declared.ParLoop.{ParLoop};
 ghost use Rattle.loop_syntax.specs.declared.Func.{Func};
 ghost use Rattle.loop_rules.specs.Names.{func_of, texts};
@@ -46,7 +46,7 @@ pub fn iterations_join(program: &Program, fuel: u64)
 
 /// Iterations of a lawful `par` with numbers below `c` read and write only cells that are theirs,
 /// and so do those with numbers from `c` on, however they stop; and they show nothing. Where those
-/// below `c` are done, they leave what those from `c` on may begin with.
+/// below `c` are done, or one of them is left, they leave what those from `c` on may begin with.
 pub fn iterations_keep_apart(program: &Program, fuel: u64)
     ensures lower { (outer : Modes) (l : ParLoop) (room : ℕ) (again begin : List Note) (n : ℕ)
         (i c : ℤ) (s : State) →
@@ -64,6 +64,14 @@ pub fn iterations_keep_apart(program: &Program, fuel: u64)
         (i c : ℤ) (s : State) →
         Lawful program.now outer (names_of s.vars) l → OnlyChances again → OnlyChances begin →
         (i +ℤ pos n) ≤ℤ c → (iterations_in program.now fuel room l again begin n i s).stop ≡ Done →
+        SameRound l.reduces.items s.vars
+        (iterations_in program.now fuel room l again begin n i s).state.vars
+        × AgreeOn (UpperSeen outer l s.vars c)
+        (iterations_in program.now fuel room l again begin n i s).state.tables s.tables }
+    ensures left { (outer : Modes) (l : ParLoop) (room : ℕ) (again begin : List Note) (n : ℕ)
+        (i c m : ℤ) (s : State) →
+        Lawful program.now outer (names_of s.vars) l → OnlyChances again → OnlyChances begin →
+        (i +ℤ pos n) ≤ℤ c → (iterations_in program.now fuel room l again begin n i s).stop ≡ Left m →
         SameRound l.reduces.items s.vars
         (iterations_in program.now fuel room l again begin n i s).state.vars
         × AgreeOn (UpperSeen outer l s.vars c)
