@@ -1,29 +1,13 @@
 // The source of samples, run by the serial meaning on tables of a few cells, with outputs and ticks
 // worked out by hand.
 
-use loop_lex::lex;
+use crate::programs::resolved;
 use loop_meaning::plain_run;
-use loop_parse::parse;
-use loop_rules::{Resolved, resolve};
 use sample_gen::{MAX_SAMPLE_CELLS, Sample, sample_of};
 use std::alloc::Global;
 use std::test::Fail;
 use table_text::read_tables;
 use tp_value::{MAX_FUEL, MAX_TABLES_BYTES, Outcome, Stop};
-
-// The program of a source, where it breaks no rule.
-fn resolved(alloc: Global, source: &[u8]) -> Option<Resolved> {
-    if source.len() > 1_048_576 {
-        return None;
-    }
-    let Ok(tokens) = lex(alloc, source) else {
-        return None;
-    };
-    match parse(alloc, source, &tokens) {
-        Ok(program) => resolve(alloc, program).ok(),
-        Err(_fault) => None,
-    }
-}
 
 // How a sample ends, where its source breaks no rule and its tables are well formed.
 fn outcome(alloc: Global, made: &Sample) -> Option<Outcome> {
