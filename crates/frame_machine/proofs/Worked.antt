@@ -252,7 +252,7 @@ module _ (g : Global) where
     visible = tt;
     rows = tt;
     body = (
-      (tt, tt, (refl, grid_mode (λ y. letters 106 ≡ y → ⊥) (different 106 105 refl)), (refl, tt), ((refl, refl, (refl, refl), (refl, refl)), tt)),
+      (tt, tt, (refl, grid_mode (λ y. letters 106 ≡ y → ⊥) (different 106 105 refl)), (refl, tt), ((refl, refl, (refl, refl), (refl, refl)), tt), tt),
       tt,
     );
     functions = λ f h. tt;
