@@ -11,7 +11,7 @@ use Rattle.stack_marks.specs.Stacks.{StackValue, with_word, pushed}
 use Rattle.tp_value.specs.declared.limits.TheConstants.{MAX_CALL_DEPTH}
 use Rattle.tp_value.specs.declared.Outcome.{Outcome}
 use Rattle.tp_value.specs.declared.Stop.{Stop}
-use Rattle.tp_value.specs.declared.Stop.TheVariants.{Done, Trap, NoFuel}
+use Rattle.tp_value.specs.declared.Stop.TheVariants.{Done, Left, Trap, NoFuel}
 use Rattle.tp_value.specs.declared.Table.{Table}
 use Rattle.loop_syntax.specs.declared.Program.{Program}
 use Rattle.loop_syntax.specs.declared.TableDecl.{TableDecl}
@@ -76,6 +76,8 @@ same_by : (x : Stop) (r : Ran) → r.stop ≡ x →
     outcome_by (then_end r.notes (end_by x r.state) fin) ≡ outcome_of r
 same_by Done r is =
     ap (λ (x : Stop). record { stop = x; output = r.state.output; ticks = r.state.ticks }) (sym is)
+same_by (Left number) r is =
+    ap (λ (x : Stop). record { stop = x; output = r.state.output; ticks = r.state.ticks }) (sym is)
 same_by (Trap kind place) r is =
     ap (λ (x : Stop). record { stop = x; output = r.state.output; ticks = r.state.ticks }) (sym is)
 same_by NoFuel r is =
@@ -83,6 +85,7 @@ same_by NoFuel r is =
 
 same_notes : (x : Stop) (r : Ran) → (then_end r.notes (end_by x r.state) fin).notes ≡ r.notes
 same_notes Done r = append-nil r.notes
+same_notes (Left number) r = refl
 same_notes (Trap kind place) r = refl
 same_notes NoFuel r = refl
 

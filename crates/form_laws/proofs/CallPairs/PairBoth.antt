@@ -3,7 +3,7 @@ use Rattle.std.proofs.Common.{◌≡◌, ℕ, suc, ◌≤◌, true, List, [], �
 use Rattle.std.proofs.Common.{ap, subst, ◌∙◌, append_assoc}
 use Rattle.beat_count.specs.Joining.{joined_stop}
 use Rattle.tp_value.specs.declared.Stop.{Stop}
-use Rattle.tp_value.specs.declared.Stop.TheVariants.{Done, NoFuel, Trap}
+use Rattle.tp_value.specs.declared.Stop.TheVariants.{Done, Left, NoFuel, Trap}
 use Rattle.loop_meaning.specs.InRange.{InRange}
 use Rattle.loop_meaning.specs.State as meaning
 use Rattle.loop_meaning.specs.State.{Chance, Ran}
@@ -41,6 +41,7 @@ printed_end c = by_stop c.ran.stop refl
   where
     by_stop : (stop : Stop) → c.ran.stop ≡ stop → output_of (call_end c) ≡ c.ran.state.output
     by_stop Done is = rw is refl
+    by_stop (Left number) is = rw is refl
     by_stop (Trap kind at) is = rw is refl
     by_stop NoFuel is = rw is refl
 

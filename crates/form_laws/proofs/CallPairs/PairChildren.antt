@@ -3,7 +3,7 @@ use Rattle.std.proofs.Common.{◌≡◌, ℕ, ◌+◌, true, List, [], ◌∷◌
 use Rattle.std.proofs.Common.{arith}
 use Rattle.std.specs.Prelude.{ℤ, ⊤}
 use Rattle.tp_value.specs.declared.Stop.{Stop}
-use Rattle.tp_value.specs.declared.Stop.TheVariants.{Done, NoFuel, Trap}
+use Rattle.tp_value.specs.declared.Stop.TheVariants.{Done, Left, NoFuel, Trap}
 use Rattle.tp_value.specs.declared.Table.{Table}
 use Rattle.loop_meaning.specs.State as meaning
 use Rattle.loop_meaning.specs.State.{Ran, done}
@@ -42,6 +42,7 @@ value_end c = by_stop c.ran.stop refl
     by_stop : (stop : Stop) → c.ran.stop ≡ stop
         → (then (result (with_call c its_value)) fin).end ≡ call_end c
     by_stop Done is = rw is refl
+    by_stop (Left number) is = rw is refl
     by_stop (Trap kind place) is = rw is refl
     by_stop NoFuel is = rw is refl
 
@@ -52,6 +53,7 @@ value_notes c = by_stop c.ran.stop refl
     by_stop : (stop : Stop) → c.ran.stop ≡ stop
         → (then (result (with_call c its_value)) fin).notes ≡ c.ran.notes
     by_stop Done is = rw is (append-nil (c.ran.notes ++ []) ∙ append-nil c.ran.notes)
+    by_stop (Left number) is = rw is refl
     by_stop (Trap kind place) is = rw is refl
     by_stop NoFuel is = rw is refl
 

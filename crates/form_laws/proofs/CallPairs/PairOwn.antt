@@ -10,6 +10,7 @@ use Rattle.stack_marks.specs.declared.mark.Mark.{Mark}
 use Rattle.stack_marks.specs.Stacks.{word_at}
 use Rattle.tp_value.specs.declared.Stop.{Stop}
 use Rattle.tp_value.specs.declared.Stop.TheVariants.{Done, NoFuel, Trap}
+use Rattle.tp_value.specs.declared.Stop.TheVariants as stop
 use Rattle.tp_value.specs.declared.Table.{Table}
 use Rattle.tpal_syntax.specs.declared.words.Word.{Word}
 use Rattle.tpal_syntax.specs.declared.words.Word.TheVariants as word
@@ -186,6 +187,7 @@ module _ {code : Listing} {heartbeat z : ℕ} {act : Activation} (q : PairAt cod
                         (limit_is q c n) belongs done,
                     λ can_joined. joined_owes q c n left_ends right_ends done post given can_joined,
                   )
+              by_stop (stop.Left number) is = ends_so (rw is tt)
               by_stop (Trap kind at) is = ends_so (rw is tt)
               by_stop NoFuel is = ends_so (rw is tt)
 

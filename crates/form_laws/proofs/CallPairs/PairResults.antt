@@ -1,9 +1,9 @@
 -- What follows the first call of a pair gives, by how both calls stop together.
-use Rattle.std.proofs.Common.{◌≡◌, ℕ, ◌≤◌, List, ◌++◌, refl, sym, ap, ◌∙◌}
+use Rattle.std.proofs.Common.{◌≡◌, ℕ, ◌≤◌, List, ◌++◌, refl, sym, ap, subst, ◌∙◌}
 use Rattle.std.specs.Prelude.{ℤ}
 use Rattle.tp_value.specs.declared.Place.{Place}
 use Rattle.tp_value.specs.declared.Stop.{Stop}
-use Rattle.tp_value.specs.declared.Stop.TheVariants.{Done, NoFuel, Trap}
+use Rattle.tp_value.specs.declared.Stop.TheVariants.{Done, Left, NoFuel, Trap}
 use Rattle.loop_syntax.specs.declared.Program.{Program}
 use Rattle.loop_meaning.specs.declared.value.Variable.{Variable}
 use Rattle.loop_meaning.specs.State as meaning
@@ -57,6 +57,7 @@ module _ (p : Program) (m : Modes) (fuel room : ℕ) (f g : List ℕ) (place sec
           → (then_end c.ran.notes (end_by stop c.ran.state) (ending_so v c)).end
           ≡ Out stop c.ran.state.ticks c.ran.state.output
       by_stop Done early = absurd early
+      by_stop (Left number) early = absurd early
       by_stop (Trap kind at) early = refl
       by_stop NoFuel early = refl
 
@@ -81,6 +82,7 @@ module _ (p : Program) (m : Modes) (fuel room : ℕ) (f g : List ℕ) (place sec
             → (then_end r.notes (end_by stop (with_value Low.value Low.ran.state)) behind_both).end
             ≡ Out stop Low.ran.state.ticks Low.ran.state.output
         by_stop Done early = absurd early
+        by_stop (Left number) early = absurd early
         by_stop (Trap kind at) early = refl
         by_stop NoFuel early = refl
 
@@ -99,6 +101,7 @@ module _ (p : Program) (m : Modes) (fuel room : ℕ) (f g : List ℕ) (place sec
             ap (λ (q : Result). q.end) (from_low is)
             ∙ (ap (λ (q : Result). q.end) (after_next Low.value (Next Low.ran.state))
             ∙ next_early Low.value (Next Low.ran.state) early)
+        by_low (Left number) is early = absurd (subst IsEarly is early)
         by_low (Trap kind at) is early =
             low_early (Trap kind at) is tt
             ∙ ap (λ stop. Out stop Low.ran.state.ticks Low.ran.state.output) (sym is)
@@ -128,5 +131,6 @@ module _ (p : Program) (m : Modes) (fuel room : ℕ) (f g : List ℕ) (place sec
             (ending_so Low.value (Next Low.ran.state))) so)
             ∙ sym (noting_twice r.notes (Next Low.ran.state).ran.notes
             (ending_so Low.value (Next Low.ran.state) (Next Low.ran.state).ran.state)))
+        by_low (Left number) is so = let wrong : (Left number) ≡ Done = sym is ∙ so in cc
         by_low (Trap kind at) is so = let wrong : Trap kind at ≡ Done = sym is ∙ so in cc
         by_low NoFuel is so = let wrong : NoFuel ≡ Done = sym is ∙ so in cc

@@ -10,7 +10,7 @@ use Rattle.std.proofs.lemmas.Int.{ints}
 use Rattle.stack_marks.specs.declared.mark.Mark.{Mark}
 use Rattle.stack_marks.specs.Stacks.{StackValue, word_at}
 use Rattle.tp_value.specs.declared.Stop.{Stop}
-use Rattle.tp_value.specs.declared.Stop.TheVariants.{Done, Trap, NoFuel}
+use Rattle.tp_value.specs.declared.Stop.TheVariants.{Done, Left, Trap, NoFuel}
 use Rattle.loop_syntax.specs.declared.ParLoop.{ParLoop}
 use Rattle.loop_meaning.specs.InRange.{StateInRange}
 use Rattle.loop_meaning.specs.State as meaning
@@ -100,6 +100,7 @@ side_before scope l part before (Out stop ticks output) = refl
 
 end_output : (stop : Stop) (s : meaning.State) → output_of (end_by stop s) ≡ s.output
 end_output Done s = refl
+end_output (Left number) s = refl
 end_output (Trap kind there) s = refl
 end_output NoFuel s = refl
 
@@ -470,5 +471,6 @@ module _ {code : Listing} {heartbeat z : ℕ} {act : Activation} (d : Deep code 
                     d.q.site rest rest_held rest_at is),
                 goes_on is at_over given,
               )
+          by_stop (Left number) is = ends_early (rw is tt)
           by_stop (Trap kind place) is = ends_early (rw is tt)
           by_stop NoFuel is = ends_early (rw is tt)

@@ -10,7 +10,7 @@ use Rattle.stack_marks.specs.Stacks.{StackValue, word_at}
 use Rattle.tp_value.specs.declared.limits.TheConstants.{MAX_PAR_LENGTH}
 use Rattle.tp_value.specs.declared.Table.{Table}
 use Rattle.tp_value.specs.declared.Stop.{Stop}
-use Rattle.tp_value.specs.declared.Stop.TheVariants.{Done, Trap, NoFuel}
+use Rattle.tp_value.specs.declared.Stop.TheVariants.{Done, Left, Trap, NoFuel}
 use Rattle.loop_meaning.specs.InRange.{InRange, StateInRange}
 use Rattle.loop_meaning.specs.State as meaning
 use Rattle.loop_meaning.specs.State.{Chance, Note, Ran, Writes, go_on, has_cell, table_of}
@@ -72,6 +72,7 @@ notes_alone R W Done r is keeps = without r.notes keeps
     without : (ns : List Note) → NotesKeep R W (ns ++ []) → NotesKeep R W ns
     without [] all = tt
     without (n ∷ ns) all = (all.0, without ns all.1)
+notes_alone R W (Left number) r is keeps = keeps
 notes_alone R W (Trap kind place) r is keeps = keeps
 notes_alone R W NoFuel r is keeps = keeps
 

@@ -13,7 +13,7 @@ use Rattle.tp_value.specs.declared.limits.TheConstants.{MAX_CALL_DEPTH, MAX_PAR_
 use Rattle.tp_value.specs.declared.limits.TheConstants.{MAX_PAR_NESTING}
 use Rattle.tp_value.specs.declared.Table.{Table}
 use Rattle.tp_value.specs.declared.Stop.{Stop}
-use Rattle.tp_value.specs.declared.Stop.TheVariants.{Done, Trap, NoFuel}
+use Rattle.tp_value.specs.declared.Stop.TheVariants.{Done, Left, Trap, NoFuel}
 use Rattle.loop_syntax.specs.declared.ParLoop.{ParLoop}
 use Rattle.loop_syntax.specs.declared.Program.{Program}
 use Rattle.loop_syntax.specs.declared.Stmt.TheVariants.{Par}
@@ -285,6 +285,7 @@ module _ {code : Listing} {heartbeat z : ℕ} {act : Activation} (d : Deep code 
       → side_of (the_target code (target_label d.q.site.label)) stop last
       ≡ side_by scope d.q.loop part (out stop st).end
   early_side part Done st last early ticks printed = absurd early
+  early_side part (Left number) st last early ticks printed = absurd early
   early_side part (Trap kind place) st last early ticks printed =
       rw ticks (sym (early_end part (Trap kind place) st last.output tt printed))
   early_side part NoFuel st last early ticks printed =

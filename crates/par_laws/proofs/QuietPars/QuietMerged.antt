@@ -8,7 +8,7 @@ use Rattle.std.proofs.lemmas.Int.{ints}
 use Rattle.stack_marks.specs.declared.mark.Mark.{Mark}
 use Rattle.stack_marks.specs.Stacks.{StackValue, word_at}
 use Rattle.tp_value.specs.declared.Stop.{Stop}
-use Rattle.tp_value.specs.declared.Stop.TheVariants.{Done, Trap, NoFuel}
+use Rattle.tp_value.specs.declared.Stop.TheVariants.{Done, Left, Trap, NoFuel}
 use Rattle.loop_syntax.specs.declared.Program.{Program}
 use Rattle.loop_meaning.specs.declared.value.Variable.{Variable}
 use Rattle.loop_meaning.specs.InRange.{StateInRange}
@@ -81,6 +81,7 @@ result_fin r is = rw is (ap (λ (ns : List meaning.Note). record { notes = ns; e
 pub result_out : (r : Ran) (x : Stop) → IsEarly x → r.stop ≡ x
     → noting r.notes (out x r.state) ≡ result r
 result_out r Done early is = absurd early
+result_out r (Left number) early is = absurd early
 result_out r (Trap kind place) early is = rw is (out_noting r.notes (Trap kind place) r.state)
 result_out r NoFuel early is = rw is (out_noting r.notes NoFuel r.state)
 
@@ -408,5 +409,6 @@ module _ (code : Listing) (heartbeat z : ℕ) (act : Activation) (q : ParAt code
                   q.site rest rest_held rest_at is,
               goes_on is at_over given,
             )
+        by_stop (Left number) is = ends_early (rw is tt)
         by_stop (Trap kind place) is = ends_early (rw is tt)
         by_stop NoFuel is = ends_early (rw is tt)

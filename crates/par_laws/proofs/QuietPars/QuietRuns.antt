@@ -7,7 +7,7 @@ use Rattle.std.proofs.lemmas.Bool.{cases_lt}
 use Rattle.std.proofs.lemmas.Int.{ints}
 use Rattle.std.proofs.lemmas.List.Elements.{All-cons, All-nil}
 use Rattle.tp_value.specs.declared.limits.TheConstants.{MAX_CALL_DEPTH}
-use Rattle.tp_value.specs.declared.Stop.TheVariants.{Done, Trap, NoFuel}
+use Rattle.tp_value.specs.declared.Stop.TheVariants.{Done, Left, Trap, NoFuel}
 use Rattle.tp_value.specs.declared.Stop.{Stop}
 use Rattle.loop_syntax.specs.declared.Expr.TheVariants.{Int}
 use Rattle.loop_syntax.specs.declared.ParLoop.{ParLoop}
@@ -81,6 +81,7 @@ after_nothing k r = go r.stop
   where
     go : (x : Stop) → (go_on x r (run_list k [])).state ≡ r.state
     go Done = refl
+    go (Left number) = refl
     go (Trap a b) = refl
     go NoFuel = refl
 

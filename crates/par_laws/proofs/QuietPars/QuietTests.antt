@@ -8,7 +8,7 @@ use Rattle.beat_count.specs.Heartbeat.{counted, is_diverted}
 use Rattle.beat_count.specs.Ticks.{is_tick_allowed, ticked}
 use Rattle.stack_marks.specs.declared.mark.Mark.{Mark}
 use Rattle.tp_value.specs.declared.Stop.{Stop}
-use Rattle.tp_value.specs.declared.Stop.TheVariants.{Done, Trap, NoFuel}
+use Rattle.tp_value.specs.declared.Stop.TheVariants.{Done, Left, Trap, NoFuel}
 use Rattle.tp_value.specs.Number.{truth}
 use Rattle.loop_meaning.specs.declared.value.Variable.{Variable}
 use Rattle.loop_meaning.specs.State as meaning
@@ -59,6 +59,7 @@ noted_by ns Done r g =
     let last : Ran = g r.state in
     ap (λ (ks : List Note). record { stop = last.stop; state = last.state; notes = ks })
     (append_assoc ns r.notes last.notes)
+noted_by ns (Left number) r g = refl
 noted_by ns (Trap kind place) r g = refl
 noted_by ns NoFuel r g = refl
 

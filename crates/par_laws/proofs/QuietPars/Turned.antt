@@ -10,7 +10,7 @@ use Rattle.beat_count.specs.Heartbeat.{counted}
 use Rattle.beat_count.specs.Ticks.{ticked}
 use Rattle.stack_marks.specs.Stacks.{StackValue, word_at, with_word}
 use Rattle.tp_value.specs.declared.Stop.{Stop}
-use Rattle.tp_value.specs.declared.Stop.TheVariants.{Done, Trap, NoFuel}
+use Rattle.tp_value.specs.declared.Stop.TheVariants.{Done, Left, Trap, NoFuel}
 use Rattle.loop_meaning.specs.declared.value.Variable.{Variable}
 use Rattle.loop_meaning.specs.InRange.{InRange}
 use Rattle.loop_meaning.specs.State as meaning
@@ -56,6 +56,7 @@ use Rattle.scene_laws.proofs.Scenes.Variables.{held_same, var_names}
 after_by : (x : Stop) (r : Ran) (g : meaning.State → Ran) → r.stop ≡ x
     → result (go_on x r g) ≡ then_end r.notes (end_by x r.state) (λ s. result (g s))
 after_by Done r g is = refl
+after_by (Left number) r g is = rw is refl
 after_by (Trap kind place) r g is = rw is refl
 after_by NoFuel r g is = rw is refl
 

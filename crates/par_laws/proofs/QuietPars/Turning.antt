@@ -12,7 +12,7 @@ use Rattle.stack_marks.specs.Stacks.{StackValue, word_at}
 use Rattle.tp_value.specs.declared.limits.TheConstants.{MAX_PAR_NESTING}
 use Rattle.tp_value.specs.declared.Table.{Table}
 use Rattle.tp_value.specs.declared.Stop.{Stop}
-use Rattle.tp_value.specs.declared.Stop.TheVariants.{Done, Trap, NoFuel}
+use Rattle.tp_value.specs.declared.Stop.TheVariants.{Done, Left, Trap, NoFuel}
 use Rattle.loop_syntax.specs.declared.ParLoop.{ParLoop}
 use Rattle.loop_meaning.specs.declared.value.Variable.{Variable}
 use Rattle.loop_meaning.specs.State as meaning
@@ -243,6 +243,7 @@ module _ (code : Listing) (heartbeat z : ℕ) (act : Activation) (q : ParAt code
       → side_of (the_target code (target_label q.site.label)) stop last
       ≡ side_by q.is_site.scope q.loop p (out stop st).end
   early_side p Done st last early ticks printed = absurd early
+  early_side p (Left number) st last early ticks printed = absurd early
   early_side p (Trap kind place) st last early ticks printed =
       rw ticks (sym (early_end p (Trap kind place) st last.output tt printed))
   early_side p NoFuel st last early ticks printed =

@@ -9,7 +9,7 @@ use Rattle.std.specs.Prelude.{pos, ◌+ℤ◌}
 use Rattle.beat_count.specs.Joining.{joined_stop, joined_ticks}
 use Rattle.slices.specs.Holding.{Holding}
 use Rattle.tp_value.specs.declared.Stop.{Stop}
-use Rattle.tp_value.specs.declared.Stop.TheVariants.{Done, Trap, NoFuel}
+use Rattle.tp_value.specs.declared.Stop.TheVariants.{Done, Left, Trap, NoFuel}
 use Rattle.tpal_syntax.specs.Listing.{Listing}
 use Rattle.tpal_syntax.specs.Parts as syntax
 use Rattle.tpal_syntax.specs.declared.notes.CarryAt.{CarryAt}
@@ -188,6 +188,7 @@ module _ (code : Listing) (p : Program) (outer : Modes) (l : ParLoop) (fuel : �
 
     done_is : (stop : Stop) → is_done stop ≡ true → stop ≡ Done
     done_is Done is_so = refl
+    done_is (Left number) is_so = absurd (let no_way : false ≡ true = is_so in cc)
     done_is (Trap kind place) is_so = absurd (let no_way : false ≡ true = is_so in cc)
     done_is NoFuel is_so = absurd (let no_way : false ≡ true = is_so in cc)
 
@@ -350,6 +351,7 @@ module _ (code : Listing) (p : Program) (outer : Modes) (l : ParLoop) (fuel : �
           → joined_by stop whole.state.ticks rest.output (loop_target site) rest left_end child_end
           ≡ Ends (ended_together rest.goal stop whole.state.ticks rest.output)
       by_stop Done early = absurd early
+      by_stop (Left number) early = absurd early
       by_stop (Trap kind place) early = refl
       by_stop NoFuel early = refl
 

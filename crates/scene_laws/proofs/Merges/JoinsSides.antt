@@ -12,6 +12,7 @@ use Rattle.slices.specs.Holding.{Holding, cell_at}
 use Rattle.slices.proofs.JoinLaws.{cell_at-held_where}
 use Rattle.tp_value.specs.declared.Stop.{Stop}
 use Rattle.tp_value.specs.declared.Stop.TheVariants.{Done, Trap, NoFuel}
+use Rattle.tp_value.specs.declared.Stop.TheVariants as stop
 use Rattle.tp_value.specs.declared.Table.{Table}
 use Rattle.tpal_syntax.specs.Listing.{Listing}
 use Rattle.tpal_syntax.specs.Parts as syntax
@@ -119,16 +120,19 @@ module _ (scope : Scope) (l : ParLoop) (part : Part) (s : State) where
 
   pub side_stop : (stop : Stop) → (ends_by stop).stop ≡ stop
   side_stop Done = refl
+  side_stop (stop.Left number) = refl
   side_stop (Trap kind place) = refl
   side_stop NoFuel = refl
 
   pub side_ticks : (stop : Stop) → (ends_by stop).ticks ≡ s.ticks
   side_ticks Done = refl
+  side_ticks (stop.Left number) = refl
   side_ticks (Trap kind place) = refl
   side_ticks NoFuel = refl
 
   pub side_output : (stop : Stop) → (ends_by stop).output ≡ drop (length part.before) s.output
   side_output Done = refl
+  side_output (stop.Left number) = refl
   side_output (Trap kind place) = refl
   side_output NoFuel = refl
 
@@ -154,11 +158,13 @@ module _ (scope : Scope) (l : ParLoop) (part : Part) (s : State) where
     slices = parts_numbered scope part.region s.tables l.carries.items 0
         ∙ sym (ap (map syntax.table_of) carries);
   }
+  side_of_target target renames carries (stop.Left number) = record { words = tt; slices = tt }
   side_of_target target renames carries (Trap kind place) = record { words = tt; slices = tt }
   side_of_target target renames carries NoFuel = record { words = tt; slices = tt }
 
   pub side_belongs : (code : Listing) (stop : Stop) → SideBelongsTo code (ends_by stop)
   side_belongs code Done = words_belong code 0 part.rec (numbers_in l.reduces.items s.vars)
+  side_belongs code (stop.Left number) = All-nil (λ (w : ℕ × Word). IsWordOf code w.1)
   side_belongs code (Trap kind place) = All-nil (λ (w : ℕ × Word). IsWordOf code w.1)
   side_belongs code NoFuel = All-nil (λ (w : ℕ × Word). IsWordOf code w.1)
 
@@ -191,6 +197,7 @@ module _ (scope : Scope) (l : ParLoop) (part : Part) (s : State) where
     pub side_parts : is_carried l.carries.items x ≡ true → (stop : Stop)
         → part_of (ends_by stop) (table_number scope x) ≡ cond (is_done stop) (side_part ∷ []) []
     side_parts is Done = part_found l.carries.items is
+    side_parts is (stop.Left number) = refl
     side_parts is (Trap kind place) = refl
     side_parts is NoFuel = refl
 

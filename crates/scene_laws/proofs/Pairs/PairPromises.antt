@@ -14,7 +14,7 @@ use Rattle.std.proofs.Math.Seq.{drop-append_seam, take-append_seam}
 use Rattle.std.specs.List.{AllByRecursion}
 use Rattle.tp_value.specs.Number.{wrapped}
 use Rattle.tp_value.specs.declared.Stop.{Stop}
-use Rattle.tp_value.specs.declared.Stop.TheVariants.{Done, NoFuel, Trap}
+use Rattle.tp_value.specs.declared.Stop.TheVariants.{Done, Left, NoFuel, Trap}
 use Rattle.tp_value.specs.declared.Outcome.{Outcome}
 use Rattle.loop_meaning.specs.InRange.{InRange}
 use Rattle.loop_meaning.specs.State as meaning
@@ -239,9 +239,11 @@ pub early_ended : (code : Listing) (at : Goal) (stop : Stop) (ticks : ℕ) (last
     → IsEarly stop → last.fuel.ticks ≡ ticks
     → ended_at at code stop last ≡ ended_together at stop ticks last.output
 early_ended code goal.Root Done ticks last early same = absurd early
+early_ended code goal.Root (Left number) ticks last early same = absurd early
 early_ended code goal.Root (Trap kind place) ticks last early same = rw same refl
 early_ended code goal.Root NoFuel ticks last early same = rw same refl
 early_ended code (goal.At rec side target) Done ticks last early same = absurd early
+early_ended code (goal.At rec side target) (Left number) ticks last early same = absurd early
 early_ended code (goal.At rec side target) (Trap kind place) ticks last early same = rw same refl
 early_ended code (goal.At rec side target) NoFuel ticks last early same = rw same refl
 

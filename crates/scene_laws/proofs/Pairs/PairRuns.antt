@@ -6,7 +6,7 @@ use Rattle.std.proofs.lemmas.List.Elements.{All-cons, All-nil}
 use Rattle.beat_count.specs.Joining.{joined_stop, joined_ticks}
 use Rattle.tp_value.specs.declared.Place.{Place}
 use Rattle.tp_value.specs.declared.Stop.{Stop}
-use Rattle.tp_value.specs.declared.Stop.TheVariants.{Done, NoFuel, Trap}
+use Rattle.tp_value.specs.declared.Stop.TheVariants.{Done, Left, NoFuel, Trap}
 use Rattle.loop_syntax.specs.declared.Program.{Program}
 use Rattle.loop_meaning.specs.Calls.{call_at}
 use Rattle.loop_meaning.specs.Frames.{one_call, two_calls_of}
@@ -69,32 +69,38 @@ module _ (k : ℕ) (before : List ℕ) (s : meaning.State) where
 
   side_stop : (stop : Stop) → (side stop).stop ≡ stop
   side_stop Done = refl
+  side_stop (Left number) = refl
   side_stop (Trap kind place) = refl
   side_stop NoFuel = refl
 
   side_ticks : (stop : Stop) → (side stop).ticks ≡ s.ticks
   side_ticks Done = refl
+  side_ticks (Left number) = refl
   side_ticks (Trap kind place) = refl
   side_ticks NoFuel = refl
 
   side_output : (stop : Stop) → (side stop).output ≡ drop (length before) s.output
   side_output Done = refl
+  side_output (Left number) = refl
   side_output (Trap kind place) = refl
   side_output NoFuel = refl
 
   pub side_words : (stop : Stop) → stop ≡ Done
       → (side stop).words ≡ (0, Int (value_of s)) ∷ (24, Rec k) ∷ []
   side_words Done done = refl
+  side_words (Left number) done = cc
   side_words (Trap kind place) done = cc
   side_words NoFuel done = cc
 
   pub side_slices : (stop : Stop) → (side stop).slices ≡ []
   side_slices Done = refl
+  side_slices (Left number) = refl
   side_slices (Trap kind place) = refl
   side_slices NoFuel = refl
 
   is_side : (site : CallSite) (stop : Stop) → IsSideOf (call_target site) (side stop)
   is_side site Done = record { words = refl; slices = refl }
+  is_side site (Left number) = record { words = tt; slices = tt }
   is_side site (Trap kind place) = record { words = tt; slices = tt }
   is_side site NoFuel = record { words = tt; slices = tt }
 
@@ -102,6 +108,7 @@ module _ (k : ℕ) (before : List ℕ) (s : meaning.State) where
   side_belongs code Done =
       All-cons (IsIn code) (0, Int (value_of s)) ((24, Rec k) ∷ []) tt
       (All-cons (IsIn code) (24, Rec k) [] tt (All-nil (IsIn code)))
+  side_belongs code (Left number) = All-nil (IsIn code)
   side_belongs code (Trap kind place) = All-nil (IsIn code)
   side_belongs code NoFuel = All-nil (IsIn code)
 
@@ -169,6 +176,7 @@ module _ (p : Program) (m : Modes) (fuel room : ℕ) (f g : List ℕ) (place sec
       where
         by_stop : (stop : Stop) → r.stop ≡ stop → r.state.ticks ≤ fuel + 1
         by_stop Done is = let few = sound.within (λ spent. cc) in omega (arith, few)
+        by_stop (Left number) is = omega (arith, sound.spent is)
         by_stop (Trap kind at) is = let few = sound.within (λ spent. cc) in omega (arith, few)
         by_stop NoFuel is = omega (arith, sound.spent is)
 
@@ -301,5 +309,6 @@ module _ (p : Program) (m : Modes) (fuel room : ℕ) (f g : List ℕ) (place sec
               right_side
               ≡ Ends (ended_together rest.goal stop whole.state.ticks both_printed)
           by_stop Done early = absurd early
+          by_stop (Left number) early = absurd early
           by_stop (Trap kind at) early = refl
           by_stop NoFuel early = refl

@@ -7,7 +7,7 @@ use Rattle.beat_count.specs.Ticks.{is_tick_allowed, ticked}
 use Rattle.tp_value.specs.declared.Place.{Place}
 use Rattle.tp_value.specs.declared.TrapKind.TheVariants.{Deep}
 use Rattle.tp_value.specs.declared.Stop.{Stop}
-use Rattle.tp_value.specs.declared.Stop.TheVariants.{Done, Trap, NoFuel}
+use Rattle.tp_value.specs.declared.Stop.TheVariants.{Done, Left, Trap, NoFuel}
 use Rattle.loop_syntax.specs.declared.Expr.{Expr}
 use Rattle.loop_syntax.specs.declared.Func.{Func}
 use Rattle.loop_syntax.specs.declared.Name.{Name}
@@ -95,6 +95,7 @@ module _ (e : Expr) (vs : List Variable) (r : Ran) (g : ℤ → meaning.State �
       ends_with (eval r.state.vars r.state.tables e).answer (ending x)
       ≡ then (then_end r.notes (end_by x r.state) (value_then e)) (going_back vs g k)
   stopped Done is = answered (eval r.state.vars r.state.tables e).answer
+  stopped (Left number) is = rw is refl
   stopped (Trap kind place) is = rw is refl
   stopped NoFuel is = rw is refl
 

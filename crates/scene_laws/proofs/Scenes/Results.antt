@@ -1,7 +1,7 @@
 -- How a run ends, as far as a task tells it, and what follows it.
 use Rattle.std.proofs.Common.{◌≡◌, ℕ, List, [], ◌++◌, take, refl, sym, ap, append-nil, append_assoc}
 use Rattle.tp_value.specs.declared.Stop.{Stop}
-use Rattle.tp_value.specs.declared.Stop.TheVariants.{Done, Trap, NoFuel}
+use Rattle.tp_value.specs.declared.Stop.TheVariants.{Done, Left, Trap, NoFuel}
 use Rattle.loop_meaning.specs.State as meaning
 use Rattle.loop_meaning.specs.State.{Note, Ran, after, leave_block, noted}
 
@@ -17,6 +17,7 @@ pub record Result : Type 0 where
 
 abbrev pub end_by : Stop → meaning.State → End
 end_by Done s = Fin s
+end_by (Left number) s = Out (Left number) s.ticks s.output
 end_by (Trap kind place) s = Out (Trap kind place) s.ticks s.output
 end_by NoFuel s = Out NoFuel s.ticks s.output
 
@@ -84,6 +85,7 @@ go_then : (x : Stop) (r : Ran) (g : meaning.State → Ran) (k : meaning.State �
     then (result (meaning.go_on x r g)) k
     ≡ then_end r.notes (end_by x r.state) (λ s. then (result (g s)) k)
 go_then Done r g k is = noting_then r.notes (result (g r.state)) k
+go_then (Left number) r g k is = rw is refl
 go_then (Trap kind place) r g k is = rw is refl
 go_then NoFuel r g k is = rw is refl
 
@@ -98,6 +100,7 @@ left n s = record s { vars = take n s.vars }
 left_by : (ns : List Note) (x : Stop) (s : meaning.State) (n : ℕ) (k : meaning.State → Result) →
     then_end ns (end_by x (left n s)) k ≡ then_end ns (end_by x s) (λ t. k (left n t))
 left_by ns Done s n k = refl
+left_by ns (Left number) s n k = refl
 left_by ns (Trap kind place) s n k = refl
 left_by ns NoFuel s n k = refl
 
