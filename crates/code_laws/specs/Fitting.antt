@@ -15,7 +15,7 @@ use Rattle.loop_syntax.specs.declared.Program.{Program}
 use Rattle.loop_syntax.specs.declared.Reduce.{Reduce}
 use Rattle.loop_syntax.specs.declared.Stmt.{Stmt, Row_of-Stmt, end_of-Stmt, more_of-Stmt}
 use Rattle.loop_syntax.specs.declared.Stmt.TheVariants.{Let, Set, Put, If', While', Loop', Par'}
-use Rattle.loop_syntax.specs.declared.Stmt.TheVariants.{Fold, Call, Both, Print, Emit}
+use Rattle.loop_syntax.specs.declared.Stmt.TheVariants.{Fold, Call, Both, Print, Emit, Leave, Fill}
 use Rattle.loop_syntax.specs.declared.TableDecl.{TableDecl}
 use Rattle.loop_syntax.specs.declared.TableDecl.TheVariants.{Input, Made}
 use Rattle.loop_rules.specs.Declarations.{declared_list, table_of_decl}
@@ -91,6 +91,8 @@ module _ (tables : List (List ℕ)) (functions : List Entry) (most : ℕ) where
         × IsCall names g
     Fits round names (Print place e) = IsVisible tables names e
     Fits round names (Emit place t) = IsTrue (is_in tables t.text.items)
+    Fits round names (Leave x e) = ⊥
+    Fits round names (Fill f t r es) = ⊥
 
     pub FitInRow : {m : _} → Round → List (List ℕ) → Row_of-Stmt m → Type 0
     FitInRow round names end_of-Stmt = ⊤

@@ -4,6 +4,8 @@
 pub mod Around
 -- which `par` loops occur in statements, with what is round them; and what is called there
 pub mod Occurring
+-- statements that have code, in which no run is left
+pub mod Built
 -- what the rules of a program say of its `par` loops, where these may be cut, and of its calls
 pub mod Cutting
 -- what the rules say of the `par` loops and of the calls in statements that keep to them

@@ -5,7 +5,7 @@ use Rattle.loop_syntax.specs.declared.Expr.{Expr}
 use Rattle.loop_syntax.specs.declared.Expr.TheVariants.{Int, Var, Cell', Rows, Cols, Neg', Bin'}
 use Rattle.loop_syntax.specs.declared.Stmt.{Stmt, Row_of-Stmt, end_of-Stmt, more_of-Stmt}
 use Rattle.loop_syntax.specs.declared.Stmt.TheVariants.{Let, Set, Put, If', While', Loop', Par'}
-use Rattle.loop_syntax.specs.declared.Stmt.TheVariants.{Fold, Call, Both, Print, Emit}
+use Rattle.loop_syntax.specs.declared.Stmt.TheVariants.{Fold, Call, Both, Print, Emit, Leave, Fill}
 use Rattle.loop_syntax.specs.declared.Func.{Func}
 use Rattle.loop_syntax.specs.declared.TableDecl.{TableDecl}
 use Rattle.loop_syntax.specs.declared.TableDecl.TheVariants.{Input, Made}
@@ -63,6 +63,8 @@ abbrev mutual
   blocks (Both x f y g) = for_parallel + blocks_of_exprs f.args.items + blocks_of_exprs g.args.items
   blocks (Print place e) = for_statement + blocks_of_expr e
   blocks (Emit place t) = for_statement
+  blocks (Leave x e) = for_statement + blocks_of_expr e
+  blocks (Fill f t r es) = for_statement + blocks_of_exprs es.items
 
   pub blocks_of_all : {m : _} → Row_of-Stmt m → ℕ
   blocks_of_all end_of-Stmt = 0

@@ -5,7 +5,7 @@ use Rattle.loop_syntax.specs.declared.Expr.{Expr}
 use Rattle.loop_syntax.specs.declared.Func.{Func}
 use Rattle.loop_syntax.specs.declared.Stmt.{Stmt, Row_of-Stmt, end_of-Stmt, more_of-Stmt}
 use Rattle.loop_syntax.specs.declared.Stmt.TheVariants.{Let, Set, Put, If', While', Loop', Par'}
-use Rattle.loop_syntax.specs.declared.Stmt.TheVariants.{Fold, Call, Both, Print, Emit}
+use Rattle.loop_syntax.specs.declared.Stmt.TheVariants.{Fold, Call, Both, Print, Emit, Leave, Fill}
 use Rattle.loop_syntax.specs.declared.TableDecl.{TableDecl}
 use Rattle.loop_syntax.specs.declared.TableDecl.TheVariants.{Input, Made}
 use Rattle.loop_rules.specs.Limits.{height}
@@ -34,6 +34,8 @@ abbrev mutual
   AreLow (Both x f y g) = AreLowArguments f.args.items × AreLowArguments g.args.items
   AreLow (Print place e) = IsLow e
   AreLow (Emit place t) = ⊤
+  AreLow (Leave x e) = IsLow e
+  AreLow (Fill f t r es) = ⊤
 
   pub RowIsLow : {m : _} → Row_of-Stmt m → Type 0
   RowIsLow end_of-Stmt = ⊤

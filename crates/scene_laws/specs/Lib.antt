@@ -32,6 +32,8 @@ pub mod Code
 pub mod Sizes
 -- where no task is cut
 pub mod Quiet
+-- which programs there is code for
+pub mod Built
 -- which expressions are low enough for the registers
 pub mod Heights
 -- the tables of a code, those that are given, and what a task holds of them when it begins

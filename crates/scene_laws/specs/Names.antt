@@ -6,7 +6,7 @@ use Rattle.std.specs.declared.alloc.Global.{Global}
 use Rattle.loop_rules.specs.Names.{is_in}
 use Rattle.loop_syntax.specs.declared.Stmt.{Stmt}
 use Rattle.loop_syntax.specs.declared.Stmt.TheVariants.{Let, Set, Put, If', While', Loop', Par'}
-use Rattle.loop_syntax.specs.declared.Stmt.TheVariants.{Fold, Call, Both, Print, Emit}
+use Rattle.loop_syntax.specs.declared.Stmt.TheVariants.{Fold, Call, Both, Print, Emit, Leave, Fill}
 use Rattle.expr_lower.specs.declared.scope.Scope.{Scope}
 use Rattle.expr_lower.specs.Scopes.{has_cell_in, register_in}
 use Rattle.scene_laws.specs.Layout.{value_cell}
@@ -73,6 +73,8 @@ names_after names (Call x f) = names
 names_after names (Both x f y g) = names
 names_after names (Print place e) = names
 names_after names (Emit place t) = names
+names_after names (Leave x e) = names
+names_after names (Fill f t r es) = names
 
 abbrev pub names_after_list : List (List ℕ) → List Stmt → List (List ℕ)
 names_after_list names [] = names

@@ -5,7 +5,7 @@ use Rattle.loop_syntax.specs.declared.Func.{Func}
 use Rattle.loop_syntax.specs.declared.Reduce.{Reduce}
 use Rattle.loop_syntax.specs.declared.Stmt.{Stmt, Row_of-Stmt, end_of-Stmt, more_of-Stmt}
 use Rattle.loop_syntax.specs.declared.Stmt.TheVariants.{Let, Set, Put, If', While', Loop', Par'}
-use Rattle.loop_syntax.specs.declared.Stmt.TheVariants.{Fold, Call, Both, Print, Emit}
+use Rattle.loop_syntax.specs.declared.Stmt.TheVariants.{Fold, Call, Both, Print, Emit, Leave, Fill}
 
 -- whether no point of promotion can be reached in a statement, where none can in a call or one may
 abbrev mutual
@@ -22,6 +22,8 @@ abbrev mutual
   is_quiet calls (Both x f y g) = false
   is_quiet calls (Print place e) = true
   is_quiet calls (Emit place t) = true
+  is_quiet calls (Leave x e) = true
+  is_quiet calls (Fill f t r es) = true
 
   pub all_is_quiet : {m : _} → Bool → Row_of-Stmt m → Bool
   all_is_quiet calls end_of-Stmt = true

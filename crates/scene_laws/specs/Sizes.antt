@@ -10,7 +10,7 @@ use Rattle.loop_syntax.specs.declared.Func.{Func}
 use Rattle.loop_syntax.specs.declared.ParLoop.{ParLoop}
 use Rattle.loop_syntax.specs.declared.Stmt.{Stmt, Row_of-Stmt, end_of-Stmt, more_of-Stmt}
 use Rattle.loop_syntax.specs.declared.Stmt.TheVariants.{Let, Set, Put, If', While', Loop', Par'}
-use Rattle.loop_syntax.specs.declared.Stmt.TheVariants.{Fold, Call, Both, Print, Emit}
+use Rattle.loop_syntax.specs.declared.Stmt.TheVariants.{Fold, Call, Both, Print, Emit, Leave, Fill}
 use Rattle.loop_syntax.specs.declared.TableDecl.{TableDecl}
 use Rattle.loop_syntax.specs.declared.TableDecl.TheVariants.{Input, Made}
 use Rattle.loop_rules.specs.Declarations.{declared_in}
@@ -67,6 +67,8 @@ abbrev mutual
   added calls (Both x f y g) = trap_counts f.args.items + trap_counts g.args.items + 12
   added calls (Print place e) = trap_count e
   added calls (Emit place t) = 0
+  added calls (Leave x e) = trap_count e + 1
+  added calls (Fill f t r es) = 0
 
   pub added_by_all : {m : _} → Bool → Row_of-Stmt m → ℕ
   added_by_all calls end_of-Stmt = 0
@@ -135,6 +137,8 @@ abbrev mutual
   kept (Both x f y g) = kept_by_both (length g.args.items)
   kept (Print place e) = 0
   kept (Emit place t) = 0
+  kept (Leave x e) = 0
+  kept (Fill f t r es) = 0
 
   pub kept_by_all : {m : _} → Row_of-Stmt m → ℕ
   kept_by_all end_of-Stmt = 0

@@ -1,4 +1,4 @@
--- What the code of a program asks of it holds where it breaks no rule.
+-- What the code of a program asks of it holds where it breaks no rule and has no `leave`.
 use Rattle.std.proofs.Common.{◌≡◌, ℕ, ◌+◌, ◌≤◌, Bool, true, false, cond, List, [], ◌∷◌, ◌++◌}
 use Rattle.std.proofs.Common.{length, bytes_eq, Some, refl, subst, arith, Contains}
 use Rattle.std.specs.Prelude.{nat_eq}
@@ -25,9 +25,11 @@ use Rattle.loop_rules.specs.Sites.{Spot, Site, in_whole, in_list, in_params, in_
 use Rattle.loop_rules.specs.Sites.{in_func, in_funcs, in_main, sites, tables_of, top, func_spot}
 use Rattle.loop_rules.specs.Sites.{main_spot, spot_of_list}
 use Rattle.loop_check.specs.Unbroken.{NoneBroken}
+use Rattle.loop_check.proofs.Bools.{and_left, and_right}
 use Rattle.loop_check.proofs.Fine.{at_none, none_of, append_none_right}
 use Rattle.loop_check.proofs.Lists.{Each, each_left, each_right, each_of}
 use Rattle.code_laws.specs.Fitting.{SizesAreVisible, DeclsFit, FuncFits, MainFits, ProgramFits}
+use Rattle.scene_laws.specs.Built.{list_is_built, functions_are_built, program_is_built}
 use Rattle.scene_laws.specs.Heights.{DeclIsLow}
 use Rattle.scene_laws.specs.Names.{names_after_list}
 use Rattle.scene_laws.specs.Round.{outermost}
@@ -94,8 +96,8 @@ few_of (f ∷ fs) all x g e = go (bytes_eq f.name.text.items x) (few_of fs all.1
     go true rest e = (let is : f ≡ g = cc in subst (λ (h : Func). length h.params.items ≤ MAX_PARAMETERS) is all.0)
     go false rest e = rest e
 
-func_fits : (p : Program) (f : Func) → AreShort p.funcs.items → length f.params.items ≤ MAX_PARAMETERS → Each Keeps (in_func p f) → FuncFits p f
-func_fits p f short few k =
+func_fits : (p : Program) (f : Func) → AreShort p.funcs.items → length f.params.items ≤ MAX_PARAMETERS → list_is_built f.body.items ≡ true → Each Keeps (in_func p f) → FuncFits p f
+func_fits p f short few built k =
     let w : Spot = func_spot p f in
     let end : Spot = spot_of_list w f.body.items in
     let params : List Site = in_params (top OfFunc (tables_of p) p.funcs.items) f.params.items in
@@ -107,22 +109,22 @@ func_fits p f short few k =
     let within : length (f.params.items ++ declared_list f.body.items) ≤ MAX_DECLARED_VARIABLES = short_enough MAX_DECLARED_VARIABLES (f.params.items ++ declared_list f.body.items) k.0.limits in
     let named : length (texts f.params.items) ≡ length f.params.items = length-map f.params.items (λ (x : Name). x.text.items) in
     record {
-      fits = λ functions entries. fits_list functions (length f.params.items + length (declared_list f.body.items)) w outermost f.body.items entries (record { deep = refl; kept = tt }) (omega arith) body;
+      fits = λ functions entries. fits_list functions (length f.params.items + length (declared_list f.body.items)) w outermost f.body.items entries (record { deep = refl; kept = tt }) (omega arith) built body;
       seen = whole_visible (with_names w (names_after_list (texts f.params.items) f.body.items)) f.result last;
       low = (low_list w f.body.items short body, whole_low (with_names w (names_after_list (texts f.params.items) f.body.items)) f.result last);
       few_parameters = few;
       few = omega arith;
     }
 
-funcs_fit : (p : Program) (before fs : List Func) → AreShort p.funcs.items → AllByRecursion (λ f. length f.params.items ≤ MAX_PARAMETERS) fs → Each Keeps (in_funcs p before fs) → AllByRecursion (FuncFits p) fs
-funcs_fit p before [] short few k = tt
-funcs_fit p before (f ∷ fs) short few k =
+funcs_fit : (p : Program) (before fs : List Func) → AreShort p.funcs.items → AllByRecursion (λ f. length f.params.items ≤ MAX_PARAMETERS) fs → functions_are_built fs ≡ true → Each Keeps (in_funcs p before fs) → AllByRecursion (FuncFits p) fs
+funcs_fit p before [] short few built k = tt
+funcs_fit p before (f ∷ fs) short few built k =
     let rest : List Site = in_funcs p (before ++ f ∷ []) fs in
-    (func_fits p f short few.0 (each_left Keeps (in_func p f) rest k.1), funcs_fit p (before ++ f ∷ []) fs short few.1 (each_right Keeps (in_func p f) rest k.1))
+    (func_fits p f short few.0 (and_left (list_is_built f.body.items) (functions_are_built fs) built) (each_left Keeps (in_func p f) rest k.1), funcs_fit p (before ++ f ∷ []) fs short few.1 (and_right (list_is_built f.body.items) (functions_are_built fs) built) (each_right Keeps (in_func p f) rest k.1))
 
 -- ---- the program
 
-module _ (p : Program) (none : NoneBroken p) where
+module _ (p : Program) (none : NoneBroken p) (built : program_is_built p ≡ true) where
   keeps_at : (s : Site) → Contains (sites p) s → Keeps s
   keeps_at s h = record {
     names = none_of (misnamed s.act s.spot) (λ q k. none.unbroken Names q (record { where_at = s; stands = h; breaks = k }));
@@ -150,7 +152,7 @@ module _ (p : Program) (none : NoneBroken p) where
 
   main_fits : MainFits p
   main_fits = record {
-    fits = λ functions entries. fits_list functions (length (declared_list p.main.items)) (main_spot p) outermost p.main.items entries (record { deep = refl; kept = tt }) (omega arith) main_keeps.1;
+    fits = λ functions entries. fits_list functions (length (declared_list p.main.items)) (main_spot p) outermost p.main.items entries (record { deep = refl; kept = tt }) (omega arith) (and_right (functions_are_built p.funcs.items) (list_is_built p.main.items) built) main_keeps.1;
     low = low_list (main_spot p) p.main.items are_short main_keeps.1;
     few = short_enough MAX_DECLARED_VARIABLES (declared_list p.main.items) main_keeps.0.limits;
   }
@@ -158,7 +160,7 @@ module _ (p : Program) (none : NoneBroken p) where
   pub program_fits : ProgramFits p
   program_fits = record {
     main = main_fits;
-    functions = funcs_fit p [] p.funcs.items are_short (has_few p [] p.funcs.items funcs_keep) funcs_keep;
+    functions = funcs_fit p [] p.funcs.items are_short (has_few p [] p.funcs.items funcs_keep) (and_left (functions_are_built p.funcs.items) (list_is_built p.main.items) built) funcs_keep;
     declarations = decls_fit p.funcs.items [] p.tables.items tables_keep;
     few_tables = (let few : 0 + length p.tables.items ≤ MAX_TABLES = few_decls p.funcs.items [] p.tables.items (omega arith) tables_keep in omega arith);
     tables_differ = tables_distinct p.funcs.items p.tables.items tables_keep;

@@ -2,7 +2,7 @@
 use Rattle.std.proofs.Common.{List, [], ◌∷◌, ◌++◌}
 use Rattle.loop_syntax.specs.declared.Stmt.{Stmt, Row_of-Stmt, end_of-Stmt, more_of-Stmt}
 use Rattle.loop_syntax.specs.declared.Stmt.TheVariants.{Let, Set, Put, If', While', Loop', Par'}
-use Rattle.loop_syntax.specs.declared.Stmt.TheVariants.{Fold, Call, Both, Print, Emit}
+use Rattle.loop_syntax.specs.declared.Stmt.TheVariants.{Fold, Call, Both, Print, Emit, Leave, Fill}
 use Rattle.loop_rules.specs.Sites.{Assigns, AssignsBoth, Spot, Site, site, in_whole, in_app}
 use Rattle.loop_rules.specs.Sites.{in_carries, in_stmt, in_all, in_list, spot_after, in_loop}
 use Rattle.loop_rules.specs.Sites.{in_par}
@@ -39,8 +39,8 @@ mutual
   low_stmt w (Par' place x a b carry_place carries reduces p body) short k =
       let clauses : List Site = in_carries w carries.items in
       let inside : List Site = in_all (in_par w x carries.items reduces.items) body in
-      let behind : Each Keeps (in_whole w b ++ (clauses ++ inside)) = each_right Keeps (in_whole w a) (in_whole w b ++ (clauses ++ inside)) k.1.1 in (
-        whole_low w a (each_left Keeps (in_whole w a) (in_whole w b ++ (clauses ++ inside)) k.1.1),
+      let behind : Each Keeps (in_whole w b ++ (clauses ++ inside)) = each_right Keeps (in_whole w a) (in_whole w b ++ (clauses ++ inside)) k.1.1.1 in (
+        whole_low w a (each_left Keeps (in_whole w a) (in_whole w b ++ (clauses ++ inside)) k.1.1.1),
         whole_low w b (each_left Keeps (in_whole w b) (clauses ++ inside) behind),
         low_row (in_par w x carries.items reduces.items) body short (each_right Keeps clauses inside (each_right Keeps (in_whole w b) (clauses ++ inside) behind)),
       )
@@ -51,6 +51,8 @@ mutual
       (app_low w f short (each_left Keeps (in_app w f) second k.1), app_low w g short (each_right Keeps (in_app w f) second k.1).1.1)
   low_stmt w (Print place e) short k = whole_low w e k.1
   low_stmt w (Emit place t) short k = tt
+  low_stmt w (Leave x e) short k = whole_low w e k.1
+  low_stmt w (Fill f t r es) short k = tt
 
   low_row : {m : _} (w : Spot) (row : Row_of-Stmt m) → AreShort w.funcs → Each Keeps (in_all w row) → RowIsLow row
   low_row w end_of-Stmt short k = tt

@@ -16,11 +16,13 @@ use Rattle.loop_syntax.specs.declared.Stmt.{Stmt, Row_of-Stmt, end_of-Stmt, more
 use Rattle.loop_syntax.specs.declared.Stmt.{items-the_row-Stmt, items_hidden-the_row-Stmt-0}
 use Rattle.loop_syntax.specs.declared.Stmt.TheBlock.{hidden-the_row-Stmt-0}
 use Rattle.loop_syntax.specs.declared.Stmt.TheVariants.{Let, Set, Put, If', While', Loop', Par'}
-use Rattle.loop_syntax.specs.declared.Stmt.TheVariants.{Fold, Call, Both, Print, Emit, Par}
+use Rattle.loop_syntax.specs.declared.Stmt.TheVariants.{Fold, Call, Both, Print, Emit, Leave, Fill}
+use Rattle.loop_syntax.specs.declared.Stmt.TheVariants.{Par}
 use Rattle.loop_rules.specs.Declarations.{tables_of_decls}
 use Rattle.loop_rules.specs.Names.{func_of, is_in, texts}
 use Rattle.loop_rules.specs.Sites as rules
 use Rattle.loop_check.specs.Unbroken.{NoneBroken}
+use Rattle.loop_check.proofs.Bools.{and_left, and_right}
 use Rattle.loop_check.proofs.Lists.{contains_here, contains_there}
 use Rattle.loop_meaning.specs.Cells.{Body, bodies, bodies_all, bodies_of_funcs, bodies_of_list}
 use Rattle.loop_meaning.specs.Cells.{body_of, visible_after}
@@ -33,10 +35,12 @@ use Rattle.frame_machine.proofs.RulesLawful.{all_lawful}
 use Rattle.loop_syntax.specs.declared.TableDecl.{TableDecl}
 use Rattle.loop_syntax.specs.declared.TableDecl.TheVariants.{Input, Made}
 use Rattle.form_laws.specs.Functions.{table_name}
+use Rattle.scene_laws.specs.Built.{functions_are_built, list_is_built, program_is_built}
 use Rattle.scene_laws.specs.Names.{names_after}
 use Rattle.code_laws.proofs.Rules.Unbroken.{program_fits}
 use Rattle.form_laws.proofs.Premises.Around.{Around, Free, callable_in_call, in_body, in_call}
 use Rattle.form_laws.proofs.Premises.Around.{modes_at}
+use Rattle.form_laws.proofs.Premises.Built.{built_in, function_built, functions_stay, list_stays}
 use Rattle.form_laws.proofs.Premises.Cutting.{ProgramRules}
 use Rattle.form_laws.proofs.Premises.Keeps.{called_in_safe, stands_free_in, stands_in, whole_in}
 use Rattle.form_laws.proofs.Premises.Occurring.{Occurs, OccursIn, at_first, at_later, in_if}
@@ -56,6 +60,8 @@ same_after names (Call x f) = refl
 same_after names (Both x f y g) = refl
 same_after names (Print place e) = refl
 same_after names (Emit place t) = refl
+same_after names (Leave x e) = refl
+same_after names (Fill f t r es) = refl
 
 -- ---- bodies
 
@@ -246,13 +252,20 @@ names_of_decls (Input x ∷ ds) = ap (λ (ns : List (List ℕ)). x.text.items �
 names_of_decls (Made x a b ∷ ds) =
     ap (λ (ns : List (List ℕ)). x.text.items ∷ ns) (names_of_decls ds)
 
-module _ (p : Program) (none : NoneBroken p) (range : ProgramInRange p) where
+module _ (p : Program) (none : NoneBroken p) (range : ProgramInRange p)
+    (built : program_is_built p ≡ true) where
   lawful : AllLawful p
   lawful = all_lawful p none
 
   differ : IsDistinct bytes_eq (map table_name p.tables.items)
   differ = subst (IsDistinct bytes_eq) (sym (names_of_decls p.tables.items))
-      (program_fits p none).tables_differ
+      (program_fits p none built).tables_differ
+
+  functions_built : functions_are_built p.funcs.items ≡ true
+  functions_built = and_left (functions_are_built p.funcs.items) (list_is_built p.main.items) built
+
+  main_built : list_is_built p.main.items ≡ true
+  main_built = and_right (functions_are_built p.funcs.items) (list_is_built p.main.items) built
 
   -- what a function that may be called keeps to
   keeps : (x : List ℕ) (f : Func) → func_of p.funcs.items x ≡ Some f → (a : Around)
@@ -275,6 +288,7 @@ module _ (p : Program) (none : NoneBroken p) (range : ProgramInRange p) where
   pub program_rules : ProgramRules p (map table_name p.tables.items)
   program_rules = record {
     funcs = range.funcs;
+    never = functions_stay p.funcs.items functions_built;
     differ = differ;
     distinct = distinct_of (map table_name p.tables.items) differ;
     functions = lawful.functions;
@@ -283,6 +297,7 @@ module _ (p : Program) (none : NoneBroken p) (range : ProgramInRange p) where
       stands = stands_free_in p l outside o
           (λ before q at. main_lawful before q Free at);
       ranged = range_in l outside near o range.main;
+      stays = list_stays l.body.items (built_in l outside near o main_built);
     };
     of_function = λ x f is a callable outside l near o.
         let here = found_in l outside near o [] in
@@ -293,6 +308,8 @@ module _ (p : Program) (none : NoneBroken p) (range : ProgramInRange p) where
               t (callable_in_call p a x callable t reads)) here.rounds outside l here.is;
           stands = stands_in [] (Callable p (modes_at a)) l outside near NoVariable [] o body;
           ranged = range_in l outside near o (func_range p.funcs.items x f is range.funcs).0;
+          stays = list_stays l.body.items (built_in l outside near o
+              (function_built p.funcs.items x f is functions_built));
         };
     calls = λ x f is a callable g called.
         called_in_safe [] (Callable p (modes_at a)) NoVariable [] (modes_at (in_call a)) g called

@@ -16,7 +16,7 @@ use Rattle.code_laws.proofs.Whole.Root.{as_many_held, owes_promoted}
 -- a code that is the code of a program owes its meaning
 pub owes_of : (p : Program) (code : Listing) → NoneBroken p → IsCode code.tables code.blocks → IsProgram code p → OwesMeaning p code
 owes_of p code unbroken right is =
-    let rules : ProgramRules p is.act.tables = subst (ProgramRules p) (sym is.tables) (program_rules p unbroken is.ranged) in
+    let rules : ProgramRules p is.act.tables = subst (ProgramRules p) (sym is.tables) (program_rules p unbroken is.ranged is.built) in
     record {
       declared = is.declared;
       promoted = λ given holdings heartbeat fuel are named held.

@@ -39,7 +39,7 @@ use Rattle.form_laws.proofs.CallPairs.PairJoined.{BehindOwed, joined_owes}
 use Rattle.form_laws.proofs.CallPairs.PairPlaces.{ChildOwed, Firsts, PairAt, PairCut, Runs, calls}
 use Rattle.scene_laws.proofs.Pairs.PairPromises.{call_ending, call_ending_by, ends_no_root}
 use Rattle.scene_laws.proofs.Pairs.PairPromises.{is_end_of}
-use Rattle.scene_laws.proofs.Pairs.PairRuns.{call_end, merge_ends, merge_goes}
+use Rattle.scene_laws.proofs.Pairs.PairRuns.{call_end, merge_ends, merge_goes, whole_stays}
 use Rattle.form_laws.proofs.CallPairs.PairScenes.{HoldsWhole, covered, shared_holds}
 use Rattle.form_laws.proofs.CallPairs.PairStacks.{HasFirst, first_has, second_has}
 use Rattle.scene_laws.proofs.Cuts.Parts.{left_extent, left_shown, parts_shown}
@@ -187,7 +187,10 @@ module _ {code : Listing} {heartbeat z : ℕ} {act : Activation} (q : PairAt cod
                         (limit_is q c n) belongs done,
                     λ can_joined. joined_owes q c n left_ends right_ends done post given can_joined,
                   )
-              by_stop (stop.Left number) is = ends_so (rw is tt)
+              by_stop (stop.Left number) is =
+                  absurd (whole_stays q.p q.modes q.fuel (suc q.room) q.f.text.items
+                  q.g.text.items q.f.place q.g.place q.rules c.w.value.numbers
+                  c.w.value.kept_numbers c.w.state c.given.within q.at_most q.never number is)
               by_stop (Trap kind at) is = ends_so (rw is tt)
               by_stop NoFuel is = ends_so (rw is tt)
 

@@ -3,7 +3,7 @@
 use Rattle.std.proofs.Common.{◌<◌, ◌≡◌, ℕ, suc, ◌+◌, ◌≤◌, ◌^◌, false, All, List, [], ◌∷◌, length}
 use Rattle.std.proofs.Common.{Some, arith}
 use Rattle.std.specs.Prelude.{ℤ, pos}
-use Rattle.std.specs.List.{AllByRecursion}
+use Rattle.std.specs.List.{All, AllByRecursion}
 use Rattle.beat_count.specs.BeatState.{BeatState}
 use Rattle.stack_marks.specs.declared.mark.Mark.{Mark}
 use Rattle.stack_marks.specs.Stacks.{StackValue, word_at}
@@ -15,6 +15,7 @@ use Rattle.loop_syntax.specs.declared.Program.{Program}
 use Rattle.loop_meaning.specs.Calls.{call_at}
 use Rattle.loop_meaning.specs.declared.value.Variable.{Variable}
 use Rattle.loop_meaning.specs.InRange.{TableInRange}
+use Rattle.loop_meaning.specs.Only.{IsNeverLeft}
 use Rattle.loop_meaning.specs.State as meaning
 use Rattle.loop_meaning.specs.State.{Chance, Note, Ran}
 use Rattle.loop_meaning.specs.Statements.{Called, set_var, with_call}
@@ -73,6 +74,7 @@ pub record PairAt (code : Listing) (heartbeat z : ℕ) (act : Activation) : Type
   pub fuel_is : S.fuel ≡ fuel
   pub room : ℕ
   pub few : room ≤ MAX_CALL_DEPTH
+  pub at_most : suc room ≤ MAX_CALL_DEPTH
   pub levels : S.levels ≡ suc room
   -- the program, both functions, and what its rules say of them
   pub p : Program
@@ -80,6 +82,7 @@ pub record PairAt (code : Listing) (heartbeat z : ℕ) (act : Activation) : Type
   pub f : Name
   pub g : Name
   pub rules : LawfulCalls p modes f.text.items g.text.items
+  pub never : All IsNeverLeft p.funcs.items
   -- what may be read anywhere is held wholly
   pub whole : (w : S.World) (s : StackValue) → S.kept w s → HoldsWhole modes (S.region w)
   pub first : Entry

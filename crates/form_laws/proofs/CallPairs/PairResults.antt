@@ -131,6 +131,6 @@ module _ (p : Program) (m : Modes) (fuel room : ℕ) (f g : List ℕ) (place sec
             (ending_so Low.value (Next Low.ran.state))) so)
             ∙ sym (noting_twice r.notes (Next Low.ran.state).ran.notes
             (ending_so Low.value (Next Low.ran.state) (Next Low.ran.state).ran.state)))
-        by_low (Left number) is so = let wrong : (Left number) ≡ Done = sym is ∙ so in cc
+        by_low (Left number) is so = let wrong : Left number ≡ Done = sym is ∙ so in cc
         by_low (Trap kind at) is so = let wrong : Trap kind at ≡ Done = sym is ∙ so in cc
         by_low NoFuel is so = let wrong : NoFuel ≡ Done = sym is ∙ so in cc

@@ -375,6 +375,7 @@ module _ (code : Listing) (heartbeat z : ℕ) (act : Activation) (p : Program) (
         fuel_is = shows.limited;
         room = left;
         few = omega (arith, calls.few, is_left);
+        at_most = omega (arith, calls.few, is_left);
         levels = admits.levels ∙ is_left;
         whole = λ w s kept t is. permits.served.whole w s kept t is;
         p = p;
@@ -386,6 +387,7 @@ module _ (code : Listing) (heartbeat z : ℕ) (act : Activation) (p : Program) (
           first = permits.calls f.callee.text.items (by_first f g refl);
           second = permits.calls g.callee.text.items (by_second f g refl);
         };
+        never = rules.never;
         first = first;
         second = second;
         eight = omega (arith, eight, arity_second);

@@ -9,7 +9,7 @@ use Rattle.std.proofs.lemmas.List.{take-append-le, take_all, length-append}
 use Rattle.loop_syntax.specs.declared.Expr.{Expr}
 use Rattle.loop_syntax.specs.declared.Stmt.{Stmt}
 use Rattle.loop_syntax.specs.declared.Stmt.TheVariants.{Let, Set, Put, If, If', While', Loop', Par'}
-use Rattle.loop_syntax.specs.declared.Stmt.TheVariants.{Fold, Call, Both, Print, Emit}
+use Rattle.loop_syntax.specs.declared.Stmt.TheVariants.{Fold, Call, Both, Print, Emit, Leave, Fill}
 use Rattle.loop_syntax.specs.declared.Stmt.TheBlock.{hidden-the_row-Stmt-0}
 use Rattle.loop_meaning.specs.declared.value.Variable.{Variable}
 use Rattle.loop_meaning.specs.State as meaning
@@ -62,6 +62,8 @@ longer_one names (Call x f) = same_names names
 longer_one names (Both x f y g) = same_names names
 longer_one names (Print place e) = same_names names
 longer_one names (Emit place t) = same_names names
+longer_one names (Leave x e) = same_names names
+longer_one names (Fill f t r es) = same_names names
 
 pub longer_list : (names : List (List ℕ)) (ss : List Stmt) → Longer names (names_after_list names ss)
 longer_list names [] = same_names names

@@ -10,8 +10,9 @@ use Rattle.loop_syntax.specs.declared.ParLoop.{ParLoop}
 use Rattle.loop_syntax.specs.declared.Program.{Program}
 use Rattle.loop_syntax.specs.declared.Stmt.{Stmt, Row_of-Stmt, end_of-Stmt, more_of-Stmt}
 use Rattle.loop_syntax.specs.declared.Stmt.TheBlock.{hidden-the_row-Stmt-0}
-use Rattle.loop_syntax.specs.declared.Stmt.TheVariants.{Both, Call, Emit, Fold, If, If', Let, Loop}
-use Rattle.loop_syntax.specs.declared.Stmt.TheVariants.{Loop', Par', Print, Put, Set, While, While'}
+use Rattle.loop_syntax.specs.declared.Stmt.TheVariants.{Both, Call, Emit, Fill, Fold, If, If', Leave}
+use Rattle.loop_syntax.specs.declared.Stmt.TheVariants.{Let, Loop, Loop', Par', Print, Put, Set}
+use Rattle.loop_syntax.specs.declared.Stmt.TheVariants.{While, While'}
 use Rattle.loop_rules.specs.Names.{func_of}
 use Rattle.tpal_syntax.specs.Listing.{Listing}
 use Rattle.frame_machine.specs.Lawful.{Callable}
@@ -153,6 +154,8 @@ mutual
   loud_one calls (Both x f y g) loud = loud
   loud_one calls (Print place e) loud = loud
   loud_one calls (Emit place t) loud = loud
+  loud_one calls (Leave x e) loud = loud
+  loud_one calls (Fill f t r es) loud = loud
 
   loud_row : {m : _} (calls : Bool) (row : Row_of-Stmt m) → all_is_quiet calls row ≡ false
       → all_is_quiet false row ≡ false

@@ -1,6 +1,8 @@
 -- The law of a `par` that may be cut in the middle of an iteration: inside any open scene that
 -- serves it, where a task owes what follows, it owes what the `par` gives and what follows.
 use Rattle.std.proofs.Common.{◌≡◌, ℕ, ◌<◌, List, [], ◌∷◌, length, take}
+use Rattle.std.specs.Int.{int_gap}
+use Rattle.loop_meaning.specs.State.{Chance}
 use Rattle.loop_meaning.specs.Statements.{run}
 use Rattle.loop_syntax.specs.declared.Reduce.{Reduce}
 use Rattle.loop_syntax.specs.declared.Stmt.TheVariants.{Par}
@@ -22,6 +24,7 @@ use Rattle.par_laws.proofs.DeepPars.DeepHandles.{handles}
 use Rattle.par_laws.proofs.DeepPars.DeepLoops.{all_owed}
 use Rattle.par_laws.proofs.DeepPars.DeepScenes.{Deep, FirstOwed, OverOwed}
 use Rattle.par_laws.proofs.DeepPars.DeepTurns.{BodyOwed}
+use Rattle.scene_laws.proofs.Merges.JoinsRuns.{never_left}
 use Rattle.scene_laws.proofs.Scenes.Moves.{calm}
 use Rattle.par_laws.proofs.QuietPars.Pars.{begins_par}
 use Rattle.scene_laws.proofs.Scenes.Results.{result, then}
@@ -63,7 +66,10 @@ module _ {code : Listing} {heartbeat z : ℕ} {act : Activation} (d : Deep code 
       (λ st. then (result (run (set d expr_law reduces) (Par d.q.loop) st)) d.k)
   deep_law none here second from_code to_code runs =
       begins_par code heartbeat z act (set d expr_law reduces) expr_law d.S d.q.names d.lowest
-      d.q.fits d.k d.q.loop none d.q.check d.q.exit here second
+      d.q.fits d.k d.q.loop
+      (λ i j t number is. never_left d.p d.fuel d.room d.q.loop (Chance ∷ []) [] (int_gap i j) i t
+      d.calls d.never d.stays number is) none d.q.check d.q.exit here
+      second
       (length_test d.q.is_deep.wide
       (store d.q.site.cursor (value.Reg 1) ∷ marked_begin d.q.site (first_label d.q.site.label)))
       more (to d.q.is_deep.wide) last from_code to_code d.q.is_deep.begins ends post

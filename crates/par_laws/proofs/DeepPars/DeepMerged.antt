@@ -64,7 +64,7 @@ use Rattle.scene_laws.proofs.Merges.Joins.{merged_numbers, merged_tables, sides_
 use Rattle.scene_laws.proofs.Merges.Joins.{target_stands}
 use Rattle.scene_laws.proofs.Merges.JoinsExtents.{rest_spared}
 use Rattle.scene_laws.proofs.Merges.JoinsModes.{cut_as, each_carried, serves_round}
-use Rattle.scene_laws.proofs.Merges.JoinsRuns.{output_kept, whole_round}
+use Rattle.scene_laws.proofs.Merges.JoinsRuns.{never_left, output_kept, whole_round}
 use Rattle.scene_laws.proofs.Merges.JoinsSides.{left_side}
 use Rattle.scene_laws.proofs.Merges.MergedOutputs.{merge_printed, printing, printing_ended}
 use Rattle.scene_laws.proofs.Merges.MergedStacks.{HasMerged, rest_holds}
@@ -471,6 +471,8 @@ module _ {code : Listing} {heartbeat z : ℕ} {act : Activation} (d : Deep code 
                     d.q.site rest rest_held rest_at is),
                 goes_on is at_over given,
               )
-          by_stop (Left number) is = ends_early (rw is tt)
+          by_stop (Left number) is =
+              absurd (never_left d.p d.fuel d.room d.q.loop (Chance ∷ []) []
+              ((h.begun + h.below) + suc h.above) h.first h.start d.calls d.never d.stays number is)
           by_stop (Trap kind place) is = ends_early (rw is tt)
           by_stop NoFuel is = ends_early (rw is tt)

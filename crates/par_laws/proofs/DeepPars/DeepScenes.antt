@@ -19,6 +19,7 @@ use Rattle.loop_syntax.specs.declared.Program.{Program}
 use Rattle.loop_syntax.specs.declared.Stmt.TheVariants.{Par}
 use Rattle.loop_meaning.specs.declared.value.Variable.{Variable}
 use Rattle.loop_meaning.specs.InRange.{FuncInRange, InRange, StmtInRange}
+use Rattle.loop_meaning.specs.Only.{IsNeverLeft, LeavesNothing}
 use Rattle.loop_meaning.specs.State as meaning
 use Rattle.loop_meaning.specs.State.{Chance, Ran, Writes, has_cell, table_of, write_cell}
 use Rattle.loop_meaning.specs.Statements.{iterate, run_list}
@@ -118,6 +119,8 @@ pub record Deep (code : Listing) (heartbeat z : ℕ) (act : Activation) : Type 1
   pub rules : Lawful p q.modes q.names q.loop
   pub funcs : All FuncInRange p.funcs.items
   pub par : StmtInRange (Par q.loop)
+  pub never : All IsNeverLeft p.funcs.items
+  pub stays : LeavesNothing q.loop.body.items
   pub differ : IsDistinct bytes_eq act.tables
   pub distinct : Distinct act.tables
 

@@ -1,6 +1,7 @@
 -- The law of a leaf loop.
 use Rattle.std.proofs.Common.{◌≡◌, ℕ, suc, ◌<◌, ◌≤◌, false, All, List, [], ◌∷◌, length}
 use Rattle.std.proofs.Common.{take}
+use Rattle.std.specs.Int.{int_gap}
 use Rattle.loop_syntax.specs.declared.Program.{Program}
 use Rattle.loop_syntax.specs.declared.Reduce.{Reduce}
 use Rattle.loop_syntax.specs.declared.Stmt.TheVariants.{Par}
@@ -41,6 +42,7 @@ use Rattle.par_laws.proofs.QuietPars.QuietEnds.{at_over}
 use Rattle.par_laws.proofs.QuietPars.QuietLaws.{side_opens}
 use Rattle.par_laws.proofs.QuietPars.QuietPars.{FirstOwed, quiet_begins}
 use Rattle.par_laws.proofs.QuietPars.QuietSides.{AllowsCuts}
+use Rattle.scene_laws.proofs.Merges.JoinsRuns.{never_left}
 use Rattle.scene_laws.proofs.Scenes.Moves.{calm, opened}
 use Rattle.scene_laws.proofs.Scenes.Pieces.{Host}
 use Rattle.scene_laws.proofs.Scenes.Results.{Result, result, then}
@@ -92,7 +94,9 @@ module _ {code : Listing} (heartbeat z : ℕ) {act : Activation} (l : LeafAt cod
       (λ st. then (result (run set (Par l.q.loop) st)) k)
   leaf_law none check wide here second more end from_code to_code tests trap ends post runs_first
       runs_again =
-      begins_par code heartbeat z act set expr_law S l.q.names lowest l.q.fits k l.q.loop none check
+      begins_par code heartbeat z act set expr_law S l.q.names lowest l.q.fits k l.q.loop
+      (λ i j t number is. never_left p fuel room l.q.loop (Chance ∷ []) [] (int_gap i j) i t
+      allows.may.calls allows.may.never allows.may.stays number is) none check
       b.exit here second (length_test wide (marked_begin l.q.site (start_label l.leaf))) more
       (to wide) end from_code to_code tests ends post
       (quiet_begins code heartbeat z act l.q S lowest k set expr_law (start_label l.leaf) calm_start

@@ -2,6 +2,7 @@
 use Rattle.std.proofs.Common.{◌≡◌, ℕ, zero, suc, ◌+◌, ◌<◌, ◌≤◌, ◌%◌, Bool, true, false, List, []}
 use Rattle.std.proofs.Common.{◌∷◌, length, Some, Ok, refl, sym, ap, subst, ◌∙◌, arith}
 use Rattle.std.specs.Prelude.{ℤ, pos, ◌-ℤ◌, ◌+ℤ◌, int_lt, int_le, nat_lt, not, slice_set}
+use Rattle.std.specs.Prelude.{Option}
 use Rattle.std.specs.Int.{int_gap, int_wrap, w64}
 use Rattle.std.proofs.lemmas.Bool.{true≢false}
 use Rattle.std.proofs.lemmas.Bool.Decides.{nat_tests}
@@ -10,18 +11,25 @@ use Rattle.std.proofs.lemmas.List.{length-set}
 use Rattle.tp_value.specs.Number.{truth, wrapped}
 use Rattle.tp_value.specs.declared.Place.{Place}
 use Rattle.tp_value.specs.declared.limits.TheConstants.{MAX_PAR_LENGTH}
-use Rattle.tp_value.specs.declared.Stop.TheVariants.{Trap}
+use Rattle.tp_value.specs.declared.Stop.{Stop}
+use Rattle.tp_value.specs.declared.Stop.TheVariants.{Done, Left, NoFuel, Trap}
 use Rattle.tp_value.specs.declared.TrapKind.TheVariants.{Wide}
 use Rattle.beat_count.specs.BeatState.{BeatState}
 use Rattle.beat_count.specs.Heartbeat.{counted}
 use Rattle.stack_marks.specs.Stacks.{StackValue, word_at}
 use Rattle.loop_syntax.specs.declared.ParLoop.{ParLoop}
+use Rattle.loop_syntax.specs.declared.Expr.{Expr}
+use Rattle.loop_syntax.specs.declared.Stmt.TheBlock.{hidden-the_row-Stmt-0}
 use Rattle.loop_syntax.specs.declared.Stmt.TheVariants.{Par}
 use Rattle.loop_meaning.specs.InRange.{InRange}
 use Rattle.loop_meaning.specs.State as meaning
-use Rattle.loop_meaning.specs.State.{Chance, Ran, done}
-use Rattle.loop_meaning.specs.Statements.{Setting, given_two, iterate, run, run_list, too_wide}
-use Rattle.loop_meaning.specs.Statements.{unless_wide}
+use Rattle.loop_meaning.specs.Expressions.{eval}
+use Rattle.loop_meaning.specs.Leaving.{caught, caught_by, left_in}
+use Rattle.loop_meaning.specs.State.{Chance, Note, Ran, done, noted}
+use Rattle.loop_meaning.specs.Statements.{Setting, given, given_answer, given_two, iterate, run}
+use Rattle.loop_meaning.specs.Statements.{run_list, too_wide, unless_wide}
+use Rattle.loop_meaning.specs.declared.value.Answer.{Answer}
+use Rattle.loop_meaning.specs.declared.value.Answer.TheVariants.{Number, Traps}
 use Rattle.loop_meaning.proofs.Runs.{vec_list}
 use Rattle.tpal_syntax.specs.declared.instructions.Alu.{Alu}
 use Rattle.tpal_syntax.specs.declared.instructions.Alu.TheVariants as alu
@@ -100,9 +108,62 @@ wide_second n small wide passes = by_size (nat_lt n 9223372036854775808) refl
 
 -- ---- the run
 
-run_par : (set : Setting) (l : ParLoop) (st : meaning.State) → run set (Par l) st ≡ given_two l.from l.to st (λ i j. unless_wide (too_wide i j) l.place (iterate set.fuel l.var.text.items (run_list (record set { reduces = l.reduces.items }) l.body.items) (Chance ∷ []) [] (int_gap i j) i) st)
-run_par set l st =
-    ap (λ f. given_two l.from l.to st (λ i j. unless_wide (too_wide i j) l.place (iterate set.fuel l.var.text.items f (Chance ∷ []) [] (int_gap i j) i) st)) (vec_list (record set { reduces = l.reduces.items }) l.body)
+-- the iterations of a `par`, and these where the one that is left is caught
+abbrev pub all_of : Setting → ParLoop → ℤ → ℤ → meaning.State → Ran
+all_of set l i j =
+    iterate set.fuel l.var.text.items (run_list (record set { reduces = l.reduces.items }) l.body.items)
+    (Chance ∷ []) [] (int_gap i j) i
+
+abbrev caught_all : Setting → ParLoop → ℤ → ℤ → meaning.State → Ran
+caught_all set l i j t = caught (left_in (hidden-the_row-Stmt-0 l.body)) (all_of set l i j t)
+
+-- none of them is left, whatever the state
+abbrev pub NeverLeft : Setting → ParLoop → Type 0
+NeverLeft set l =
+    (i j : ℤ) (t : meaning.State) (number : ℤ) → (all_of set l i j t).stop ≡ Left number → ⊥
+
+-- a run that isn't left has nothing to be caught
+caught_none : (target : Option (List ℕ)) (r : Ran) (x : Stop) → r.stop ≡ x
+    → ((number : ℤ) → r.stop ≡ Left number → ⊥) → caught_by x target r ≡ r
+caught_none target r Done is never = refl
+caught_none target r (Left number) is never = absurd (never number is)
+caught_none target r (Trap kind place) is never = refl
+caught_none target r NoFuel is never = refl
+
+given_same : (a : Answer) (ns : List Note) (st : meaning.State) (f g : ℤ → Ran)
+    → ((n : ℤ) → f n ≡ g n) → given_answer a ns st f ≡ given_answer a ns st g
+given_same (Number n) ns st f g same = ap (noted ns) (same n)
+given_same (Traps kind place) ns st f g same = refl
+
+value_same : (e : Expr) (st : meaning.State) (f g : ℤ → Ran) → ((n : ℤ) → f n ≡ g n)
+    → given e st f ≡ given e st g
+value_same e st f g same =
+    given_same (eval st.vars st.tables e).answer (eval st.vars st.tables e).notes st f g same
+
+wide_same : (b : Bool) (place : Place) (f g : meaning.State → Ran) (st : meaning.State)
+    → f st ≡ g st → unless_wide b place f st ≡ unless_wide b place g st
+wide_same true place f g st same = refl
+wide_same false place f g st same = same
+
+run_par : (set : Setting) (l : ParLoop) (st : meaning.State) → NeverLeft set l
+    → run set (Par l) st
+    ≡ given_two l.from l.to st
+    (λ i j. unless_wide (too_wide i j) l.place (all_of set l i j) st)
+run_par set l st never =
+    ap (λ (f : meaning.State → Ran). given_two l.from l.to st
+    (λ i j. unless_wide (too_wide i j) l.place
+    (λ t. caught (left_in (hidden-the_row-Stmt-0 l.body))
+    (iterate set.fuel l.var.text.items f (Chance ∷ []) [] (int_gap i j) i t)) st))
+    (vec_list (record set { reduces = l.reduces.items }) l.body)
+    ∙ value_same l.from st
+    (λ i. given l.to st (λ j. unless_wide (too_wide i j) l.place (caught_all set l i j) st))
+    (λ i. given l.to st (λ j. unless_wide (too_wide i j) l.place (all_of set l i j) st))
+    (λ i. value_same l.to st
+    (λ j. unless_wide (too_wide i j) l.place (caught_all set l i j) st)
+    (λ j. unless_wide (too_wide i j) l.place (all_of set l i j) st)
+    (λ j. wide_same (too_wide i j) l.place (caught_all set l i j) (all_of set l i j) st
+    (caught_none (left_in (hidden-the_row-Stmt-0 l.body)) (all_of set l i j st)
+    (all_of set l i j st).stop refl (never i j st))))
 
 none_run : (fuel : ℕ) (x : List ℕ) (body : meaning.State → Ran) (place : Place) (m j : ℤ) (st : meaning.State) → int_gap m j ≡ 0 → unless_wide (too_wide m j) place (iterate fuel x body (Chance ∷ []) [] (int_gap m j) m) st ≡ done st
 unfolding iterate
@@ -285,8 +346,8 @@ module _ (code : Listing) (heartbeat z : ℕ) (act : Activation) (set : Setting)
       → word_at task.stack (pos (z + bound_cell (length names))) ≡ Some (word.Int j)
       → (S.owing i (then (result (unless_wide (too_wide m j) l.place (iterating m j) st)) k)).Holds task
 
-  pub begins_par : S.registers ≡ [] → (check exit : ℕ) (here second tests more : List Instr)
-      (first end : Term)
+  pub begins_par : NeverLeft set l → S.registers ≡ [] → (check exit : ℕ)
+      (here second tests more : List Instr) (first end : Term)
       → Computes code act [] names l.from 0 here
       (store (value_cell (length names)) (value.Reg 0) ∷ second)
       → Computes code act [] names l.to 0 second
@@ -296,9 +357,9 @@ module _ (code : Listing) (heartbeat z : ℕ) (act : Activation) (set : Setting)
       → Owed code heartbeat z act set.fuel S names more end k → Begun check
       → Owed code heartbeat z act set.fuel S names here (to exit)
       (λ st. then (result (run set (Par l) st)) k)
-  begins_par bare check exit here second tests more first end c d opens ends post begun i st state
-      shows stands =
-      subst (λ (r : Ran). (S.owing i (then (result r) k)).Holds state) (sym (run_par set l st))
+  begins_par never bare check exit here second tests more first end c d opens ends post begun i st
+      state shows stands =
+      subst (λ (r : Ran). (S.owing i (then (result r) k)).Holds state) (sym (run_par set l st never))
       (bounds_bare code heartbeat z act set.fuel expr_law S names lowest room bare k l.from l.to
       here second
       (instr.Calc 2 1 alu.Lt (value.Reg 0) ∷ instr.IfJump 2 check ∷ []) (to exit) c d

@@ -2,6 +2,7 @@
 -- tables, where a task owes what follows, it owes what the `par` gives and what follows.
 use Rattle.std.proofs.Common.{◌≡◌, ℕ, ◌+◌, ◌≤◌, List, [], ◌∷◌, length, take, Some, refl, subst}
 use Rattle.std.proofs.Common.{arith}
+use Rattle.std.specs.Int.{int_gap}
 use Rattle.tp_value.specs.declared.TrapKind.TheVariants.{Wide}
 use Rattle.loop_syntax.specs.declared.Program.{Program}
 use Rattle.loop_syntax.specs.declared.Reduce.{Reduce}
@@ -9,6 +10,7 @@ use Rattle.loop_syntax.specs.declared.Stmt.TheVariants.{Par}
 use Rattle.loop_meaning.specs.Calls.{call_at}
 use Rattle.loop_meaning.specs.declared.value.Variable.{Variable}
 use Rattle.loop_meaning.specs.State as meaning
+use Rattle.loop_meaning.specs.State.{Chance}
 use Rattle.loop_meaning.specs.Statements.{Setting, run}
 use Rattle.tpal_syntax.specs.declared.instructions.Alu.TheVariants as alu
 use Rattle.tpal_syntax.specs.declared.instructions.Instr.{Instr}
@@ -27,6 +29,7 @@ use Rattle.join_gen.proofs.LoopJoining.{joins_loop}
 use Rattle.scene_laws.specs.Code.{Computes, Opens, load, store, to}
 use Rattle.scene_laws.specs.Layout.{Activation, bound_cell, value_cell}
 use Rattle.scene_laws.specs.Marked.{length_test, marked_begin}
+use Rattle.scene_laws.proofs.Merges.JoinsRuns.{never_left}
 use Rattle.scene_laws.proofs.Scenes.Pieces.{Host}
 use Rattle.scene_laws.proofs.Scenes.Moves.{calm, opened}
 use Rattle.par_laws.proofs.QuietPars.Pars.{begins_par}
@@ -79,7 +82,9 @@ module _ (code : Listing) (heartbeat z : ℕ) (act : Activation) (q : ParAt code
       (λ st. then (result (run set (Par q.loop) st)) k)
   quiet_law none check wide here second more end from_code to_code tests trap ends post runs_first
       runs_again =
-      begins_par code heartbeat z act set expr_law S q.names lowest q.fits k q.loop none check
+      begins_par code heartbeat z act set expr_law S q.names lowest q.fits k q.loop
+      (λ i j t number is. never_left p fuel room q.loop (Chance ∷ []) [] (int_gap i j) i t
+      allows.may.calls allows.may.never allows.may.stays number is) none check
       b.exit here second (length_test wide (marked_begin q.site b.first)) more (to wide) end
       from_code to_code tests ends post
       (quiet_begins code heartbeat z act q S lowest k set expr_law b.first

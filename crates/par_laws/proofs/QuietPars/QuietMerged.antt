@@ -48,7 +48,8 @@ use Rattle.scene_laws.proofs.Merges.Joins.{merged_numbers, merged_tables, sides_
 use Rattle.scene_laws.proofs.Merges.Joins.{target_stands}
 use Rattle.scene_laws.proofs.Merges.JoinsCuts.{cut_here, may_cut_here}
 use Rattle.scene_laws.proofs.Merges.JoinsModes.{each_carried}
-use Rattle.scene_laws.proofs.Merges.JoinsRuns.{output_kept, tables_named, whole_round}
+use Rattle.scene_laws.proofs.Merges.JoinsRuns.{never_left, output_kept, tables_named}
+use Rattle.scene_laws.proofs.Merges.JoinsRuns.{whole_round}
 use Rattle.scene_laws.proofs.Merges.Meeting.{met_behind}
 use Rattle.scene_laws.proofs.Merges.MergedStacks.{HasMerged, rest_holds}
 use Rattle.scene_laws.proofs.Cuts.OldestCuts.{IsOldestCut}
@@ -409,6 +410,8 @@ module _ (code : Listing) (heartbeat z : ℕ) (act : Activation) (q : ParAt code
                   q.site rest rest_held rest_at is,
               goes_on is at_over given,
             )
-        by_stop (Left number) is = ends_early (rw is tt)
+        by_stop (Left number) is =
+            absurd (never_left p fuel room q.loop (Chance ∷ []) [] (h.below + suc h.above) m st
+            allows.may.calls allows.may.never allows.may.stays number is)
         by_stop (Trap kind place) is = ends_early (rw is tt)
         by_stop NoFuel is = ends_early (rw is tt)

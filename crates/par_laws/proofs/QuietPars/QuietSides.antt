@@ -12,6 +12,7 @@ use Rattle.loop_syntax.specs.declared.Program.{Program}
 use Rattle.loop_syntax.specs.declared.Stmt.TheVariants.{Par}
 use Rattle.loop_meaning.specs.declared.value.Variable.{Variable}
 use Rattle.loop_meaning.specs.InRange.{FuncInRange, InRange, StmtInRange}
+use Rattle.loop_meaning.specs.Only.{IsNeverLeft, LeavesNothing}
 use Rattle.loop_meaning.specs.State as meaning
 use Rattle.tpal_syntax.specs.declared.sites.LoopSite.{LoopSite}
 use Rattle.tpal_syntax.specs.declared.words.Word.{Word}
@@ -62,13 +63,15 @@ use Rattle.par_laws.proofs.QuietPars.Turning.{own_marks, region_of}
 use Rattle.scene_laws.proofs.Scenes.Variables.{AreHeld, held_in_range, var_names}
 
 -- What the rules of a program say of a `par` where it stands: it may be cut, its numbers are in
--- range, and no two tables have one name.
+-- range, none of its iterations is left, and no two tables have one name.
 pub record MayBeCut (code : Listing) (act : Activation) (p : Program) (room : ℕ)
     (q : ParAt code act) : Type 0 where
   pub calls : room ≤ MAX_CALL_DEPTH
   pub rules : Lawful p q.modes q.names q.loop
   pub funcs : All FuncInRange p.funcs.items
   pub par : StmtInRange (Par q.loop)
+  pub never : All IsNeverLeft p.funcs.items
+  pub stays : LeavesNothing q.loop.body.items
   pub differ : IsDistinct bytes_eq act.tables
   pub distinct : Distinct act.tables
 

@@ -253,6 +253,8 @@ module _ (code : Listing) (heartbeat z : ℕ) (act : Activation) (p : Program) (
             rules = cut.lawful;
             funcs = rules.funcs;
             par = cut.ranged;
+            never = rules.never;
+            stays = cut.stays;
             differ = rules.differ;
             distinct = rules.distinct;
           };

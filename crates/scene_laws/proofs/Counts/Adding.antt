@@ -13,7 +13,7 @@ use Rattle.loop_syntax.specs.declared.Stmt.{Stmt, Row_of-Stmt, end_of-Stmt, more
 use Rattle.loop_syntax.specs.declared.Stmt.{items-the_row-Stmt, items_hidden-the_row-Stmt-0}
 use Rattle.loop_syntax.specs.declared.Stmt.TheBlock.{hidden-the_row-Stmt-0}
 use Rattle.loop_syntax.specs.declared.Stmt.TheVariants.{Let, Set, Put, If', While', Loop', Par'}
-use Rattle.loop_syntax.specs.declared.Stmt.TheVariants.{Fold, Call, Both, Print, Emit}
+use Rattle.loop_syntax.specs.declared.Stmt.TheVariants.{Fold, Call, Both, Print, Emit, Leave, Fill}
 use Rattle.loop_syntax.specs.declared.Expr.{Expr}
 use Rattle.loop_syntax.specs.declared.Expr.TheVariants.{Int, Var, Cell', Rows, Cols, Neg', Bin'}
 use Rattle.loop_syntax.specs.declared.TableDecl.{TableDecl}
@@ -110,6 +110,8 @@ mutual
   few_kept (Both x f y g) low = omega (arith, low.1.0)
   few_kept (Print place e) low = omega arith
   few_kept (Emit place t) low = omega arith
+  few_kept (Leave x e) low = omega arith
+  few_kept (Fill f t r es) low = omega arith
 
   few_kept_by_all : {m : _} (row : Row_of-Stmt m) → RowIsLow row → kept_by_all row ≤ most_kept
   few_kept_by_all end_of-Stmt low = omega arith

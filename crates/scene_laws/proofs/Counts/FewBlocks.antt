@@ -169,6 +169,7 @@ made_few grammar.call_stmt = omega arith
 made_few grammar.both_stmt = omega arith
 made_few grammar.print_stmt = omega arith
 made_few grammar.emit_stmt = omega arith
+made_few grammar.leave_stmt = omega arith
 made_few grammar.no_other = omega arith
 made_few grammar.other = omega arith
 made_few (grammar.no_carry is) = omega arith

@@ -8,14 +8,15 @@ use Rattle.loop_syntax.specs.declared.expression.Expr.TheVariants.{Neg', Bin'}
 use Rattle.loop_syntax.specs.declared.statement.Stmt.{Stmt, Row_of-Stmt, end_of-Stmt, more_of-Stmt}
 use Rattle.loop_syntax.specs.declared.statement.Stmt.TheVariants.{Let, Set, Put, If', While', Loop'}
 use Rattle.loop_syntax.specs.declared.statement.Stmt.TheVariants.{Par', Fold, Call, Both, Print}
-use Rattle.loop_syntax.specs.declared.statement.Stmt.TheVariants.{Emit}
+use Rattle.loop_syntax.specs.declared.statement.Stmt.TheVariants.{Emit, Leave, Fill}
 use Rattle.loop_syntax.specs.declared.program.Func.{Func}
 use Rattle.loop_syntax.specs.declared.program.Program.{Program}
 use Rattle.loop_syntax.specs.declared.program.TableDecl.{TableDecl}
 use Rattle.loop_syntax.specs.declared.program.TableDecl.TheVariants.{Input, Made}
 use Rattle.loop_syntax.specs.Tree.{Tree, TInt, TVar, TCell, TRows, TCols, TNeg, TBin, tree_of, Node}
 use Rattle.loop_syntax.specs.Tree.{NLet, NSet, NPut, NIf, NWhile, NLoop, NPar, NFold, NCall, NBoth}
-use Rattle.loop_syntax.specs.Tree.{NPrint, NEmit, Nodes, Last, Then, nodes_of, TableTree, TInput}
+use Rattle.loop_syntax.specs.Tree.{NPrint, NEmit, NLeave, NFill, Nodes, Last, Then, nodes_of}
+use Rattle.loop_syntax.specs.Tree.{TableTree, TInput}
 use Rattle.loop_syntax.specs.Tree.{TMade, table_of, FuncTree, func_of, ProgramTree, program_of}
 use Rattle.loop_rules.proofs.TreeNodes.{node_rows, rows_of, row_nodes}
 use Rattle.scene_laws.specs.Count.{nodes, blocks_of_expr, blocks_of_exprs, blocks, blocks_of_all}
@@ -86,6 +87,8 @@ abbrev mutual
   in_node (NBoth x f y g) = 64 + in_trees f.args + in_trees g.args
   in_node (NPrint place e) = 16 + in_tree e
   in_node (NEmit place t) = 16
+  in_node (NLeave x e) = 16 + in_tree e
+  in_node (NFill f t r es) = 16 + in_trees es
 
   pub in_nodes : Nodes → ℕ
   in_nodes Last = 0
@@ -110,6 +113,8 @@ mutual
       two_same (ap (λ n. 64 + n) (exprs_same f.args.items)) (exprs_same g.args.items)
   stmt_same (Print place e) = ap (λ n. 16 + n) (expr_same e)
   stmt_same (Emit place t) = refl
+  stmt_same (Leave x e) = ap (λ n. 16 + n) (expr_same e)
+  stmt_same (Fill f t r es) = ap (λ n. 16 + n) (exprs_same es.items)
 
   row_same : {m : _} (row : Row_of-Stmt m) → blocks_of_all row ≡ in_nodes (row_nodes row)
   row_same end_of-Stmt = refl

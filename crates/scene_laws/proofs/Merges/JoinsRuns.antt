@@ -6,17 +6,22 @@ use Rattle.std.proofs.lemmas.Bool.{cases_lt}
 use Rattle.std.proofs.lemmas.Int.{ints}
 use Rattle.std.proofs.lemmas.Slice.Eq.{bytes_eq-Decides}
 use Rattle.std.specs.Prelude.{ℤ, pos, ⊤, ◌+ℤ◌, ◌≤ℤ◌}
+use Rattle.std.specs.List.{All}
 use Rattle.tp_value.specs.declared.limits.TheConstants.{MAX_CALL_DEPTH}
 use Rattle.tp_value.specs.declared.Op.{Op}
-use Rattle.tp_value.specs.declared.Stop.TheVariants.{Done}
+use Rattle.tp_value.specs.declared.Place.{Place}
+use Rattle.tp_value.specs.declared.Stop.TheVariants.{Done, Left}
 use Rattle.tp_value.specs.declared.Table.{Table}
 use Rattle.loop_syntax.specs.declared.ParLoop.{ParLoop}
 use Rattle.loop_syntax.specs.declared.Program.{Program}
 use Rattle.loop_syntax.specs.declared.Reduce.{Reduce}
+use Rattle.loop_meaning.proofs.OnlyLeaves.{calls_stay, iterations_stay}
 use Rattle.loop_meaning.proofs.Runs.{iterate_notes}
 use Rattle.loop_meaning.proofs.Telling.{iterations_move, iterations_tell}
 use Rattle.loop_meaning.specs.Ends.{EndAlike}
+use Rattle.loop_meaning.specs.Calls.{call_at}
 use Rattle.loop_meaning.specs.Frames.{with_accs}
+use Rattle.loop_meaning.specs.Only.{IsNeverLeft, LeavesNothing}
 use Rattle.loop_meaning.specs.State.{Note, Ran, State, assign, lookup}
 use Rattle.loop_meaning.specs.Statements.{run_list}
 use Rattle.loop_meaning.specs.Told.{Moves, Shape, Spent, shapes}
@@ -30,6 +35,7 @@ use Rattle.frame_machine.specs.Modes.{Modes}
 use Rattle.frame_machine.specs.Parts.{AgreeOn, Outside}
 use Rattle.frame_machine.specs.Splitting.{merged}
 use Rattle.frame_machine.specs.FrameLaws as frames
+use Rattle.frame_machine.proofs.Following.{goes_done}
 use Rattle.frame_machine.proofs.Framing.{accs_merged, iterations_join}
 use Rattle.frame_machine.proofs.Joining.{low_done, lower_kept, up_done, upper_kept}
 use Rattle.join_gen.specs.LoopJoins.{ops_of}
@@ -134,6 +140,16 @@ module _ (p : Program) (fuel : ℕ) (l : ParLoop) (n : ℕ) (i : ℤ) (s : State
 room_back : (room : ℕ) → room ≤ MAX_CALL_DEPTH → MAX_CALL_DEPTH - (MAX_CALL_DEPTH - room) ≡ room
 room_back room low = omega (arith, low)
 
+-- a call is never left where the functions have no `leave` of their own
+pub call_never_left : (p : Program) (fuel room : ℕ) → room ≤ MAX_CALL_DEPTH
+    → All IsNeverLeft p.funcs.items → (f : List ℕ) (place : Place) (ns : List ℤ)
+    (begin : List Note) (s : State) (number : ℤ)
+    → (call_at p.funcs.items fuel room f place ns begin s).ran.stop ≡ Left number → ⊥
+call_never_left p fuel room low never f place ns begin s number =
+    subst (λ (r : ℕ). (call_at p.funcs.items fuel r f place ns begin s).ran.stop ≡ Left number → ⊥)
+    (room_back room low)
+    (calls_stay p fuel never (MAX_CALL_DEPTH - room) [] f place ns begin s number)
+
 -- whatever they note where they begin
 module _ (p : Program) (fuel room : ℕ) (l : ParLoop) (again begin : List Note) (n : ℕ) (i : ℤ)
     (s : State) where
@@ -159,6 +175,15 @@ module _ (p : Program) (fuel room : ℕ) (l : ParLoop) (again begin : List Note)
       (subst (Within p fuel l n i s) (room_back room low)
       (ticks_at p fuel l n i s (MAX_CALL_DEPTH - room) within))
 
+  -- none is left where the body has no `leave` of its own, and no function has
+  pub never_left : room ≤ MAX_CALL_DEPTH → All IsNeverLeft p.funcs.items
+      → LeavesNothing l.body.items → (number : ℤ) → ran.stop ≡ Left number → ⊥
+  never_left low never stays number =
+      subst (λ (r : ℕ). (iterations_in p fuel r l again begin n i s).stop ≡ Left number → ⊥)
+      (room_back room low)
+      (λ is. iterations_stay p fuel never (MAX_CALL_DEPTH - room) l.reduces.items l.body.items
+      l.var.text.items again begin n i s number stays is)
+
   module _ (outer : Modes) (rules : Lawful p outer (names_of s.vars) l) where
     -- nothing is printed
     pub output_kept : ran.state.output ≡ s.output
@@ -171,7 +196,7 @@ module _ (p : Program) (fuel room : ℕ) (l : ParLoop) (again begin : List Note)
     round_kept done =
         let ends =
         (lower_kept p outer l fuel room [] [] n i (i +ℤ pos n) s rules tt tt
-        (omega (arith, ints))).leaves (sym unnoted.stop ∙ done) in
+        (omega (arith, ints))).leaves (goes_done (sym unnoted.stop ∙ done)) in
         subst (λ (u : State). SameRound l.reduces.items s.vars u.vars) (sym unnoted.state)
         (same_round l.reduces.items l.var.text.items s.vars
         (iterations_in p fuel room l [] [] n i s).state.vars ends.claim.keeps ends.claim.size)
@@ -183,7 +208,7 @@ module _ (p : Program) (fuel room : ℕ) (l : ParLoop) (again begin : List Note)
         subst (λ (u : State). AgreeOn (Outside (LowerWritten outer l s.vars c)) s.tables u.tables)
         (sym unnoted.state)
         ((lower_kept p outer l fuel room [] [] n i c s rules tt tt below).leaves
-        (sym unnoted.stop ∙ done)).tables
+        (goes_done (sym unnoted.stop ∙ done))).tables
 
 -- ---- variables with accumulators
 

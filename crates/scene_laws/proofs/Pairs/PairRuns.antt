@@ -2,14 +2,17 @@
 use Rattle.std.proofs.Common.{◌≡◌, ℕ, ◌+◌, ◌≤◌, Bool, true, false, cond, List, [], ◌∷◌, ◌++◌}
 use Rattle.std.proofs.Common.{length, Some, drop, refl, ap, sym, ◌∙◌, append-nil, arith}
 use Rattle.std.specs.Prelude.{ℤ, slice_get}
+use Rattle.std.specs.List.{All}
 use Rattle.std.proofs.lemmas.List.Elements.{All-cons, All-nil}
 use Rattle.beat_count.specs.Joining.{joined_stop, joined_ticks}
+use Rattle.tp_value.specs.declared.limits.TheConstants.{MAX_CALL_DEPTH}
 use Rattle.tp_value.specs.declared.Place.{Place}
 use Rattle.tp_value.specs.declared.Stop.{Stop}
 use Rattle.tp_value.specs.declared.Stop.TheVariants.{Done, Left, NoFuel, Trap}
 use Rattle.loop_syntax.specs.declared.Program.{Program}
 use Rattle.loop_meaning.specs.Calls.{call_at}
 use Rattle.loop_meaning.specs.Frames.{one_call, two_calls_of}
+use Rattle.loop_meaning.specs.Only.{IsNeverLeft}
 use Rattle.loop_meaning.specs.State as meaning
 use Rattle.loop_meaning.specs.State.{Chance, Emits, Note, Ran, Reads, Writes, after}
 use Rattle.loop_meaning.specs.Statements.{Called}
@@ -29,8 +32,10 @@ use Rattle.frame_machine.specs.FrameLaws.{LawfulCalls, PairJoins, WholeCells, ch
 use Rattle.frame_machine.specs.Iterating.{NoCell}
 use Rattle.frame_machine.specs.Modes.{Modes}
 use Rattle.frame_machine.specs.Parts.{NotesKeep}
+use Rattle.frame_machine.proofs.Following.{goes_done}
 use Rattle.frame_machine.proofs.Pairs.{call_keeps, pair_joins}
 use Rattle.handler_gen.specs.Blocks.{call_target}
+use Rattle.scene_laws.proofs.Merges.JoinsRuns.{call_never_left}
 use Rattle.scene_laws.proofs.Scenes.Called.{value_of, with_value}
 use Rattle.scene_laws.proofs.Scenes.Changing.{call_changes}
 use Rattle.scene_laws.proofs.Scenes.Results.{End, Fin, Out, end_by}
@@ -136,13 +141,30 @@ module _ (p : Program) (m : Modes) (fuel room : ℕ) (f g : List ℕ) (place sec
     abbrev pub whole : Ran
     whole = after low.ran (λ t. (next t).ran)
 
+    -- where no function has a `leave` of its own they aren't left
+    pub whole_stays : room ≤ MAX_CALL_DEPTH → All IsNeverLeft p.funcs.items → (number : ℤ)
+        → whole.stop ≡ Left number → ⊥
+    whole_stays few never number = by_low low.ran.stop
+      where
+        low_stays : low.ran.stop ≡ Left number → ⊥
+        low_stays = call_never_left p fuel room few never f place ns (Chance ∷ []) s number
+
+        by_low : (stop : Stop)
+            → (meaning.go_on stop low.ran (λ t. (next t).ran)).stop ≡ Left number → ⊥
+        by_low Done is =
+            call_never_left p fuel room few never g second_place ms [] low.ran.state number is
+        by_low (Left other) is = low_stays is
+        by_low (Trap kind at) is = low_stays is
+        by_low NoFuel is = low_stays is
+
     pub low_output : low.ran.state.output ≡ s.output
     low_output =
         (call_keeps p m fuel room f g rules f rules.first place ns (Chance ∷ []) (tt, tt) s).output
 
     pub low_vars : low.ran.stop ≡ Done → low.ran.state.vars ≡ s.vars
-    low_vars =
+    low_vars done =
         (call_keeps p m fuel room f g rules f rules.first place ns (Chance ∷ []) (tt, tt) s).vars
+        (goes_done done)
 
     -- they read only tables that are whole, and write nothing
     pub low_keeps : NotesKeep (WholeCells m) NoCell low.ran.notes
@@ -176,7 +198,7 @@ module _ (p : Program) (m : Modes) (fuel room : ℕ) (f g : List ℕ) (place sec
       where
         by_stop : (stop : Stop) → r.stop ≡ stop → r.state.ticks ≤ fuel + 1
         by_stop Done is = let few = sound.within (λ spent. cc) in omega (arith, few)
-        by_stop (Left number) is = omega (arith, sound.spent is)
+        by_stop (Left number) is = let few = sound.within (λ spent. cc) in omega (arith, few)
         by_stop (Trap kind at) is = let few = sound.within (λ spent. cc) in omega (arith, few)
         by_stop NoFuel is = omega (arith, sound.spent is)
 

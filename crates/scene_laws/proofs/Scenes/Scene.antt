@@ -9,7 +9,7 @@ use Rattle.stack_marks.specs.declared.mark.Mark.{Mark}
 use Rattle.stack_marks.specs.Stacks.{StackValue, word_at}
 use Rattle.tp_value.specs.declared.Table.{Table}
 use Rattle.tp_value.specs.declared.Stop.{Stop}
-use Rattle.tp_value.specs.declared.Stop.TheVariants.{Done, Trap, NoFuel}
+use Rattle.tp_value.specs.declared.Stop.TheVariants.{Done, Left, Trap, NoFuel}
 use Rattle.tpal_syntax.specs.declared.instructions.Instr.{Instr}
 use Rattle.tpal_syntax.specs.declared.instructions.Term.{Term}
 use Rattle.tpal_syntax.specs.declared.instructions.Term.TheVariants as term
@@ -193,9 +193,10 @@ module _ {z size fuel : ℕ} {world : Facts} {more : List Mark} {st : meaning.St
     keeps = keeps;
   }
 
--- a stop before the end
+-- a stop that ends a task wherever it stands; one that is left goes on behind its loop
 abbrev pub IsEarly : Stop → Type 0
 IsEarly Done = ⊥
+IsEarly (Left number) = ⊥
 IsEarly (Trap kind place) = ⊤
 IsEarly NoFuel = ⊤
 
