@@ -91,6 +91,7 @@ module _ (tables : List (List ℕ)) (functions : List Entry) (most : ℕ) where
         × IsCall names g
     Fits round names (Print place e) = IsVisible tables names e
     Fits round names (Emit place t) = IsTrue (is_in tables t.text.items)
+    -- these have no code yet
     Fits round names (Leave x e) = ⊥
     Fits round names (Fill f t r es) = ⊥
 
