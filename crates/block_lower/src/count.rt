@@ -86,6 +86,8 @@ fn in_stmt(s: &Stmt) -> u64
             .saturating_add(in_exprs(&g.args)),
         Stmt::Print(_, e) => FOR_STATEMENT.saturating_add(in_expr(e)),
         Stmt::Emit(_, _) => FOR_STATEMENT,
+        Stmt::Leave(_, e) => FOR_STATEMENT.saturating_add(in_expr(e)),
+        Stmt::Fill { args, .. } => FOR_STATEMENT.saturating_add(in_exprs(args)),
     }
 }
 

@@ -6,9 +6,11 @@
 //! `lowering` has the type that writes it, whose methods stand by what they write; `statement` says
 //! which of them writes which form, `par` how one that a beat can cut is marked, and `leaf` which
 //! variables of a loop stand in registers.
+//! `built` says which programs there is code for: there is none yet for `leave`.
 #![tactic(auto)]
 
 mod body;
+mod built;
 mod call;
 mod count;
 mod deep;
@@ -31,6 +33,7 @@ mod sizes;
 mod statement;
 mod table;
 
+pub use built::program_is_built;
 pub use count::block_count;
 pub use fault::LowerFault;
 pub use program::lower;

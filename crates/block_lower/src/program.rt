@@ -1,11 +1,12 @@
 // The code of a program.
 
 ghost use Rattle.std.specs.Prelude.{◌≡◌, ◌+◌, ◌≤◌, pos, max, map, ◌∷◌, [], length, IfOk, IfErr};
-ghost use Rattle.std.specs.Prelude.{OnOk};
+ghost use Rattle.std.specs.Prelude.{OnOk, true};
 ghost use Rattle.tp_value.specs.declared.limits.TheConstants.{MAX_BLOCKS, MAX_TABLES};
 ghost use Rattle.tpal_syntax.specs.Listing.{Listing};
 ghost use Rattle.expr_lower.specs.Standing.{AreAt};
 ghost use Rattle.block_lower.specs.Bodies.{entries, HasRoomFor};
+ghost use Rattle.scene_laws.specs.Built.{program_is_built};
 ghost use Rattle.scene_laws.specs.Code as codes;
 ghost use Rattle.scene_laws.specs.Count.{blocks_of_program};
 ghost use Rattle.code_laws.specs.Fitting.{ProgramFits};
@@ -195,6 +196,7 @@ fn no_code(alloc: Global, on: Body) -> Lowering
 /// which each beat goes.
 fn program_blocks(alloc: Global, program: &Program) -> Result<Vec<Block>, NoMemory>
     requires fits { ProgramFits program.now }
+    requires built { program_is_built program.now ≡ true }
     requires labels { programs.added_by_program program.now + 1 ≤ MAX_BLOCKS }
     ensures count { IfOk result
         (λ blocks. length blocks.items ≡ programs.added_by_program program.now) }
@@ -225,10 +227,11 @@ fn program_blocks(alloc: Global, program: &Program) -> Result<Vec<Block>, NoMemo
     Ok(blocks)
 }
 
-/// The code of a program. Its first task owes the program's meaning, where nothing is diverted and
-/// whatever is promoted. `Blocks` comes exactly where the blocks that are counted are more than
-/// 65,536.
+/// The code of a program for which there is code. Its first task owes the program's meaning, where
+/// nothing is diverted and whatever is promoted. `Blocks` comes exactly where the blocks that are
+/// counted are more than 65,536.
 pub fn lower(alloc: Global, program: &Checked) -> Result<Code, LowerFault>
+    requires built { program_is_built program.now ≡ true }
     ensures owes { IfOk result (λ code. OwesMeaning program.now code) }
     ensures fits { IfOk result (λ code. blocks_of_program program.now ≤ MAX_BLOCKS) }
     ensures count { IfOk result (λ code. length code.blocks ≤ blocks_of_program program.now) }

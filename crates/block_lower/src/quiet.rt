@@ -27,6 +27,8 @@ fn is_quiet(s: &Stmt, calls: bool) -> bool
         Stmt::Both(_, _, _, _) => false,
         Stmt::Print(_, _) => true,
         Stmt::Emit(_, _) => true,
+        Stmt::Leave(_, _) => true,
+        Stmt::Fill { .. } => true,
     }
 }
 

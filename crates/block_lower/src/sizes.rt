@@ -62,6 +62,8 @@ fn added(calls: bool, s: &Stmt) -> u32
             .saturating_add(12),
         Stmt::Print(_, e) => trap_count(e),
         Stmt::Emit(_, _) => 0,
+        Stmt::Leave(_, e) => trap_count(e).saturating_add(1),
+        Stmt::Fill { .. } => 0,
     }
 }
 
@@ -191,6 +193,8 @@ fn declared(s: &Stmt) -> usize
         Stmt::Both(_, _, _, _) => 0,
         Stmt::Print(_, _) => 0,
         Stmt::Emit(_, _) => 0,
+        Stmt::Leave(_, _) => 0,
+        Stmt::Fill { .. } => 0,
     }
 }
 
@@ -246,6 +250,8 @@ fn kept(s: &Stmt) -> u16
         Stmt::Both(_, _, _, g) => kept_by_both(g.args.len() as u16),
         Stmt::Print(_, _) => 0,
         Stmt::Emit(_, _) => 0,
+        Stmt::Leave(_, _) => 0,
+        Stmt::Fill { .. } => 0,
     }
 }
 

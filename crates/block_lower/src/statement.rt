@@ -381,6 +381,9 @@ impl Lowering {
             Stmt::Call(x, f) => self.lower_call(x, f),
             Stmt::Both(x, f, y, g) => self.lower_both(x, f, y, g),
             Stmt::Emit(_, t) => self.lower_emit(t),
+            // No program that is lowered has one of these.
+            Stmt::Leave(_, _) => unreachable!(),
+            Stmt::Fill { .. } => unreachable!(),
         }
     }
 

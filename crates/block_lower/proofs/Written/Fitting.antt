@@ -5,7 +5,7 @@ use Rattle.loop_syntax.specs.declared.Stmt.{Stmt, Row_of-Stmt, end_of-Stmt, more
 use Rattle.loop_syntax.specs.declared.Stmt.{items-the_row-Stmt, items_hidden-the_row-Stmt-0}
 use Rattle.loop_syntax.specs.declared.Stmt.TheBlock.{hidden-the_row-Stmt-0}
 use Rattle.loop_syntax.specs.declared.Stmt.TheVariants.{Let, Set, Put, If', While', Loop', Par'}
-use Rattle.loop_syntax.specs.declared.Stmt.TheVariants.{Fold, Call, Both, Print, Emit}
+use Rattle.loop_syntax.specs.declared.Stmt.TheVariants.{Fold, Call, Both, Print, Emit, Leave, Fill}
 use Rattle.tpal_syntax.specs.declared.instructions.Instr.{Instr}
 use Rattle.tpal_syntax.specs.declared.instructions.Term.{Term}
 use Rattle.tpal_syntax.specs.Listing.{Listing}
@@ -61,6 +61,8 @@ module _ (tables : List (List ℕ)) (functions : List Entry) (most : ℕ) where
     fits_held round registers names (Both x g y h) f = f
     fits_held round registers names (Print place e) f = f
     fits_held round registers names (Emit place t) f = f
+    fits_held round registers names (Leave x e) f = f
+    fits_held round registers names (Fill g t r es) f = f
 
     row_held : {m : _} (round : Round) (registers : List (ℕ × ℕ)) (names : List (List ℕ))
         (row : Row_of-Stmt m) → FitInRow tables functions most round names row

@@ -17,7 +17,7 @@ use Rattle.loop_syntax.specs.declared.Func.{Func}
 use Rattle.loop_syntax.specs.declared.Program.{Program}
 use Rattle.loop_syntax.specs.declared.Stmt.{Stmt, Row_of-Stmt, end_of-Stmt, more_of-Stmt}
 use Rattle.loop_syntax.specs.declared.Stmt.TheVariants.{Let, Set, Put, If', While', Loop', Par'}
-use Rattle.loop_syntax.specs.declared.Stmt.TheVariants.{Fold, Call, Both, Print, Emit}
+use Rattle.loop_syntax.specs.declared.Stmt.TheVariants.{Fold, Call, Both, Print, Emit, Leave, Fill}
 use Rattle.loop_syntax.specs.declared.TableDecl.{TableDecl}
 use Rattle.loop_syntax.specs.declared.TableDecl.TheVariants.{Input, Made}
 use Rattle.loop_rules.specs.Declarations.{declared_in, declared_list}
@@ -98,6 +98,8 @@ mutual
   few_twice calls (Both x f y g) quiet = absurd (true≢false (sym quiet))
   few_twice calls (Print place e) quiet = omega (arith, few_trap_blocks e)
   few_twice calls (Emit place t) quiet = omega arith
+  few_twice calls (Leave x e) quiet = omega (arith, few_trap_blocks e)
+  few_twice calls (Fill f t r es) quiet = omega arith
 
   few_twice_by_all : {m : _} (calls : Bool) (row : Row_of-Stmt m) → all_is_quiet calls row ≡ true → 2 * added_by_all calls row ≤ blocks_of_all row
   few_twice_by_all calls end_of-Stmt quiet = omega arith
@@ -131,6 +133,8 @@ mutual
   quiet_too calls (Both x f y g) quiet = quiet
   quiet_too calls (Print place e) quiet = refl
   quiet_too calls (Emit place t) quiet = refl
+  quiet_too calls (Leave x e) quiet = refl
+  quiet_too calls (Fill f t r es) quiet = refl
 
   all_quiet_too : {m : _} (calls : Bool) (row : Row_of-Stmt m) → all_is_quiet false row ≡ true → all_is_quiet calls row ≡ true
   all_quiet_too calls end_of-Stmt quiet = refl
@@ -166,6 +170,8 @@ mutual
   few_added calls (Both x f y g) = omega (arith, twice_few_trap_blocks f.args.items, twice_few_trap_blocks g.args.items)
   few_added calls (Print place e) = omega (arith, few_trap_blocks e)
   few_added calls (Emit place t) = omega arith
+  few_added calls (Leave x e) = omega (arith, few_trap_blocks e)
+  few_added calls (Fill f t r es) = omega arith
 
   few_added_by_all : {m : _} (calls : Bool) (row : Row_of-Stmt m) → added_by_all calls row ≤ blocks_of_all row
   few_added_by_all calls end_of-Stmt = omega arith

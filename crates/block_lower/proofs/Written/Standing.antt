@@ -9,7 +9,7 @@ use Rattle.loop_check.proofs.Found.{is_in_more}
 use Rattle.loop_rules.specs.Names.{is_in}
 use Rattle.loop_syntax.specs.declared.Stmt.{Stmt}
 use Rattle.loop_syntax.specs.declared.Stmt.TheVariants.{Let, Set, Put, If', While', Loop', Par'}
-use Rattle.loop_syntax.specs.declared.Stmt.TheVariants.{Fold, Call, Both, Print, Emit}
+use Rattle.loop_syntax.specs.declared.Stmt.TheVariants.{Fold, Call, Both, Print, Emit, Leave, Fill}
 use Rattle.expr_lower.specs.declared.scope.Scope.{Scope}
 use Rattle.expr_lower.specs.Scopes.{has_cell_in, offset_of, register_in, register_of}
 use Rattle.scene_laws.specs.Code.{Stand}
@@ -127,6 +127,8 @@ module _ {names : List (List ℕ)} {regs : List (Vec ℕ Global × ℕ)} {regist
   stand_after (Both x f y g) = s
   stand_after (Print place e) = s
   stand_after (Emit place t) = s
+  stand_after (Leave x e) = s
+  stand_after (Fill f t r es) = s
 
 pub stand_after_list : {names : List (List ℕ)} {regs : List (Vec ℕ Global × ℕ)}
     {registers : List (ℕ × ℕ)} (ss : List Stmt) → StandFor names regs registers

@@ -1,7 +1,7 @@
 -- The code of a program is written where that of its parts is.
 use Rattle.std.proofs.Common.{◌≡◌, ℕ, ◌+◌, ◌≤◌, max, List, [], ◌∷◌, ◌++◌, length, map, take, Vec}
 use Rattle.std.proofs.Common.{refl, sym, ap, subst, ◌∙◌, arith}
-use Rattle.std.specs.Prelude.{pos}
+use Rattle.std.specs.Prelude.{pos, true}
 use Rattle.std.specs.List.{AllByRecursion}
 use Rattle.std.proofs.lemmas.List.Sums.{sum_by-cons}
 use Rattle.std.specs.declared.alloc.Global.{Global}
@@ -26,6 +26,7 @@ use Rattle.block_lower.specs.declared.body.Body.{Body}
 use Rattle.block_lower.specs.declared.output.Output.{Output}
 use Rattle.block_lower.specs.declared.round.Round as told
 use Rattle.block_lower.specs.Bodies.{entries, activation, HasRoomFor}
+use Rattle.scene_laws.specs.Built.{program_is_built}
 use Rattle.scene_laws.specs.Code.{Codes, store}
 use Rattle.scene_laws.specs.Visible.{IsVisible}
 use Rattle.code_laws.specs.Fitting.{AllFit, FuncFits, DeclsFit, ProgramFits}
@@ -199,11 +200,11 @@ main_fits_now p on as_told scope seen fits same most is_round cells bare none ke
     }
 
 -- the blocks of main, those of the functions, and the one to which each beat goes are the code of the program
-pub program_written : (p : Program) (on : Body) (kept : ℕ) (scope : Scope) (old main new : Output) → ProgramFits p → entries on.callees.items ≡ entries_from (quiet_calls p) (added_by_main p) p.funcs.items → on.most ≡ declared_by_list p.main.items
+pub program_written : (p : Program) (on : Body) (kept : ℕ) (scope : Scope) (old main new : Output) → ProgramFits p → program_is_built p ≡ true → entries on.callees.items ≡ entries_from (quiet_calls p) (added_by_main p) p.funcs.items → on.most ≡ declared_by_list p.main.items
     → on.quiet_calls ≡ quiet_calls p → on.dispatch ≡ dispatch_of p → HasRoomFor on kept → old.blocks.items ≡ [] → IsFresh old → LowersMain on p old main → IsFresh main → next_label main ≡ next_label old + added_by_main p → SeesBare scope [] (map table_name p.tables.items)
     → LowersFuncs on scope p.funcs.items main new → length new.blocks.items ≡ dispatch_of p
     → (code : Listing) → AreDeclared p.tables.items code.tables → AreAt code 0 (new.blocks.items ++ dispatch_block on.dispatch ∷ []) → IsProgram code p
-program_written p on kept scope old main new fits same most calls beat room empty fresh lowers fresh_main labels sees functions many code declared all_stand =
+program_written p on kept scope old main new fits built same most calls beat room empty fresh lowers fresh_main labels sees functions many code declared all_stand =
     let tables : List (List ℕ) = map table_name p.tables.items in
     let stands : Stands code new = front code 0 new.blocks.items (dispatch_block on.dispatch ∷ []) all_stand in
     let last : AreAt code (0 + length new.blocks.items) (dispatch_block on.dispatch ∷ []) = back code 0 new.blocks.items (dispatch_block on.dispatch ∷ []) all_stand in
@@ -235,4 +236,5 @@ program_written p on kept scope old main new fits same most calls beat room empt
         funcs = functions_ranged code (activation on tables) (label main) p.funcs.items f.1;
         main = codes_ranged code (activation on tables) m.statements;
       };
+      built = built;
     }

@@ -11,7 +11,10 @@ use Rattle.code_laws.proofs.Whole.Owes.{owes_of}
 use Rattle.block_lower.proofs.program.lower.Goals as goal
 
 pub program_blocks-requires-clause-fits : goal.program_blocks-requires-clause-fits
-program_blocks-requires-clause-fits c = rw c.program-program.ensures.program (program_fits c.args.program.now c.program-program.ensures.unbroken)
+program_blocks-requires-clause-fits c = rw c.program-program.ensures.program (program_fits c.args.program.now c.program-program.ensures.unbroken c.requires.built)
+
+pub program_blocks-requires-clause-built : goal.program_blocks-requires-clause-built
+program_blocks-requires-clause-built c = rw c.program-program.ensures.program c.requires.built
 
 pub program_blocks-requires-clause-labels : goal.program_blocks-requires-clause-labels
 program_blocks-requires-clause-labels c = rw c.program-program.ensures.program (omega (arith, fewer_blocks c.args.program.now, c.if-count.false, c.block_count-count.ensures))

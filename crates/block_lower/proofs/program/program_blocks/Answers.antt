@@ -73,7 +73,7 @@ returns-clause-code c = λ code declared stands.
     (rw c.in_ok-push.ensures.items at stands) in
     program_written p on (max (kept_by_list p.main.items) (kept_by_decls p.tables.items))
     c.lower_main.new.self.scope c.no_code-lowering.result.out c.lower_main.new.self.out
-    c.lower_funcs.new.self.out c.requires.fits made.callees made.most made.calls made.dispatch
+    c.lower_funcs.new.self.out c.requires.fits c.requires.built made.callees made.most made.calls made.dispatch
     (main_room p on c.requires.fits made.most made.size) begun.blocks begun.fresh
     (rw begun.on at main.code) main.fresh
     main.labels main.sees (rw (c.deref.ensures.value, same) at c.in_ok-lower_funcs.ensures.code)

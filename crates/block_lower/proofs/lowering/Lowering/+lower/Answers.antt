@@ -704,6 +704,9 @@ lower_stmt-lower_par-requires t c =
       ),
     )
 
+pub lower_stmt-unreachable-requires : goal.lower_stmt-unreachable-requires
+lower_stmt-unreachable-requires t c = (rw c.in-Leave.is at c.requires.fits.fits).0
+
 pub lower_stmt-returns-in-Let-clause-sees : goal.lower_stmt-returns-in-Let-clause-sees
 lower_stmt-returns-in-Let-clause-sees t c = on_ok c.lower_let.result (λ h. rw c.in-Let.is h) c.lower_let.ensures.sees
 
