@@ -2,7 +2,7 @@
 
 ghost use Rattle.std.specs.Prelude.{◌≡◌, length, IfOk};
 
-use block_lower::lower;
+use block_lower::{lower, program_is_built};
 use loop_check::{Checked, check};
 use loop_lex::lex;
 use loop_parse::parse;
@@ -171,6 +171,9 @@ fn halted(alloc: Global, code: &Code) -> Result<Option<(u64, Outcome)>, NoMemory
 /// What the run of a source takes, where it is a program and its run is done in one turn.
 fn cost_of(alloc: Global, source: &[u8]) -> Option<Cost> {
     let program = checked(alloc, source)?;
+    if !program_is_built(&program) {
+        return None;
+    }
     let Ok(code) = lower(alloc, &program) else {
         return None;
     };

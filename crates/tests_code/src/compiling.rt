@@ -1,11 +1,12 @@
 // From a source text to a program and its code, and what the code's first task holds.
 
-ghost use Rattle.std.specs.Prelude.{◌≡◌, ◌≤◌, length, IfOk, IfSome};
+ghost use Rattle.std.specs.Prelude.{◌≡◌, ◌≤◌, length, IfOk, IfSome, true};
+ghost use Rattle.scene_laws.specs.Built.{program_is_built};
 ghost use Rattle.scene_laws.specs.Tables.{AreHeld, AreNamed};
 ghost use Rattle.code_laws.specs.Owing.{OwesMeaning};
 ghost use Rattle.tests_code.specs.Owed.{given_to};
 
-use block_lower::lower;
+use block_lower::{lower, program_is_built};
 use loop_check::{Checked, check};
 use loop_lex::lex;
 use loop_parse::parse;
@@ -26,8 +27,10 @@ pub struct Compiled {
     pub code: Code,
 }
 
-/// The program of a source, where it keeps to all rules.
-pub fn checked(alloc: Global, source: &[u8]) -> Option<Checked> {
+/// The program of a source, where it keeps to all rules and there is code for it.
+pub fn checked(alloc: Global, source: &[u8]) -> Option<Checked>
+    ensures { IfSome result (λ program. program_is_built program ≡ true) }
+{
     if source.len() > 1_048_576 {
         return None;
     }
@@ -41,7 +44,7 @@ pub fn checked(alloc: Global, source: &[u8]) -> Option<Checked> {
         return None;
     };
     match check(alloc, resolved) {
-        Ok(program) => Some(program),
+        Ok(program) => { if program_is_built(&program) { Some(program) } else { None } }
         Err(_fault) => None,
     }
 }
