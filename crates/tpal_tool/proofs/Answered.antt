@@ -101,6 +101,7 @@ no_run compiles runs goes = absurd (some_none (ap run_options (some_same (sym co
 -- no run has the status of bad words
 no_bad_stop : (stop : Stop) → by_stop Done Trap OutOfFuel stop ≡ BadWords → ⊥
 no_bad_stop stops.Done bad = omega (arith, ap number_of bad)
+no_bad_stop (stops.Left n) bad = omega (arith, ap number_of bad)
 no_bad_stop (stops.Trap kind place) bad = omega (arith, ap number_of bad)
 no_bad_stop stops.NoFuel bad = omega (arith, ap number_of bad)
 

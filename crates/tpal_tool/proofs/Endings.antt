@@ -124,6 +124,7 @@ final is ends = subst (λ (s : Status). IsFinal s) (sym is) ends
 
 final-by_stop : (stop : Stop) → IsFinal (by_stop Done Trap OutOfFuel stop)
 final-by_stop stops.Done = tt
+final-by_stop (stops.Left n) = tt
 final-by_stop (stops.Trap kind place) = tt
 final-by_stop stops.NoFuel = tt
 

@@ -1,6 +1,7 @@
 -- A source text comes to one thing alone.
-use Rattle.std.proofs.Common.{◌≡◌, ◌≢◌, ◌<◌, ◌≤◌, ℕ, List, ap, sym, ◌∙◌, arith}
-use Rattle.std.specs.Prelude.{Ok, Err}
+use Rattle.std.proofs.Common.{◌≡◌, ◌≢◌, ◌<◌, ◌≤◌, ℕ, List, refl, ap, sym, ◌∙◌, arith}
+use Rattle.std.specs.Prelude.{Ok, Err, true, false}
+use Rattle.std.proofs.lemmas.Bool.{false≢true}
 use Rattle.tp_value.specs.declared.limits.TheConstants.{MAX_BLOCKS}
 use Rattle.tp_value.specs.declared.values.Place.{Place}
 use Rattle.loop_lex.specs.declared.token.Token.{Token}
@@ -12,18 +13,21 @@ use Rattle.loop_syntax.specs.Tree.{ProgramTree, program_of}
 use Rattle.loop_parse.specs.Text.{Reads, TextFault, Byte, Range, Form, Deep, FirstTextFault, byte}
 use Rattle.loop_parse.specs.Text.{range, form, deep, IsOnlyFault}
 use Rattle.tpal_tool.specs.declared.refusal.SourceFault.{SourceFault}
-use Rattle.tpal_tool.specs.Lines.{blocks_line, fault_line, fault_of, parallel_line, rule_line}
+use Rattle.tpal_tool.specs.Lines.{blocks_line, fault_line, fault_of, not_built_line, parallel_line}
+use Rattle.tpal_tool.specs.Lines.{rule_line}
 use Rattle.tpal_tool.specs.Parsing.{ParsesAs}
-use Rattle.tpal_tool.specs.Verdict.{Refuses, faulty, broken, broken_parallel, too_many_blocks}
-use Rattle.tpal_tool.specs.Verdict.{RefusesOnly, AcceptsOnly}
+use Rattle.tpal_tool.specs.Verdict.{Refuses, faulty, broken, broken_parallel, not_built}
+use Rattle.tpal_tool.specs.Verdict.{too_many_blocks, RefusesOnly, AcceptsOnly}
 use Rattle.loop_rules.specs.Resolving.{IsFirstBroken}
 use Rattle.loop_rules.specs.Unbroken.{IsResolved}
 use Rattle.loop_rules.proofs.Firsts.{first-tree, resolved-tree, firsts_agree, not_both}
 use Rattle.loop_check.specs.Checking as parallel
 use Rattle.loop_check.specs.Unbroken.{NoneBroken}
 use Rattle.loop_check.proofs.Firsts as parallels
+use Rattle.scene_laws.specs.Built.{program_is_built}
 use Rattle.scene_laws.specs.Count.{blocks_of_program}
 use Rattle.scene_laws.proofs.Counts.TreeBlocks.{blocks_of_tree}
+use Rattle.block_lower.proofs.TreeBuilt.{built_of_tree}
 
 -- ---- faults of the lexer
 
@@ -79,10 +83,14 @@ range-only source p only = (range_first source p (only (real_range p)), no_tree 
 resolved_of : (p : Program) → NoneBroken p → IsResolved p
 resolved_of p none = record { unbroken = λ r place u h. none.unbroken r place h }
 
--- a program that breaks no rule, and whose code has few enough blocks
-pub accepted-only : (source : List ℕ) (p : Program) → ParsesAs source p → NoneBroken p → blocks_of_program p ≤ MAX_BLOCKS → AcceptsOnly source p
-accepted-only source p parses_as none few = record {
-  accepts = record { reads = parses_as.0; unbroken = none; fits = few };
+-- where there is code for a program, there is for another one with its tree
+built_too : (p q : Program) → program_of q ≡ program_of p → program_is_built p ≡ true → program_is_built q ≡ false → ⊥
+built_too p q same built not = false≢true (sym not ∙ built_of_tree q p same ∙ built)
+
+-- a program that breaks no rule, for which there is code, and whose code has few enough blocks
+pub accepted-only : (source : List ℕ) (p : Program) → ParsesAs source p → NoneBroken p → program_is_built p ≡ true → blocks_of_program p ≤ MAX_BLOCKS → AcceptsOnly source p
+accepted-only source p parses_as none built few = record {
+  accepts = record { reads = parses_as.0; unbroken = none; built = built; fits = few };
   one_program = λ other a. parses_as.1 (program_of other) a.reads;
   not_refused = unrefused;
 }
@@ -93,13 +101,33 @@ accepted-only source p parses_as none few = record {
         not_both p rule place (resolved_of p none) (first-tree program p rule place (parses_as.1 (program_of program) reads) first)
     unrefused line (broken_parallel program rule place reads resolved first t) =
         parallels.not_both p rule place none (parallels.first-tree program p (parses_as.1 (program_of program) reads) rule place first)
-    unrefused line (too_many_blocks program reads unbroken many t) =
+    unrefused line (not_built program reads unbroken not t) =
+        built_too p program (parses_as.1 (program_of program) reads) built not
+    unrefused line (too_many_blocks program reads unbroken also many t) =
         omega (arith, few, many, blocks_of_tree program p (parses_as.1 (program_of program) reads))
 
--- a program that breaks no rule, and whose code has too many blocks
-pub too_many-only : (source : List ℕ) (p : Program) (line : List ℕ) → ParsesAs source p → NoneBroken p → MAX_BLOCKS < blocks_of_program p → line ≡ blocks_line (blocks_of_program p) → RefusesOnly source line
-too_many-only source p line parses_as none many is = record {
-  refuses = too_many_blocks p parses_as.0 none many is;
+-- a program that breaks no rule, and for which there is no code
+pub not_built-only : (source : List ℕ) (p : Program) → ParsesAs source p → NoneBroken p → program_is_built p ≡ false → RefusesOnly source not_built_line
+not_built-only source p parses_as none not = record {
+  refuses = not_built p parses_as.0 none not refl;
+  one_line = one;
+  not_accepted = λ program a. built_too program p (sym (parses_as.1 (program_of program) a.reads)) a.built not;
+}
+  where
+    one : (other : List ℕ) → Refuses source other → other ≡ not_built_line
+    one other (faulty fault first t) = absurd (parses_as.2 fault first)
+    one other (broken program rule place reads first t) =
+        absurd (not_both p rule place (resolved_of p none) (first-tree program p rule place (parses_as.1 (program_of program) reads) first))
+    one other (broken_parallel program rule place reads resolved first t) =
+        absurd (parallels.not_both p rule place none (parallels.first-tree program p (parses_as.1 (program_of program) reads) rule place first))
+    one other (not_built program reads unbroken also t) = t
+    one other (too_many_blocks program reads unbroken built many t) =
+        absurd (built_too program p (sym (parses_as.1 (program_of program) reads)) built not)
+
+-- a program that breaks no rule, for which there is code, with too many blocks
+pub too_many-only : (source : List ℕ) (p : Program) (line : List ℕ) → ParsesAs source p → NoneBroken p → program_is_built p ≡ true → MAX_BLOCKS < blocks_of_program p → line ≡ blocks_line (blocks_of_program p) → RefusesOnly source line
+too_many-only source p line parses_as none built many is = record {
+  refuses = too_many_blocks p parses_as.0 none built many is;
   one_line = one;
   not_accepted = λ program a. omega (arith, many, a.fits, blocks_of_tree program p (parses_as.1 (program_of program) a.reads));
 }
@@ -110,7 +138,9 @@ too_many-only source p line parses_as none many is = record {
         absurd (not_both p rule place (resolved_of p none) (first-tree program p rule place (parses_as.1 (program_of program) reads) first))
     one other (broken_parallel program rule place reads resolved first t) =
         absurd (parallels.not_both p rule place none (parallels.first-tree program p (parses_as.1 (program_of program) reads) rule place first))
-    one other (too_many_blocks program reads unbroken more t) =
+    one other (not_built program reads unbroken not t) =
+        absurd (built_too p program (parses_as.1 (program_of program) reads) built not)
+    one other (too_many_blocks program reads unbroken also more t) =
         t ∙ ap blocks_line (blocks_of_tree program p (parses_as.1 (program_of program) reads)) ∙ sym is
 
 -- a program that breaks a rule on names, limits, output or variables of loops
@@ -128,7 +158,9 @@ broken-only source p rule place line parses_as first is = record {
         t ∙ ap (λ n. rule_line n place') same.0 ∙ ap (rule_line rule) same.1 ∙ sym is
     one other (broken_parallel program rule' place' reads resolved first' t) =
         absurd (not_both p rule place (resolved-tree program p (parses_as.1 (program_of program) reads) resolved) first)
-    one other (too_many_blocks program reads none many t) =
+    one other (not_built program reads none not t) =
+        absurd (not_both p rule place (resolved-tree program p (parses_as.1 (program_of program) reads) (resolved_of program none)) first)
+    one other (too_many_blocks program reads none built many t) =
         absurd (not_both p rule place (resolved-tree program p (parses_as.1 (program_of program) reads) (resolved_of program none)) first)
 
 -- a program that breaks a rule on parallel loops, and none of those
@@ -146,7 +178,9 @@ parallel-only source p rule place line parses_as resolved first is = record {
     one other (broken_parallel program rule' place' reads resolved' first' t) =
         let same : (rule' ≡ rule) × (place' ≡ place) = parallels.firsts_agree p rule' rule place' place (parallels.first-tree program p (parses_as.1 (program_of program) reads) rule' place' first') first in
         t ∙ ap (λ n. parallel_line n place') same.0 ∙ ap (parallel_line rule) same.1 ∙ sym is
-    one other (too_many_blocks program reads none many t) =
+    one other (not_built program reads none not t) =
+        absurd (parallels.not_both p rule place (parallels.none-tree program p (parses_as.1 (program_of program) reads) none) first)
+    one other (too_many_blocks program reads none built many t) =
         absurd (parallels.not_both p rule place (parallels.none-tree program p (parses_as.1 (program_of program) reads) none) first)
 
 -- a text with a fault
@@ -161,4 +195,5 @@ faulty-only source fault line first only is = record {
     one other (faulty found first' t) = t ∙ ap fault_line (only.0 found first') ∙ sym is
     one other (broken program rule place reads first' t) = absurd (only.1 (program_of program) reads)
     one other (broken_parallel program rule place reads resolved first' t) = absurd (only.1 (program_of program) reads)
-    one other (too_many_blocks program reads none many t) = absurd (only.1 (program_of program) reads)
+    one other (not_built program reads none not t) = absurd (only.1 (program_of program) reads)
+    one other (too_many_blocks program reads none built many t) = absurd (only.1 (program_of program) reads)

@@ -29,6 +29,7 @@ status_with (refusals.TooLong name) = statuses.Refused
 status_with (refusals.Source fault) = statuses.Refused
 status_with (refusals.Rule rule place) = statuses.Refused
 status_with (refusals.Parallel rule place) = statuses.Refused
+status_with refusals.NotBuilt = statuses.Refused
 status_with (refusals.Blocks blocks) = statuses.Refused
 status_with (refusals.Tables fault) = statuses.Refused
 status_with (refusals.Missing name) = statuses.Refused

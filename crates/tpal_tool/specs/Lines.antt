@@ -54,6 +54,10 @@ tables_line NoMemory = []
 abbrev pub too_long_line : List ℕ → List ℕ
 too_long_line name = codes "refused E15 file " ++ name ++ 10 ∷ []
 
+-- a program with a statement for which there is no code yet
+abbrev pub not_built_line : List ℕ
+not_built_line = codes "refused E0 not built" ++ 10 ∷ []
+
 -- a program whose code may have this many blocks, which are too many
 abbrev pub blocks_line : ℕ → List ℕ
 blocks_line blocks = codes "refused E12 blocks " ++ decimal blocks ++ 10 ∷ []
@@ -73,6 +77,7 @@ line_of (refusals.TooLong name) = too_long_line (string_bytes name)
 line_of (refusals.Source fault) = fault_line (fault_of fault)
 line_of (refusals.Rule rule place) = rule_line rule place
 line_of (refusals.Parallel rule place) = parallel_line rule place
+line_of refusals.NotBuilt = not_built_line
 line_of (refusals.Blocks blocks) = blocks_line blocks
 line_of (refusals.Tables fault) = tables_line fault
 line_of (refusals.Missing name) = missing_line name.items

@@ -1,5 +1,5 @@
 -- What a source text comes to.
-use Rattle.std.specs.Prelude.{◌≡◌, ℕ, ◌<◌, ◌≤◌, List}
+use Rattle.std.specs.Prelude.{◌≡◌, ℕ, ◌<◌, ◌≤◌, true, false, List}
 use Rattle.tp_value.specs.declared.limits.TheConstants.{MAX_BLOCKS}
 use Rattle.tp_value.specs.declared.values.Place.{Place}
 use Rattle.loop_syntax.specs.declared.program.Program.{Program}
@@ -9,8 +9,9 @@ use Rattle.loop_rules.specs.Resolving.{IsFirstBroken}
 use Rattle.loop_rules.specs.Unbroken.{IsResolved}
 use Rattle.loop_check.specs.Checking as parallel
 use Rattle.loop_check.specs.Unbroken.{NoneBroken}
+use Rattle.scene_laws.specs.Built.{program_is_built}
 use Rattle.scene_laws.specs.Count.{blocks_of_program}
-use Rattle.tpal_tool.specs.Lines.{blocks_line, fault_line, parallel_line, rule_line}
+use Rattle.tpal_tool.specs.Lines.{blocks_line, fault_line, not_built_line, parallel_line, rule_line}
 
 -- a source text of at most the greatest length is refused with this line
 pub data Refuses (source : List ℕ) (line : List ℕ) : Type 0 where
@@ -28,16 +29,24 @@ pub data Refuses (source : List ℕ) (line : List ℕ) : Type 0 where
       parallel.IsFirstBroken program rule place
       → line ≡ parallel_line rule place
       → Refuses source line
+  not_built : (program : Program)
+      → Reads source (program_of program)
+      → NoneBroken program
+      → program_is_built program ≡ false →
+      line ≡ not_built_line → Refuses source line
   too_many_blocks : (program : Program)
       → Reads source (program_of program)
       → NoneBroken program
+      → program_is_built program ≡ true
       → MAX_BLOCKS < blocks_of_program program →
       line ≡ blocks_line (blocks_of_program program) → Refuses source line
 
--- a source text is that of this program, which breaks no rule and whose code has few enough blocks
+-- a source text is that of this program, which breaks no rule, for which there is code, and whose
+-- code has few enough blocks
 pub record Accepts (source : List ℕ) (program : Program) : Type 0 where
   pub reads : Reads source (program_of program)
   pub unbroken : NoneBroken program
+  pub built : program_is_built program ≡ true
   pub fits : blocks_of_program program ≤ MAX_BLOCKS
 
 -- it is refused with this line, and in no other way

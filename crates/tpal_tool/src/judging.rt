@@ -10,7 +10,7 @@ ghost use Rattle.tpal_tool.specs.Verdict.{AcceptsOnly};
 
 use crate::parsing::parse_source;
 use crate::refusal::{CallFault, Refusal};
-use block_lower::block_count;
+use block_lower::{block_count, program_is_built};
 use loop_check::{Checked, check};
 use loop_rules::{Resolved, RuleFault, resolve};
 use loop_syntax::Program;
@@ -53,7 +53,7 @@ fn checked(alloc: Global, program: Resolved) -> Result<Checked, CallFault>
     }
 }
 
-/// A program that breaks no rule, where its code has few enough blocks.
+/// A program that breaks no rule, where there is code for it, which has few enough blocks.
 fn fitting(program: Checked) -> Result<Checked, CallFault>
     requires unbroken { NoneBroken program }
     requires few { blocks_of_program program < 2 ^ 64 - 1 }
@@ -64,6 +64,9 @@ fn fitting(program: Checked) -> Result<Checked, CallFault>
         → ParsesAs source program
         → IfErr result (IsFaultOf (RefusesSource source) ⊥) }
 {
+    if !program_is_built(&program) {
+        return Err(CallFault::Refused(Refusal::NotBuilt));
+    }
     let blocks = block_count(&program);
     if blocks <= MAX_BLOCKS as u64 {
         return Ok(program);
@@ -71,8 +74,8 @@ fn fitting(program: Checked) -> Result<Checked, CallFault>
     Err(CallFault::Refused(Refusal::Blocks(blocks)))
 }
 
-/// The program of a source text of at most the greatest length, which breaks no rule and whose code
-/// has few enough blocks.
+/// The program of a source text of at most the greatest length, which breaks no rule, for which
+/// there is code, and whose code has few enough blocks.
 pub fn judge(alloc: Global, source: &[u8]) -> Result<Checked, CallFault>
     requires { length source.now ≤ MAX_SOURCE_BYTES }
     ensures accepted { IfOk result (AcceptsOnly source.now) }

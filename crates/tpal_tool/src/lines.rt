@@ -2,8 +2,8 @@
 
 ghost use Rattle.std.specs.Prelude.{◌≡◌, ◌≢◌, IfOk};
 ghost use Rattle.tpal_tool.specs.Lines.{bad_words_line, blocks_line, fault_line, fault_of, line_at};
-ghost use Rattle.tpal_tool.specs.Lines.{line_at_byte, line_of, missing_line, parallel_line};
-ghost use Rattle.tpal_tool.specs.Lines.{rule_line, tables_line, too_long_line};
+ghost use Rattle.tpal_tool.specs.Lines.{line_at_byte, line_of, missing_line, not_built_line};
+ghost use Rattle.tpal_tool.specs.Lines.{parallel_line, rule_line, tables_line, too_long_line};
 
 use crate::refusal::{Refusal, SourceFault};
 use std::alloc::{AllocError, Global};
@@ -76,6 +76,13 @@ fn too_long_line(alloc: Global, name: &str) -> Result<Vec<u8>, AllocError>
     Ok(text.into_bytes())
 }
 
+/// The line of a program with a statement for which there is no code yet.
+fn not_built_line(alloc: Global) -> Result<Vec<u8>, AllocError>
+    ensures { IfOk result (λ line. line.items ≡ not_built_line) }
+{
+    Vec::from_slice(alloc, b"refused E0 not built\n")
+}
+
 /// The line of a program whose code may have `blocks` blocks, which are too many.
 fn blocks_line(alloc: Global, blocks: u64) -> Result<Vec<u8>, AllocError>
     ensures { IfOk result (λ line. line.items ≡ blocks_line blocks) }
@@ -111,6 +118,7 @@ pub fn refusal_line(alloc: Global, refusal: Refusal) -> Result<Vec<u8>, NoMemory
         Refusal::Source(fault) => Ok(fault_line(alloc, fault)?),
         Refusal::Rule { rule, place } => Ok(rule_line(alloc, rule, place)?),
         Refusal::Parallel { rule, place } => Ok(parallel_line(alloc, rule, place)?),
+        Refusal::NotBuilt => Ok(not_built_line(alloc)?),
         Refusal::Blocks(blocks) => Ok(blocks_line(alloc, blocks)?),
         Refusal::Tables(fault) => tables_line(alloc, fault),
         Refusal::Missing(name) => Ok(missing_line(alloc, &name)?),

@@ -34,7 +34,7 @@ fn stop_line(alloc: Global, stop: Stop) -> Result<Vec<u8>, AllocError>
     ensures { IfOk result (λ line. line.items ≡ stop_line stop) }
 {
     match stop {
-        Stop::Done => Ok(Vec::new(alloc)),
+        Stop::Done | Stop::Left(_) => Ok(Vec::new(alloc)),
         Stop::Trap(kind, place) => trap_line(alloc, kind, place),
         Stop::NoFuel => Vec::from_slice(alloc, b"out of fuel\n"),
     }

@@ -1,8 +1,9 @@
 // From words to a code, or to a run that is about to begin.
 
 ghost use Rattle.std.specs.Prelude.{◌≡◌, ℕ, ◌≤◌, Option, List, IfErr, IfOk, IsSomeAnd, Some, None};
-ghost use Rattle.std.specs.Prelude.{length, option_map};
+ghost use Rattle.std.specs.Prelude.{length, option_map, true};
 ghost use Rattle.tp_value.specs.declared.limits.TheConstants.{MAX_BLOCKS, MAX_TABLES_BYTES};
+ghost use Rattle.scene_laws.specs.Built.{program_is_built};
 ghost use Rattle.scene_laws.specs.Count.{blocks_of_program};
 ghost use Rattle.code_laws.specs.Owing.{OwesMeaning};
 ghost use Rattle.tpal_tool.specs.Answering.{IsFaultOf, OwesRefusal};
@@ -28,9 +29,10 @@ use std::alloc::Global;
 use tp_value::{MAX_SOURCE_BYTES, NoMemory};
 use tpal_syntax::Code;
 
-/// The code of a program whose code has few enough blocks.
+/// The code of a program for which there is code, with few enough blocks.
 fn code_of(alloc: Global, program: &Checked) -> Result<Code, NoMemory>
-    requires { blocks_of_program program.now ≤ MAX_BLOCKS }
+    requires built { program_is_built program.now ≡ true }
+    requires blocks { blocks_of_program program.now ≤ MAX_BLOCKS }
     ensures { IfOk result (λ code. OwesMeaning program.now code) }
 {
     match lower(alloc, program) {
@@ -47,6 +49,7 @@ fn prepare_run(
     tables: &[u8],
     options: RunOptions,
 ) -> Result<PreparedRun, CallFault>
+    requires built { program_is_built program.now ≡ true }
     requires blocks { blocks_of_program program.now ≤ MAX_BLOCKS }
     requires tables { length tables.now ≤ MAX_TABLES_BYTES }
     ensures prepared { IfOk result
@@ -74,7 +77,8 @@ fn prepare_named_run<S: Shelf>(
     run: RunRequest,
     shelf: &mut S,
 ) -> Result<PreparedRun, CallFault>
-    requires { blocks_of_program program.now ≤ MAX_BLOCKS }
+    requires built { program_is_built program.now ≡ true }
+    requires blocks { blocks_of_program program.now ≤ MAX_BLOCKS }
     ensures prepared { IfOk result
         (λ r. IsPreparedFor (NamedRunOwes program.now (S.text shelf.old)
         (option_map (λ t. t.now) run.entry.tables) (options_seen run.entry.options)) r.code

@@ -42,6 +42,8 @@ pub enum Refusal {
         /// Where it is broken.
         place: Place,
     },
+    /// A program with a statement for which there is no code yet.
+    NotBuilt,
     /// A program whose code may have so many blocks, which are too many.
     Blocks(u64),
     /// A tables text, for its first fault.

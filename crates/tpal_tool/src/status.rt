@@ -50,7 +50,7 @@ pub fn status_of(stop: Stop) -> Status
     ensures { result ≡ by_stop Status.Done Status.Trap Status.OutOfFuel stop }
 {
     match stop {
-        Stop::Done => Status::Done,
+        Stop::Done | Stop::Left(_) => Status::Done,
         Stop::Trap(_, _) => Status::Trap,
         Stop::NoFuel => Status::OutOfFuel,
     }
