@@ -24,9 +24,9 @@ TOP = os.path.dirname(os.path.dirname(os.path.abspath(__file__)))
 FUEL = 20_000
 NUMBERS = re.compile(rb'(-?[0-9]+( -?[0-9]+)*)?')
 STOPS = {1: re.compile(rb'trap (Divide|Index|Deep|Size|Wide) at ([0-9]+):([0-9]+)'), 2: re.compile(rb'out of fuel')}
-AT_PLACE = re.compile(rb'refused (?:E1|E2|E3|E14|E7 C(?:1|7|9|10|11)|E8 C(?:2|3|4|5|6|8)) at ([0-9]+):([0-9]+)')
+AT_PLACE = re.compile(rb'refused (?:E1|E2|E3|E14|E7 C(?:1|7|9|10|11)|E8 C(?:2|3|4|5|6|8|12)) at ([0-9]+):([0-9]+)')
 AT_BYTE = re.compile(rb'refused E[456] at byte ([0-9]+)')
-OTHER_REFUSALS = re.compile(rb'refused E12 blocks ([0-9]+)|refused E13 input [A-Za-z_][A-Za-z_0-9]*')
+OTHER_REFUSALS = re.compile(rb'refused E12 blocks ([0-9]+)|refused E13 input [A-Za-z_][A-Za-z_0-9]*|refused E0 not built')
 COUNTS = re.compile(rb'tasks ([0-9]+) beats ([0-9]+) skipped ([0-9]+) instructions ([0-9]+) ticks ([0-9]+)')
 
 WORDS = ('input table fn return main let if else while loop par in carry reduce by fold with call both print emit '
@@ -89,14 +89,15 @@ def changed(rng, text, examples):
 
 class Place:
     """Where a statement stands: the variables that may be read and those that may be set, the reductions of the
-    nearest `par`, whether there is one, and which cells of `t` may be touched: all, none, or those of a shape."""
+    nearest `par`, whether there is one, which cells of `t` may be touched: all, none, or those of a shape, and
+    by which variable the nearest `par` is left, if by any."""
 
-    def __init__(self, readable=(), settable=(), reduces=None, in_par=False, cells='all'):
+    def __init__(self, readable=(), settable=(), reduces=None, in_par=False, cells='all', target=None):
         self.readable, self.settable = list(readable), list(settable)
-        self.reduces, self.in_par, self.cells = reduces or {}, in_par, cells
+        self.reduces, self.in_par, self.cells, self.target = reduces or {}, in_par, cells, target
 
     def inner(self):
-        return Place(self.readable, self.settable, self.reduces, self.in_par, self.cells)
+        return Place(self.readable, self.settable, self.reduces, self.in_par, self.cells, self.target)
 
 
 class Grammar:
@@ -160,7 +161,9 @@ class Grammar:
         if reduces:
             clauses += ' reduce ' + ', '.join(f'{target} by {word}' for target, word in reduces.items())
         readable = [known for known in place.readable if known not in reduces] + [variable]
-        body = self.block(Place(readable, [], reduces, True, cells), depth - 1)
+        may_leave = place.settable if not clauses and rng.random() < 0.1 else []
+        target = rng.choice(may_leave) if may_leave else None
+        body = self.block(Place(readable, [], reduces, True, cells, target), depth - 1)
         high = rng.choice(['2', '3', '5', '9', '40', self.expr(place, 1)])
         return f'par {variable} in {rng.choice(["0", "0", "1", self.expr(place, 1)])}..{high}{clauses} {body}'
 
@@ -174,6 +177,8 @@ class Grammar:
             return f'fold {self.name(sorted(place.reduces))} with {value};'
         if kind == 5 and place.cells != 'none' and (not place.in_par or place.cells != 'all' or self.breaks()):
             return f'{self.cell(place)} = {value};'
+        if kind == 6 and (place.target or self.breaks()):
+            return f'leave {self.name([place.target] if place.target else place.settable)} = {value};'
         if kind == 8:
             other = f' else {self.block(place.inner(), depth - 1)}' if rng.random() < 0.4 else ''
             return f'if {value} {self.block(place.inner(), depth - 1)}{other}'
@@ -251,6 +256,8 @@ def refusal_fault(out, source, tables, compiles):
     if byte and not compiles:
         return None if int(byte[1]) <= len(tables) else 'a byte outside the text'
     other = OTHER_REFUSALS.fullmatch(out[:-1])
+    if other and out.startswith(b'refused E0'):
+        return None if b'leave' in source else 'a program without leave that is not built'
     if other and not (compiles and out.startswith(b'refused E13')):
         return 'too few blocks' if other[1] and int(other[1]) <= 65_536 else None
     return 'no line of a refusal'
