@@ -26,7 +26,8 @@ NUMBERS = re.compile(rb'(-?[0-9]+( -?[0-9]+)*)?')
 STOPS = {1: re.compile(rb'trap (Divide|Index|Deep|Size|Wide) at ([0-9]+):([0-9]+)'), 2: re.compile(rb'out of fuel')}
 AT_PLACE = re.compile(rb'refused (?:E1|E2|E3|E14|E7 C(?:1|7|9|10|11)|E8 C(?:2|3|4|5|6|8|12)) at ([0-9]+):([0-9]+)')
 AT_BYTE = re.compile(rb'refused E[456] at byte ([0-9]+)')
-OTHER_REFUSALS = re.compile(rb'refused E12 blocks ([0-9]+)|refused E13 input [A-Za-z_][A-Za-z_0-9]*|refused E0 not built')
+OTHER_REFUSALS = re.compile(rb'refused E12 blocks ([0-9]+)|refused E13 input [A-Za-z_][A-Za-z_0-9]*|'
+                            rb'refused E0 not built')
 COUNTS = re.compile(rb'tasks ([0-9]+) beats ([0-9]+) skipped ([0-9]+) instructions ([0-9]+) ticks ([0-9]+)')
 
 WORDS = ('input table fn return main let if else while loop par in carry reduce by fold with call both print emit '
