@@ -44,7 +44,13 @@ pub fn checked(alloc: Global, source: &[u8]) -> Option<Checked>
         return None;
     };
     match check(alloc, resolved) {
-        Ok(program) => { if program_is_built(&program) { Some(program) } else { None } }
+        Ok(program) => {
+            if program_is_built(&program) {
+                Some(program)
+            } else {
+                None
+            }
+        }
         Err(_fault) => None,
     }
 }
