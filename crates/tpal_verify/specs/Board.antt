@@ -1,5 +1,6 @@
 -- The shapes of all blocks within a round: those that stand, and those that are staged.
-use Rattle.std.specs.Prelude.{◌≡◌, ℕ, Bool, true, false, ◌||◌, ◌==◌, List, [], ◌∷◌, Option, Some, None}
+use Rattle.std.specs.Prelude.{◌≡◌, ℕ, Bool, true, false, ◌||◌, ◌==◌, List, [], ◌∷◌, Option, Some}
+use Rattle.std.specs.Prelude.{None}
 use Rattle.std.specs.Prelude.{slice_index_or}
 use Rattle.tpal_verify.specs.declared.board.Slot.{Slot}
 use Rattle.tpal_verify.specs.Shapes.{Shape}

@@ -1,5 +1,6 @@
 -- Rounds in which only some blocks are walked: those whose shapes changed in the round before.
-use Rattle.std.specs.Prelude.{◌≡◌, ◌⊎◌, ℕ, Bool, true, false, List, [], ◌∷◌, ◌++◌, length, Option, None}
+use Rattle.std.specs.Prelude.{◌≡◌, ◌⊎◌, ℕ, Bool, true, false, List, [], ◌∷◌, ◌++◌, length, Option}
+use Rattle.std.specs.Prelude.{None}
 use Rattle.std.specs.Prelude.{slice_index_or, slice_set}
 use Rattle.tpal_verify.specs.declared.kinds.Kind.{Kind}
 use Rattle.tpal_verify.specs.declared.trace.Trace.{Trace}
@@ -36,9 +37,9 @@ abbrev pub forks_seen : Bool → Traces → List ℕ → List Flow
 forks_seen true traces due = forks_due traces due
 forks_seen false traces due = all_forks traces
 
--- What holds between two rounds: of each block that isn't due, what its walk finds is known, and what
--- flows from it is held; so is what flows into combining blocks; and the rounds to come lead to the
--- least assignment.
+-- What holds between two rounds: of each block that isn't due, what its walk finds is known, and
+-- what flows from it is held; so is what flows into combining blocks; and the rounds to come lead
+-- to the least assignment.
 pub record IsRound (whole : Ground) (left : ℕ) (shapes : Shapes) (due : List ℕ) (traces : Traces)
     (join : Option (List Kind)) : Type 0 where
   pub each_shape : length shapes ≡ length whole.blocks

@@ -22,8 +22,8 @@ struct Slot {
     staged: Option<Shape>,
 }
 
-/// The shapes of all blocks, by their labels. A first shape is moved into its place, and a join makes
-/// one new shape.
+/// The shapes of all blocks, by their labels. A first shape is moved into its place, and a join
+/// makes one new shape.
 #[derive(Drop)]
 pub(crate) struct Board {
     slots: Vec<Slot>,
@@ -49,7 +49,8 @@ impl Model for Board {
 impl Slot {
     /// The shape to which the round has come.
     fn next(&self) -> Option<&Shape>
-        ensures { MatchOption result (next_in self.now ≡ None) (λ s. next_in self.now ≡ Some s.now) }
+        ensures { MatchOption result (next_in self.now ≡ None)
+            (λ s. next_in self.now ≡ Some s.now) }
     {
         match &self.staged {
             Some(staged) => Some(staged),

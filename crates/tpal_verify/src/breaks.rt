@@ -6,7 +6,8 @@ ghost use Rattle.tpal_verify.specs.Kinds.{kind_eq};
 ghost use Rattle.tpal_verify.specs.Flat.{unflat_in};
 ghost use Rattle.tpal_verify.specs.Rounds.{found, join_in, all_joins};
 ghost use Rattle.tpal_verify.specs.Breaks.{listed_by, listed, lists_agree, is_before, earlier};
-ghost use Rattle.tpal_verify.specs.Breaks.{flat_break, list_break, walk_break, break_in, first_from, first_break};
+ghost use Rattle.tpal_verify.specs.Breaks.{flat_break, list_break, walk_break, break_in};
+ghost use Rattle.tpal_verify.specs.Breaks.{first_from, first_break};
 
 use crate::agreement::{agreement, found};
 use crate::flat::Ground;

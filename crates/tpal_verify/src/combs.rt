@@ -61,7 +61,8 @@ impl<'a> Combs<'a> {
 
     fn flow_fork(&self, board: &mut Board, fork: &(u32, Shape)) -> Result<(), NoMemory>
         ensures next { IfOk result (λ _. board.new.next ≡ with_flows board.old.next
-            (comb_flow (note_at self.now.ground.now fork.now.0) (self.now.join.now ∷ []) fork.now)) }
+            (comb_flow (note_at self.now.ground.now fork.now.0)
+            (self.now.join.now ∷ []) fork.now)) }
         ensures now { IfOk result (λ _. board.new.now ≡ board.old.now) }
     {
         match self.ground.note_at(fork.0) {

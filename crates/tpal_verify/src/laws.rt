@@ -28,8 +28,8 @@ pub fn accepted_where_rules_are_met()
     ensures { (code : Listing) → Accepted code ↔ ((shapes : Shapes) × MeetsRules code shapes) }
 {}
 
-/// One more round changes nothing of the least assignment: all that flows by it is held by it. It is
-/// below each assignment that meets the rules.
+/// One more round changes nothing of the least assignment: all that flows by it is held by it. It
+/// is below each assignment that meets the rules.
 pub fn least_assignment()
     ensures held { (code : Listing)
         → holds_all (least (ground_of code)) (flows_of (ground_of code) (least (ground_of code)))

@@ -1,9 +1,9 @@
-//! A verifier of code that was written by hand: `verify` accepts a flat code, or names the first rule
-//! that it breaks. It stands on `tp_value` and `tpal_syntax`.
-//! `specs/` has the definitions: kinds and shapes, the rules, one walk over a block, rounds up to
-//! the least assignment of shapes, the first rule that a code breaks. `laws` says how these hang
-//! together. Start with `kinds`, `shape` and `rules`; `walk` and `blocks` walk over a block, `rounds`
-//! finds the least assignment, `breaks` what it breaks.
+//! A verifier of code that was written by hand: `verify` accepts a flat code, or names the first
+//! rule that it breaks. It stands on `tp_value` and `tpal_syntax`. `specs/` has the definitions:
+//! kinds and shapes, the rules, one walk over a block, rounds up to the least assignment of shapes,
+//! the first rule that a code breaks. `laws` says how these hang together. Start with `kinds`,
+//! `shape` and `rules`; `walk` and `blocks` walk over a block, `rounds` finds the least assignment,
+//! `breaks` what it breaks.
 #![tactic(auto)]
 
 mod agreement;

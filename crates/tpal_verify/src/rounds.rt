@@ -62,8 +62,8 @@ fn is_same_join(a: &Option<Trace>, b: &Option<Trace>) -> bool
     }
 }
 
-/// Puts what a walk found in the place of what was found before, and answers whether the join is the
-/// same.
+/// Puts what a walk found in the place of what was found before, and answers whether the join is
+/// the same.
 #[tactic(auto, using(crate::proofs::Combining::same_put))]
 fn put_trace(traces: &mut Vec<Option<Trace>>, label: u32, trace: Option<Trace>) -> bool
     ensures traces { traces.new.items ≡ slice_set traces.old.items label trace }
@@ -78,8 +78,8 @@ fn put_trace(traces: &mut Vec<Option<Trace>>, label: u32, trace: Option<Trace>) 
     same
 }
 
-/// Walks over the due blocks: what flows is staged, what is found is put into the traces. The second
-/// answer is true only where the joins are the same as before.
+/// Walks over the due blocks: what flows is staged, what is found is put into the traces. The
+/// second answer is true only where the joins are the same as before.
 fn walk_due(
     alloc: Global,
     ground: &Ground,

@@ -4,7 +4,8 @@ ghost use Rattle.std.specs.Prelude.{◌≡◌, Some};
 ghost use Rattle.std.specs.List.{list_all};
 ghost use Rattle.tpal_verify.specs.Rules.{note_at, carries_of, is_target, value_kind, compares};
 ghost use Rattle.tpal_verify.specs.Rules.{is_number_at, cuts_by_numbers, fork_cuts, has_numbers};
-ghost use Rattle.tpal_verify.specs.Rules.{marks_rightly, leaves_alone, forked_under, leads_to_fork, truth_of, jumps_by};
+ghost use Rattle.tpal_verify.specs.Rules.{marks_rightly, leaves_alone, forked_under};
+ghost use Rattle.tpal_verify.specs.Rules.{leads_to_fork, truth_of, jumps_by};
 ghost use Rattle.tpal_verify.specs.Rules.{is_eq, is_nil, tests_first, asks_rightly};
 ghost use Rattle.tpal_verify.specs.Rules.{may_fork, broken_rule};
 
@@ -90,7 +91,8 @@ fn note_cuts(shape: &Shape, note: &Note) -> bool
 }
 
 fn target_cuts(ground: &Ground, shape: &Shape, target: u32) -> bool
-    ensures { result ≡ list_all (cuts_by_numbers shape.now) (carries_of (note_at ground.now target)) }
+    ensures { result
+        ≡ list_all (cuts_by_numbers shape.now) (carries_of (note_at ground.now target)) }
 {
     match ground.note_at(target) {
         Some(note) => note_cuts(shape, note),

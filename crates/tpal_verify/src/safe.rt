@@ -11,8 +11,8 @@ use std::marker::Model;
 use tp_value::NoMemory;
 use tpal_syntax::Code;
 
-/// A code that is accepted: the least assignment of shapes to its blocks breaks no rule. It is seen as
-/// the code.
+/// A code that is accepted: the least assignment of shapes to its blocks breaks no rule. It is seen
+/// as the code.
 #[derive(Drop)]
 pub struct SafeCode {
     code: Code,
@@ -39,8 +39,8 @@ impl SafeCode {
     }
 }
 
-/// Verifies a code: Ok where the least assignment of shapes breaks no rule. Else the code comes back
-/// with the first break.
+/// Verifies a code: Ok where the least assignment of shapes breaks no rule. Else the code comes
+/// back with the first break.
 pub fn verify(alloc: Global, code: Code) -> Result<SafeCode, (Code, VerifyFault)>
     ensures accepted { OnOk result (Accepted code) }
     ensures code { IfOk result (λ safe. safe ≡ code) }

@@ -78,8 +78,8 @@ const fn broken(block: u32, at: u32, rule: u8) -> Option<VerifyFault> {
     Some(VerifyFault::Broken { rule, block, at })
 }
 
-// A sum over 0 to 99 that can be cut: main, the head, a round, the end, the output, the handler, the
-// way back, the child, the combining block and the join target.
+// A sum over 0 to 99 that can be cut: main, the head, a round, the end, the output, the handler,
+// the way back, the child, the combining block and the join target.
 #[derive(Drop)]
 struct Sum<'a> {
     round_test: [Instr; 2],
@@ -188,8 +188,8 @@ fn sum_answer(alloc: Global, sum: &Sum) -> Result<Option<VerifyFault>, Fail> {
     answer(alloc, blocks)
 }
 
-// A sum is accepted; not with two forks in a row, with another end of a piece, or with its two tests
-// in each other's place.
+// A sum is accepted; not with two forks in a row, with another end of a piece, or with its two
+// tests in each other's place.
 #[test]
 fn sums_that_are_cut(rt: HostRuntime) -> Result<(), Fail> {
     let round = [LESS, if_jump(3, 1)];

@@ -21,8 +21,8 @@ use std::mem::replace;
 use tp_value::NoMemory;
 use tpal_syntax::Instr;
 
-/// A walk that stands somewhere in a block: the shapes with what has flowed, the shape there, and the
-/// forks so far.
+/// A walk that stands somewhere in a block: the shapes with what has flowed, the shape there, and
+/// the forks so far.
 #[derive(Drop)]
 pub(crate) struct Walk {
     pub(crate) alloc: Global,
