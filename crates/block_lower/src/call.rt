@@ -445,8 +445,8 @@ impl Lowering {
         Ok(())
     }
 
-    /// Two calls, from the first one's tick on. The block behind the second, in which its activation
-    /// goes, is open.
+    /// Two calls, from the first one's tick on. The block behind the second, in which its
+    /// activation goes, is open.
     fn push_pair(&mut self, place: Place, pair: Pair) -> Result<(), NoMemory>
         requires labels { writing.next_label self.old.out + 12 ≤ MAX_BLOCKS }
         requires room { HasRoomFor self.old.on (kept_by_both pair.count) }

@@ -1,8 +1,8 @@
 //! The compiler: from a checked program to the code of the machine. It stands on the tree and the
 //! rules of `loop_syntax`, `loop_rules` and `loop_check`, on the code of expressions of
 //! `expr_lower`, and on the handlers and joins of `handler_gen` and `join_gen`; `scene_laws`
-//! and `code_laws` say which code is that of a statement and of a program, and what a program's code
-//! owes. What writes such code begins in `program`.
+//! and `code_laws` say which code is that of a statement and of a program, and what a program's
+//! code owes. What writes such code begins in `program`.
 //! `lowering` has the type that writes it, whose methods stand by what they write; `statement` says
 //! which of them writes which form, `par` how one that a beat can cut is marked, and `leaf` which
 //! variables of a loop stand in registers.

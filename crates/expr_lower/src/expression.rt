@@ -438,8 +438,9 @@ fn blocks_of(alloc: Global, expr: &Expr, scope: &Scope, to: u8) -> Result<Vec<Bl
 /// The blocks of an expression, which stand from `scope.next_label` on. A task that begins at the
 /// first of them, and holds the scope's variables and tables, leaves the expression's value in
 /// register `to` and goes on at the label behind the last of them, or it traps as the expression
-/// does. It changes no register below `to` or above 23, no cell of the stack and no table. In a code
-/// that has the scope's tables, and a block behind the last of them, they are blocks of that code.
+/// does. It changes no register below `to` or above 23, no cell of the stack and no table. In a
+/// code that has the scope's tables, and a block behind the last of them, they are blocks of that
+/// code.
 pub fn lower_expr(alloc: Global, expr: &Expr, scope: &Scope, to: u8) -> Result<Vec<Block>, NoMemory>
     requires few_tables { length scope.now.tables.items ≤ MAX_TABLES }
     requires registers { to + height expr.now ≤ MAX_EXPRESSION_HEIGHT }

@@ -71,7 +71,8 @@ pub fn iterations_keep_apart(program: &Program, fuel: u64)
     ensures left { (outer : Modes) (l : ParLoop) (room : ℕ) (again begin : List Note) (n : ℕ)
         (i c m : ℤ) (s : State) →
         Lawful program.now outer (names_of s.vars) l → OnlyChances again → OnlyChances begin →
-        (i +ℤ pos n) ≤ℤ c → (iterations_in program.now fuel room l again begin n i s).stop ≡ Left m →
+        (i +ℤ pos n) ≤ℤ c →
+        (iterations_in program.now fuel room l again begin n i s).stop ≡ Left m →
         SameRound l.reduces.items s.vars
         (iterations_in program.now fuel room l again begin n i s).state.vars
         × AgreeOn (UpperSeen outer l s.vars c)

@@ -63,7 +63,8 @@ spot scope loops rounds =
 
 -- that of the walk's state
 abbrev pub inside : state.Spot.Spot → Spot
-inside walk = spot (texts_of walk.scope.items) (texts_of walk.loops.items) (rounds_of walk.rounds.now)
+inside walk =
+    spot (texts_of walk.scope.items) (texts_of walk.loops.items) (rounds_of walk.rounds.now)
 
 -- the targets of reductions
 abbrev pub targets_of : List Reduce → List (List ℕ)

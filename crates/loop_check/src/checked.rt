@@ -66,8 +66,8 @@ fn fault_of(alloc: Global, program: &Program) -> Result<Option<Fault>, NoMemory>
     first_fault(alloc, program, &readers)
 }
 
-/// Looks at the rules C2, C3, C4, C5, C6, C8 and C12. Where one of them is broken the answer is the one
-/// at the least place, and among those there the one with the least number. Where none is, no
+/// Looks at the rules C2, C3, C4, C5, C6, C8 and C12. Where one of them is broken the answer is the
+/// one at the least place, and among those there the one with the least number. Where none is, no
 /// iteration of a `par` writes a cell that another one reads or writes, and each keeps to its part
 /// of each carried table and touches no other one that a `par` round it carries. Which functions
 /// read which tables is found once.

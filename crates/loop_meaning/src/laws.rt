@@ -128,8 +128,8 @@ pub fn calls_reach_the_limit(program: &Program, fuel: u64)
 /// Numbers stay in the range of 64 bits: where the variables, the cells and sizes of the tables,
 /// and the literals are in it, so are the values of expressions, and so are the variables and
 /// tables after a run of statements at any depth, however it stops, and the number with which an
-/// iteration is left. So are those after a whole program whose literals are in it, over given tables
-/// that are in it.
+/// iteration is left. So are those after a whole program whose literals are in it, over given
+/// tables that are in it.
 pub fn numbers_stay_in_range(program: &Program, tables: &[Table], fuel: u64)
     ensures values { (s : State) (e : Expr) (n : ℤ)
         → StateInRange s
@@ -195,9 +195,9 @@ pub fn calls_see_no_variables(program: &Program, fuel: u64)
 {}
 
 /// Where the functions of a program neither print nor write cells, a call keeps the output and the
-/// tables and notes no write. Statements with no `print` and no `emit` in them then keep the output;
-/// those with no write to a cell in them keep the tables and note no write. So do their iterations,
-/// and all this however they stop.
+/// tables and notes no write. Statements with no `print` and no `emit` in them then keep the
+/// output; those with no write to a cell in them keep the tables and note no write. So do their
+/// iterations, and all this however they stop.
 pub fn only_prints_print(program: &Program, fuel: u64)
     ensures statements { (depth : ℕ) (rs : List Reduce) (body : List statement.Stmt) (s : State) →
         All OnlyCounts program.now.funcs.items → All PrintsNothing body →
@@ -228,9 +228,9 @@ pub fn only_prints_print(program: &Program, fuel: u64)
         Contains (write_cells begin) c }
 {}
 
-/// Only a `leave` leaves, and only its nearest `par`: where no function has one outside of its `par`
-/// loops, a call is never left; neither are statements with none outside of theirs, nor iterations
-/// over such a body, nor the whole program where main is so.
+/// Only a `leave` leaves, and only its nearest `par`: where no function has one outside of its
+/// `par` loops, a call is never left; neither are statements with none outside of theirs, nor
+/// iterations over such a body, nor the whole program where main is so.
 pub fn only_leaves_leave(program: &Program, tables: &[Table], fuel: u64)
     ensures statements { (depth : ℕ) (rs : List Reduce) (body : List statement.Stmt) (s : State)
         (n : ℤ) →

@@ -25,8 +25,8 @@ use Rattle.schedule_core.specs.declared.lanes.Opened.TheVariants.{Waiting, Half}
 use Rattle.schedule_core.specs.declared.lanes.SoloState.TheVariants as stage
 use Rattle.schedule_core.specs.declared.lanes.SoloState as declared
 use Rattle.schedule_core.specs.declared.lanes.Tally.{Tally}
-use Rattle.schedule_core.specs.Solo.{Lane, SoloState, Runs, Over, Lost, runs, asked, forked, arrived}
-use Rattle.schedule_core.specs.Solo.{arrived_at}
+use Rattle.schedule_core.specs.Solo.{Lane, SoloState, Runs, Over, Lost, runs, asked, forked}
+use Rattle.schedule_core.specs.Solo.{arrived, arrived_at}
 
 -- ---- places
 

@@ -38,8 +38,8 @@ pub data Merged (Task Ending : Type 0) : Type 0 where
 -- what a rest becomes and of an ending; the record that a task was given and hasn't used; the
 -- instructions that a task may pay for a fork with; and what may be promised at an end: that a task
 -- keeps a promise, where a beat came for which no record was asked yet or none came, and that an
--- ending meets it. `Strict`: tasks that keep a promise ask for a record once a beat. `Sticks`: their
--- step may be stuck.
+-- ending meets it. `Strict`: tasks that keep a promise ask for a record once a beat. `Sticks`:
+-- their step may be stuck.
 pub record CoreMachine (Task Rest Ending : Type 0) : Type 1 where
   pub turn : Bool → Task → Turn Task Rest Ending
   pub merges : Rest → Ending → Ending → Merged Task Ending → Type 0

@@ -117,7 +117,8 @@ next code heartbeat forks lane =
     lane.tally
 
 -- a solo run comes to its end by so many instructions
-pub data Comes (code : Listing) (heartbeat forks : ℕ) : ℕ → SoloState → Outcome → Tally → Type 0 where
+pub data Comes (code : Listing) (heartbeat forks : ℕ)
+    : ℕ → SoloState → Outcome → Tally → Type 0 where
   over : (outcome : Outcome) (tally : Tally)
       → Comes code heartbeat forks 0 (Over outcome tally) outcome tally
   on : (n : ℕ) (lane : Lane) (outcome : Outcome) (tally : Tally)

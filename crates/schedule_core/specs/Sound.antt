@@ -1,5 +1,5 @@
--- Sound configurations: who holds each end, what is promised at each, whose each record is, in which
--- order the records were opened, and what the counts have paid for.
+-- Sound configurations: who holds each end, what is promised at each, whose each record is, in
+-- which order the records were opened, and what the counts have paid for.
 use Rattle.std.specs.Prelude.{ℕ, zero, suc, ◌+◌, ◌*◌, ◌≡◌, ◌≢◌, ◌⊎◌, ◌<◌, ◌≤◌, List, [], ◌∷◌}
 use Rattle.std.specs.Prelude.{Option, Some, None, Bool, true, false, nat_eq, if◌then◌else◌}
 use Rattle.schedule_core.specs.Machine.{root, left, right, CoreMachine, MergeOwes}
@@ -95,16 +95,18 @@ pub record Ends {Task Rest Ending : Type 0} (M : CoreMachine Task Rest Ending) (
 
 module _ {Task Rest Ending : Type 0} (M : CoreMachine Task Rest Ending) (promise : ℕ → M.Promise)
   where
-    -- a rest, merged with endings that meet the promises of its record's two ends, keeps that of the
-    -- end that it keeps
+    -- a rest, merged with endings that meet the promises of its record's two ends, keeps that of
+    -- the end that it keeps
     abbrev pub RestOwes : ℕ → Rest → Type 0
-    RestOwes k rest = MergeOwes M (promise (M.kept rest)) rest (promise (left k)) (promise (right k))
+    RestOwes k rest =
+        MergeOwes M (promise (M.kept rest)) rest (promise (left k)) (promise (right k))
 
     abbrev pub SeatOwes : Seat Task Rest Ending → Type 0
     SeatOwes resting = Unit {0}
     SeatOwes (running task due) = M.owes due task (promise (M.home task))
     SeatOwes (forked k on child rest) =
-        M.owes false on (promise (left k)) × M.owes false child (promise (right k)) × RestOwes k rest
+        M.owes false on (promise (left k)) × M.owes false child (promise (right k))
+            × RestOwes k rest
     SeatOwes (ended e) = M.meets e (promise (M.end_of e))
     SeatOwes (holding k) = Unit {0}
 

@@ -12,7 +12,8 @@ ghost use Rattle.schedule_core.specs.declared.lanes.Tally.{Tally};
 ghost use Rattle.schedule_core.specs.Apply.{IsJob};
 ghost use Rattle.schedule_core.specs.Counting.{tally_of};
 ghost use Rattle.schedule_core.specs.Sharing.{SharedRun};
-ghost use Rattle.schedule_core.specs.Lanes.{ArrivalOwed, IsSoloState, IsTally, TurnFits, after_turn};
+ghost use Rattle.schedule_core.specs.Lanes.{ArrivalOwed, IsSoloState, IsTally, TurnFits};
+ghost use Rattle.schedule_core.specs.Lanes.{after_turn};
 ghost use Rattle.schedule_core.specs.Solo.{SoloRun, asked, arrived_at, runs, turned};
 ghost use Rattle.schedule_core.specs.Steps.{ComesToAnEnd, ComesToAnEnd-prop};
 

@@ -22,7 +22,8 @@ pub fn sum_is_owed(code: &Code, count: u32)
     let _blocks = code.blocks();
 }
 
-/// The code enters a promotion point before each number but the first, as long as it isn't diverted.
+/// The code enters a promotion point before each number but the first, as long as it isn't
+/// diverted.
 pub fn each_number_is_a_point(code: &Code, count: u32)
     requires code { code.now ≡ sum_below count }
     requires some { 1 ≤ count }

@@ -70,8 +70,8 @@ fn number_at(text: &[u8], start: usize) -> Option<Number>
     }
 }
 
-/// The next token's number, or `Form` with its byte where it is none of 64 bits, or the text ends. It
-/// takes no memory.
+/// The next token's number, or `Form` with its byte where it is none of 64 bits, or the text ends.
+/// It takes no memory.
 pub fn read_number(text: &[u8], from: usize) -> Result<Number, TableFault>
     requires { from ≤ length text.now }
     ensures number { IfOk result (λ number.

@@ -1,5 +1,5 @@
-// What the rules say of programs with `leave`: each sentence of C12, accepted and refused, alone and
-// beside other rules. Rules and columns are worked out by hand; the rule 0 is none.
+// What the rules say of programs with `leave`: each sentence of C12, accepted and refused, alone
+// and beside other rules. Rules and columns are worked out by hand; the rule 0 is none.
 
 use loop_check::check;
 use loop_lex::lex;
