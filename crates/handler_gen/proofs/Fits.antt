@@ -88,7 +88,7 @@ module _ (tables : List CodeTable) (all : List Block) where
 
   -- ---- blocks
 
-  back_fits : (label : ℕ) → label < 65536 → IsBlock tables all (back_block label)
+  back_fits : (label : ℕ) → label < 65538 → IsBlock tables all (back_block label)
   back_fits label small = record { name = name_is (back_label label) (omega (arith, small)); note = tt; body = refl; term = refl }
 
   pub dispatch_fits : (label : ℕ) → label < 65536 → IsBlock tables all (dispatch_block label)
@@ -241,7 +241,7 @@ module _ (tables : List CodeTable) (all : List Block) where
     call_handler_fits = (
       record { name = name_is site.label (omega (arith, right.label)); note = tt; body = call_body_fits; term = lt_true (back_label site.label) blocks (omega (arith, places.joined)) },
       (
-        back_fits site.label right.label,
+        back_fits site.label (omega (arith, right.label)),
         (record { name = name_is (child_label site.label) (omega (arith, right.label)); note = tt; body = call_child_fits; term = lt_true site.entry blocks places.entry }, tt),
       ),
     )

@@ -42,9 +42,10 @@ IsNoRow (carry.Cells table row at) r = row ≢ r
 abbrev pub loop_cells : LoopSite → List ℕ
 loop_cells site = site.cursor ∷ site.bound ∷ site.rec ∷ map (λ (a : ℕ × _). a.0) site.accs
 
--- the site of a parallel loop
+-- the site of a parallel loop. The stored loop of a leaf loop stands two labels behind that one's, so
+-- a label may be two more than those of a code
 pub record IsLoopSite (site : LoopSite) : Type 0 where
-  pub label : site.label < MAX_BLOCKS
+  pub label : site.label < MAX_BLOCKS + 2
   pub cells : site.cells ≤ MAX_ACTIVATION_CELLS
   pub offsets : All (λ off. off < site.cells) (site.mark ∷ loop_cells site)
   pub offsets_differ : AllPairs (λ a b. a ≢ b) (loop_cells site)

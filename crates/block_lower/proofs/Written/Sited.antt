@@ -298,7 +298,7 @@ right_site on scope names tables functions fixed l depth label {cursor} is_curso
     → All P accs =
     λ P each. all_reduced scope names tables sees P each rs seen_all in
     record {
-      label = below;
+      label = omega (arith, below);
       cells = has_room.fits;
       offsets =
           All-cons inside (bound_cell level)
