@@ -91,7 +91,7 @@ module _ (tables : List CodeTable) (all : List Block) where
   back_fits : (label : ℕ) → label < 65538 → IsBlock tables all (back_block label)
   back_fits label small = record { name = name_is (back_label label) (omega (arith, small)); note = tt; body = refl; term = refl }
 
-  pub dispatch_fits : (label : ℕ) → label < 65536 → IsBlock tables all (dispatch_block label)
+  pub dispatch_fits : (label : ℕ) → label < 65538 → IsBlock tables all (dispatch_block label)
   dispatch_fits label small = record { name = name_is label (omega (arith, small)); note = tt; body = refl; term = refl }
 
   module _ (site : LoopSite) (right : IsLoopSite site) (places : HasLoopPlaces site tables all) where

@@ -1,6 +1,6 @@
 // Blocks at their labels, and those that both handlers have.
 
-ghost use Rattle.std.specs.Prelude.{◌≡◌, ℕ, ◌<◌, ◌++◌, List, Some, IfOk, OnOk};
+ghost use Rattle.std.specs.Prelude.{◌≡◌, ◌+◌, ℕ, ◌<◌, ◌++◌, List, Some, IfOk, OnOk};
 ghost use Rattle.tp_value.specs.declared.limits.TheConstants.{MAX_BLOCKS};
 ghost use Rattle.tpal_syntax.specs.Conditions.{IsBlock};
 ghost use Rattle.tpal_syntax.specs.declared.blocks.CodeTable.{CodeTable};
@@ -57,7 +57,7 @@ fn dispatch_block(alloc: Global, label: u32) -> Result<Block, NoMemory>
 /// The block to which each beat goes, at a label. In a code that has it there a task in which a
 /// mark stands comes to the split label of the oldest mark, with that mark's base in r28.
 pub fn dispatch(alloc: Global, label: u32) -> Result<Block, NoMemory>
-    requires label { label < MAX_BLOCKS }
+    requires label { label < MAX_BLOCKS + 2 }
     ensures block { IfOk result (λ block. block ≡ blocks.dispatch_block label) }
     ensures dispatches { IfOk result (λ block. (code : Listing) (heartbeat : ℕ)
         → block_at code label ≡ Some block
@@ -71,7 +71,7 @@ pub fn dispatch(alloc: Global, label: u32) -> Result<Block, NoMemory>
 
 /// Appends the instructions that ask for a join record in r24, and go back where there is none.
 pub fn push_ask(body: &mut Vec<Instr>, label: u32) -> Result<(), NoMemory>
-    requires label { label < MAX_BLOCKS }
+    requires label { label < MAX_BLOCKS + 2 }
     ensures { OnOk result (body.new.items ≡ body.old.items ++ blocks.ask label) }
 {
     body.push(Instr::JrAlloc {
@@ -93,7 +93,7 @@ pub fn push_ask(body: &mut Vec<Instr>, label: u32) -> Result<(), NoMemory>
 
 /// The block that goes back to where the beat came.
 pub fn back_block(alloc: Global, label: u32) -> Result<Block, NoMemory>
-    requires label { label < MAX_BLOCKS }
+    requires label { label < MAX_BLOCKS + 2 }
     ensures { IfOk result (λ block. block ≡ blocks.back_block label) }
 {
     let back = Term::Jump(Value::Reg(BACK));

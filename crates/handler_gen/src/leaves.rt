@@ -175,7 +175,7 @@ pub fn leaf_start(alloc: Global, site: &LeafSite, first: u32) -> Result<Block, N
 
 // The blocks of a leaf loop's handler.
 fn leaf_blocks(alloc: Global, site: &LeafSite) -> Result<Vec<Block>, NoMemory>
-    requires label { site.now.label + 2 < MAX_BLOCKS }
+    requires label { site.now.label < MAX_BLOCKS }
     requires few { length site.now.accs ≤ leaf_accs }
     ensures { IfOk result (λ v. v.items ≡ blocks.leaf_handler_blocks site.now) }
 {

@@ -1,6 +1,6 @@
 // The handler of a parallel loop.
 
-ghost use Rattle.std.specs.Prelude.{◌≡◌, ℕ, ◌++◌, ◌<◌, ◌∷◌, [], List, IfOk, OnOk};
+ghost use Rattle.std.specs.Prelude.{◌≡◌, ◌+◌, ℕ, ◌++◌, ◌<◌, ◌∷◌, [], List, IfOk, OnOk};
 ghost use Rattle.tp_value.specs.declared.limits.TheConstants.{MAX_BLOCKS};
 ghost use Rattle.tpal_syntax.specs.declared.blocks.CodeTable.{CodeTable};
 ghost use Rattle.expr_lower.specs.Standing.{AreAt};
@@ -85,7 +85,7 @@ fn push_cut_places(body: &mut Vec<Instr>, carries: &[CarryAt]) -> Result<(), NoM
 // Appends what the left does behind the fork: its record and its end, and its mark goes where no
 // iteration is left to it.
 fn push_left_begins(body: &mut Vec<Instr>, site: &LoopSite) -> Result<(), NoMemory>
-    requires label { site.now.label < MAX_BLOCKS }
+    requires label { site.now.label < MAX_BLOCKS + 2 }
     ensures { OnOk result (body.new.items ≡ body.old.items ++ blocks.left_begins site.now) }
 {
     body.push(Instr::Store {
@@ -114,7 +114,7 @@ fn push_left_begins(body: &mut Vec<Instr>, site: &LoopSite) -> Result<(), NoMemo
 
 // The block that cuts.
 fn cut_block(alloc: Global, site: &LoopSite) -> Result<Block, NoMemory>
-    requires label { site.now.label < MAX_BLOCKS }
+    requires label { site.now.label < MAX_BLOCKS + 2 }
     ensures { IfOk result (λ block. block ≡ blocks.loop_cut_block site.now) }
 {
     let mut body = Vec::new(alloc);
@@ -146,7 +146,7 @@ fn push_units(body: &mut Vec<Instr>, accs: &[(u16, Op)]) -> Result<(), NoMemory>
 
 // The block where the child begins.
 fn child_block(alloc: Global, site: &LoopSite) -> Result<Block, NoMemory>
-    requires label { site.now.label < MAX_BLOCKS }
+    requires label { site.now.label < MAX_BLOCKS + 2 }
     ensures { IfOk result (λ block. block ≡ blocks.loop_child_block site.now) }
 {
     let mut body = Vec::new(alloc);
@@ -173,7 +173,7 @@ fn child_block(alloc: Global, site: &LoopSite) -> Result<Block, NoMemory>
 
 /// The blocks of a loop's handler.
 pub fn handler_blocks(alloc: Global, site: &LoopSite) -> Result<Vec<Block>, NoMemory>
-    requires label { site.now.label < MAX_BLOCKS }
+    requires label { site.now.label < MAX_BLOCKS + 2 }
     ensures { IfOk result (λ v. v.items ≡ blocks.loop_handler_blocks site.now) }
 {
     let mut all = Vec::new(alloc);

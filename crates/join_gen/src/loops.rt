@@ -1,6 +1,6 @@
 // The join of a parallel loop.
 
-ghost use Rattle.std.specs.Prelude.{◌≡◌, ℕ, ◌≤◌, ◌++◌, ◌∷◌, [], ◌<◌, List, length, IfOk};
+ghost use Rattle.std.specs.Prelude.{◌≡◌, ◌+◌, ℕ, ◌≤◌, ◌++◌, ◌∷◌, [], ◌<◌, List, length, IfOk};
 ghost use Rattle.tp_value.specs.declared.limits.TheConstants.{MAX_BLOCKS, MAX_REDUCTIONS};
 ghost use Rattle.tpal_syntax.specs.declared.blocks.CodeTable.{CodeTable};
 ghost use Rattle.tpal_syntax.specs.Listing.{Listing};
@@ -51,7 +51,7 @@ fn renames(alloc: Global, accs: &[(u16, Op)]) -> Result<Vec<(u8, u8)>, NoMemory>
 
 // The block where both sides meet.
 fn target_block(alloc: Global, site: &LoopSite) -> Result<Block, NoMemory>
-    requires label { site.now.label < MAX_BLOCKS }
+    requires label { site.now.label < MAX_BLOCKS + 2 }
     requires few { length site.now.accs ≤ MAX_REDUCTIONS }
     ensures { IfOk result (λ block. block ≡ blocks.loop_target_block site.now) }
 {
@@ -74,7 +74,7 @@ fn target_block(alloc: Global, site: &LoopSite) -> Result<Block, NoMemory>
 
 // The block that combines the accumulators.
 fn comb_block(alloc: Global, site: &LoopSite) -> Result<Block, NoMemory>
-    requires label { site.now.label < MAX_BLOCKS }
+    requires label { site.now.label < MAX_BLOCKS + 2 }
     requires few { length site.now.accs ≤ MAX_REDUCTIONS }
     ensures { IfOk result (λ block. block ≡ blocks.loop_comb_block site.now) }
 {
@@ -99,7 +99,7 @@ fn comb_block(alloc: Global, site: &LoopSite) -> Result<Block, NoMemory>
 
 // The block where a side ends.
 fn side_block(alloc: Global, site: &LoopSite) -> Result<Block, NoMemory>
-    requires label { site.now.label < MAX_BLOCKS }
+    requires label { site.now.label < MAX_BLOCKS + 2 }
     requires few { length site.now.accs ≤ MAX_REDUCTIONS }
     ensures { IfOk result (λ block. block ≡ blocks.side_block site.now) }
 {
@@ -118,7 +118,7 @@ fn side_block(alloc: Global, site: &LoopSite) -> Result<Block, NoMemory>
 
 // The blocks of a loop's join.
 fn join_blocks(alloc: Global, site: &LoopSite) -> Result<Vec<Block>, NoMemory>
-    requires label { site.now.label < MAX_BLOCKS }
+    requires label { site.now.label < MAX_BLOCKS + 2 }
     requires few { length site.now.accs ≤ MAX_REDUCTIONS }
     ensures { IfOk result (λ v. v.items ≡ blocks.loop_join_blocks site.now) }
 {
