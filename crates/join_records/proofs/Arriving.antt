@@ -19,7 +19,7 @@ use Rattle.join_records.specs.declared.slot.Item.{Item}
 use Rattle.join_records.specs.declared.slot.Item.TheVariants.{Rest, Side}
 use Rattle.join_records.specs.declared.views.View.{View}
 use Rattle.join_records.specs.Ends.{left_of, right_of}
-use Rattle.join_records.specs.Rule.{NotBoth, Facts, Holder, nobody, seat, kept, Progress, unclaimed}
+use Rattle.join_records.specs.Rule.{NotBoth, Facts, Holder, nobody, seat, kept, RightSide, unclaimed}
 use Rattle.join_records.specs.Rule.{claimed, arrived, opened, kind, hand_of, KeepsEnd, CellOk, Kept}
 use Rattle.join_records.specs.Rule.{RightOk, LeftOk, marks}
 use Rattle.join_records.specs.Views.{read, with_hand, with_ends, holds_end, drop_record, NoneMet}
@@ -41,7 +41,7 @@ or_bit up r bit n small low is near =
     (λ i. bit_or (e i) (z i)) ∙ or_block 5 (8 * up) 0 r bit small low ∙ (λ i. or_zero_r (8 * up) i * 2 ^ 5 + is i) ∙ (let q : 8 * up * 2 ^ 5 + n ≡ n + 256 * up = omega arith in q)
 
 -- the bits 8 and 16 join the words of an open record
-left_bit : (words : List ℕ) (k up : ℕ) (b : Progress) → get_or words (k + 1) 0 ≡ 3 + 8 * 0 + marks b + 256 * up → bit_or (get_or words (k + 1) 0) 8 ≡ 11 + marks b + 256 * up
+left_bit : (words : List ℕ) (k up : ℕ) (b : RightSide) → get_or words (k + 1) 0 ≡ 3 + 8 * 0 + marks b + 256 * up → bit_or (get_or words (k + 1) 0) 8 ≡ 11 + marks b + 256 * up
 left_bit words k up unclaimed is = ap (λ (x : ℕ). bit_or x 8) is ∙ or_bit up 3 8 11 (omega arith) (omega arith) refl (omega arith)
 left_bit words k up claimed is = ap (λ (x : ℕ). bit_or x 8) is ∙ or_bit up 7 8 15 (omega arith) (omega arith) refl (omega arith)
 left_bit words k up arrived is = ap (λ (x : ℕ). bit_or x 8) is ∙ or_bit up 23 8 31 (omega arith) (omega arith) refl (omega arith)
@@ -60,7 +60,7 @@ module _ {R C D E : Type 0} (F : Facts R C D E) (born : C) where
   M = Me S V
 
   -- the left side puts its outcome in, first
-  module _ (s : St) (r : Kept F born s) (id k : ℕ) (up : End) (b : Progress) (v : V) (e : E) (d : D) (at : get_elem? s.views id ≡ some v) (alive : v.parts ≢ 0) (below : k < r.count) (none_met : NoneMet v) (ends : v.ends ≡ holds_end (At k Left) e Arriving)
+  module _ (s : St) (r : Kept F born s) (id k : ℕ) (up : End) (b : RightSide) (v : V) (e : E) (d : D) (at : get_elem? s.views id ≡ some v) (alive : v.parts ≢ 0) (below : k < r.count) (none_met : NoneMet v) (ends : v.ends ≡ holds_end (At k Left) e Arriving)
       (is : r.cells k ≡ opened up false b) (outcome : F.is_ending d (At k Left) e) (new : ℕ) (shows : new ≡ 11 + marks b + 256 * code_of up) (alone : NotBoth b true) where
     abbrev first_x : ℕ
     first_x = get_or s.words (k + 1) 0
@@ -169,7 +169,7 @@ module _ {R C D E : Type 0} (F : Facts R C D E) (born : C) where
       told : (i : ℕ) (e' : E) (u : V) (l : List (ℕ × S)) → arrived_at F.keeps F.rest_owes F.is_ending Left n me x (u, l) k e → k + 1 ≡ i + 1 → me.0.ends ≡ holds_end (At i Left) e' Arriving → arrived_at F.keeps F.rest_owes F.is_ending Left n me x (u, l) i e'
       told i e' u l here same ends' = let is : k ≡ i = omega arith in subst (λ (p : ℕ × E). arrived_at F.keeps F.rest_owes F.is_ending Left n me x (u, l) p.0 p.1) (λ t. (is t, one_ending (sym ends ∙ ends') t)) here
 
-      first : k < r.count → (up : End) (b : Progress) → r.cells k ≡ opened up false b → x / 16 % 2 ≡ 0 → NotBoth b true → (w : V) × (act : Act S) × Valid s.homes me.1 act × Kept F born (stepped s (k + 1) (bit_or x 8) id me.1 w act) × side_arrived F.keeps F.rest_owes F.is_ending Left (step n (k + 1) 8 0 none) me x (w, carried_after me.1 act)
+      first : k < r.count → (up : End) (b : RightSide) → r.cells k ≡ opened up false b → x / 16 % 2 ≡ 0 → NotBoth b true → (w : V) × (act : Act S) × Valid s.homes me.1 act × Kept F born (stepped s (k + 1) (bit_or x 8) id me.1 w act) × side_arrived F.keeps F.rest_owes F.is_ending Left (step n (k + 1) 8 0 none) me x (w, carried_after me.1 act)
       first below up b is lacks alone = let v : V = me.0 in let cell = subst (CellOk F s.words s.homes r.holder r.ending k) is (r.each_cell k below) in (
         with_ends (read v (k + 1) x) [],
         gives,
@@ -195,7 +195,7 @@ module _ {R C D E : Type 0} (F : Facts R C D E) (born : C) where
             ) same ends'),
           )
 
-      go : k < r.count → (up : End) (b : Progress) → r.cells k ≡ opened up false b
+      go : k < r.count → (up : End) (b : RightSide) → r.cells k ≡ opened up false b
           → (w : V) × (act : Act S) × Valid s.homes me.1 act × Kept F born (stepped s (k + 1) (bit_or (get_or s.words (k + 1) 0) 8) id me.1 w act) × side_arrived F.keeps F.rest_owes F.is_ending Left (step n (k + 1) 8 0 none) me (get_or s.words (k + 1) 0) (w, carried_after me.1 act)
       go below up unclaimed is = let cell = subst (CellOk F s.words s.homes r.holder r.ending k) is (r.each_cell k below) in let shows = cell.0 in first below up unclaimed is (omega arith) tt
       go below up claimed is = let cell = subst (CellOk F s.words s.homes r.holder r.ending k) is (r.each_cell k below) in let shows = cell.0 in first below up claimed is (omega arith) tt
@@ -245,7 +245,7 @@ module _ {R C D E : Type 0} (F : Facts R C D E) (born : C) where
       go below up true is = second below up is
 
   -- the slot of a side's outcome comes to the seat that has the side's end
-  module _ (s : St) (r : Kept F born s) (id k : ℕ) (up : End) (l : Bool) (b : Progress) (v : V) (e : E) (c : End) (slot : ℕ) (at : get_elem? s.views id ≡ some v) (alive : v.parts ≢ 0) (below : k < r.count) (none_met : NoneMet v) (ends : v.ends ≡ holds_end c e Steady)
+  module _ (s : St) (r : Kept F born s) (id k : ℕ) (up : End) (l : Bool) (b : RightSide) (v : V) (e : E) (c : End) (slot : ℕ) (at : get_elem? s.views id ≡ some v) (alive : v.parts ≢ 0) (below : k < r.count) (none_met : NoneMet v) (ends : v.ends ≡ holds_end c e Steady)
       (side : (code_of c ≡ left_of k) ⊎ (code_of c ≡ right_of k)) (is : r.cells k ≡ opened up l b) (own : (slot ≢ 4 * k) × (slot ≢ 4 * k + 1)) (away : (y : ℕ) → y ≢ 4 * k → y ≢ 4 * k + 1 → y ≢ 4 * k + 2 → y ≢ 4 * k + 3 → y ≢ slot)
       (sides : LeftOk F (set s.words (k + 1) (get_or s.words (k + 1) 0)) (set s.homes slot none) (put r.holder (code_of c) (seat id Arriving)) r.ending k l × RightOk F (set s.words (k + 1) (get_or s.words (k + 1) 0)) (set s.homes slot none) (put r.holder (code_of c) (seat id Arriving)) r.ending k b) where
     side_keeps : Kept F born record { words = set s.words (k + 1) (get_or s.words (k + 1) 0); homes = set s.homes slot none; views = set s.views id (with_ends (read v (k + 1) (get_or s.words (k + 1) 0)) (holds_end c e Arriving)) }
@@ -275,7 +275,7 @@ module _ {R C D E : Type 0} (F : Facts R C D E) (born : C) where
 
   pub takes_left : (n id : ℕ) (me : M) (k : ℕ) (e : E) → me.0.parts ≢ 0 → 4 * k < n → NoneMet me.0 → me.0.ends ≡ holds_end (At k Left) e Steady → Allows (Kept F born) n id me (k + 1) (λ y. y) (side_taken Left (step n (k + 1) 0 0 none) me)
   takes_left n id me k e alive near none_met ends s r wide at _ = let below : k < r.count = (let sl = r.slots in omega arith) in let v : V = me.0 in let x : ℕ = get_or s.words (k + 1) 0 in let held = end_held F born s r id v at (At k Left) Steady e ends in
-      let live = left_live F born s.words s.homes r.holder r.ending k (r.cells k) (r.each_cell k below) (λ z. let t = ap kind held.0 in omega arith) in let b : Progress = live.1 in
+      let live = left_live F born s.words s.homes r.holder r.ending k (r.cells k) (r.each_cell k below) (λ z. let t = ap kind held.0 in omega arith) in let b : RightSide = live.1 in
       let cell = subst (CellOk F s.words s.homes r.holder r.ending k) live.2 (r.each_cell k below) in let here = put_here r.holder (left_of k) (seat id Arriving) in (
         with_ends (read v (k + 1) x) (holds_end (At k Left) e Arriving),
         takes (4 * k + 2) None,

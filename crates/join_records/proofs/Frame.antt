@@ -18,7 +18,7 @@ use Rattle.atomic_table.proofs.Lists.{at_set}
 use Rattle.join_records.specs.declared.slot.Item.{Item}
 use Rattle.join_records.specs.declared.views.View.{View}
 use Rattle.join_records.specs.Ends.{left_of, right_of}
-use Rattle.join_records.specs.Rule.{Facts, Holder, nobody, seat, kept, Progress, unclaimed, claimed}
+use Rattle.join_records.specs.Rule.{Facts, Holder, nobody, seat, kept, RightSide, unclaimed, claimed}
 use Rattle.join_records.specs.Rule.{arrived, Phase, free, taken, opened, met, Era, unborn, running}
 use Rattle.join_records.specs.Rule.{finished, kind, hand_of, held_of, Rooted, KeepsEnd, NamesBelow}
 use Rattle.join_records.specs.Rule.{CellOk, EraOk, SeatOk, Kept, LeftOk, RightOk, HasRest, HasSide}
@@ -130,7 +130,7 @@ module _ {R C D E : Type 0} (F : Facts R C D E) (born : C) where
     left_stays false ok = waits_stay (4 * other + 2) (left_of other) (home (4 * other + 2) (omega arith) (omega arith)) left_soft.0 ok
     left_stays true ok = (left_soft.0 ∙ ok.0, side_stays (4 * other + 2) (At other Left) (home (4 * other + 2) (omega arith) (omega arith)) left_soft.1 ok.1)
 
-    right_stays : (b : Progress) → RightOk F s.words s.homes r.holder r.ending other b → RightOk F words' homes' holder' ending' other b
+    right_stays : (b : RightSide) → RightOk F s.words s.homes r.holder r.ending other b → RightOk F words' homes' holder' ending' other b
     right_stays unclaimed ok = (
       right_soft.0 ∙ ok.0,
       (ok.1.0, home (4 * other + 1) (omega arith) (omega arith) ∙ ok.1.1, ok.1.2, subst (F.owes ok.1.0) (sym right_soft.1) ok.1.3),

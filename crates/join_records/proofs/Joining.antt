@@ -14,7 +14,7 @@ use Rattle.atomic_table.proofs.Lists.{at_set}
 use Rattle.join_records.specs.declared.slot.Item.{Item}
 use Rattle.join_records.specs.declared.views.View.{View}
 use Rattle.join_records.specs.Ends.{left_of, right_of}
-use Rattle.join_records.specs.Rule.{Facts, Holder, nobody, seat, kept, Progress, unclaimed, claimed}
+use Rattle.join_records.specs.Rule.{Facts, Holder, nobody, seat, kept, RightSide, unclaimed, claimed}
 use Rattle.join_records.specs.Rule.{arrived, Phase, free, taken, opened, met, Era, unborn, running}
 use Rattle.join_records.specs.Rule.{finished, kind, hand_of, held_of, KeepsEnd, NamesBelow, CellOk}
 use Rattle.join_records.specs.Rule.{EraOk, SeatOk, Kept, LeftOk, RightOk, Waits}
@@ -129,7 +129,7 @@ module _ {R C D E : Type 0} (F : Facts R C D E) (born : C) (id other : ℕ) (apa
     left_same k false ok = waits_same k (4 * k + 2) (left_of k) ok
     left_same k true ok = (kind_same (r.holder (left_of k)) ∙ ok.0, ok.1)
 
-    right_same : (k : ℕ) (b : Progress) → RightOk F s.words s.homes r.holder r.ending k b → RightOk F s.words s.homes holder' r.ending k b
+    right_same : (k : ℕ) (b : RightSide) → RightOk F s.words s.homes r.holder r.ending k b → RightOk F s.words s.homes holder' r.ending k b
     right_same k unclaimed ok = (kind_same (r.holder (right_of k)) ∙ ok.0, ok.1, ok.2)
     right_same k claimed ok = (waits_same k (4 * k + 3) (right_of k) ok.0, λ z. ok.1 (λ q. z (kind_same (r.holder (right_of k)) ∙ q)))
     right_same k arrived ok = (kind_same (r.holder (right_of k)) ∙ ok.0, ok.1, ok.2)

@@ -19,7 +19,7 @@ use Rattle.atomic_table.specs.Table.{State}
 use Rattle.join_records.specs.declared.slot.Item.{Item}
 use Rattle.join_records.specs.declared.views.View.{View}
 use Rattle.join_records.specs.Ends.{left_of, right_of}
-use Rattle.join_records.specs.Rule.{Facts, Holder, nobody, seat, kept, Progress, unclaimed, claimed}
+use Rattle.join_records.specs.Rule.{Facts, Holder, nobody, seat, kept, RightSide, unclaimed, claimed}
 use Rattle.join_records.specs.Rule.{arrived, Phase, free, taken, opened, met, kind, hand_of}
 use Rattle.join_records.specs.Rule.{held_of, KeepsEnd, CellOk, Kept, RightOk, LeftOk}
 use Rattle.join_records.specs.Views.{find, read, with_hand, with_ends, holds_end, drop_record}
@@ -48,14 +48,14 @@ module _ {R C D E : Type 0} (F : Facts R C D E) (born : C) where
   left_kept words words' homes homes' holder holder' ending ending' k home held owed true ok = (ap kind held ∙ ok.0, (ok.1.0, home ∙ ok.1.1, subst (F.is_ending ok.1.0 (At k Left)) (sym owed) ok.1.2))
 
   pub right_kept : (words words' : List ℕ) (homes homes' : Homes) (holder holder' : ℕ → Holder) (ending ending' : ℕ → E) (k : ℕ) → get_elem? homes' (4 * k + 1) ≡ get_elem? homes (4 * k + 1) → get_elem? homes' (4 * k + 3) ≡ get_elem? homes (4 * k + 3)
-      → holder' (right_of k) ≡ holder (right_of k) → ending' (right_of k) ≡ ending (right_of k) → (b : Progress) → RightOk F words homes holder ending k b → RightOk F words' homes' holder' ending' k b
+      → holder' (right_of k) ≡ holder (right_of k) → ending' (right_of k) ≡ ending (right_of k) → (b : RightSide) → RightOk F words homes holder ending k b → RightOk F words' homes' holder' ending' k b
   right_kept words words' homes homes' holder holder' ending ending' k one three held owed unclaimed ok = (ap kind held ∙ ok.0, (ok.1.0, one ∙ ok.1.1, ok.1.2, subst (F.owes ok.1.0) (sym owed) ok.1.3), three ∙ ok.2)
   right_kept words words' homes homes' holder holder' ending ending' k one three held owed claimed ok =
       (((λ z. ok.0.0 (ap kind (sym held) ∙ z)), λ z. three ∙ ok.0.1 (λ q. z (ap kind held ∙ q))), λ z. one ∙ ok.1 (λ q. z (ap kind held ∙ q)))
   right_kept words words' homes homes' holder holder' ending ending' k one three held owed arrived ok = (ap kind held ∙ ok.0, one ∙ ok.1, (ok.2.0, three ∙ ok.2.1, subst (F.is_ending ok.2.0 (At k Right)) (sym owed) ok.2.2))
 
   -- a record with a live end is open, and that side has not arrived
-  pub left_live : (words : List ℕ) (homes : Homes) (holder : ℕ → Holder) (ending : ℕ → E) (k : ℕ) (ph : Phase) → CellOk F words homes holder ending k ph → kind (holder (left_of k)) ≢ 0 → (up : End) × (b : Progress) × (ph ≡ opened up false b)
+  pub left_live : (words : List ℕ) (homes : Homes) (holder : ℕ → Holder) (ending : ℕ → E) (k : ℕ) (ph : Phase) → CellOk F words homes holder ending k ph → kind (holder (left_of k)) ≢ 0 → (up : End) × (b : RightSide) × (ph ≡ opened up false b)
   left_live words homes holder ending k free ok live = absurd (live ok.1.0)
   left_live words homes holder ending k (taken i out) ok live = absurd (live ok.1.0)
   left_live words homes holder ending k (opened up false b) ok live = (up, b, refl)
@@ -114,7 +114,7 @@ module _ {R C D E : Type 0} (F : Facts R C D E) (born : C) where
         (λ n. sym (not_held F born s r id v at c m e ends y n) ∙ ap (λ (q : Holder). held_of id q (r.ending y)) (sym (turn_else y n)))
 
   -- the second side of record k arrives: the seat gives up its end, and has the one that the rest keeps
-  module _ (s : St) (r : Kept F born s) (id k : ℕ) (up : End) (l : Bool) (b : Progress) (v : V) (e : E) (c : End) (m : CallState) (new : ℕ) (homes' : Homes) (at : get_elem? s.views id ≡ some v) (alive : v.parts ≢ 0) (below : k < r.count) (ends : v.ends ≡ holds_end c e m)
+  module _ (s : St) (r : Kept F born s) (id k : ℕ) (up : End) (l : Bool) (b : RightSide) (v : V) (e : E) (c : End) (m : CallState) (new : ℕ) (homes' : Homes) (at : get_elem? s.views id ≡ some v) (alive : v.parts ≢ 0) (below : k < r.count) (ends : v.ends ≡ holds_end c e m)
       (side : (code_of c ≡ left_of k) ⊎ (code_of c ≡ right_of k)) (none_met : (i : ℕ) (out : Bool) (up : End) → i < r.count → r.cells i ≢ met id out up) (is : r.cells k ≡ opened up l b) (dead : (y : ℕ) → (y ≡ left_of k) ⊎ (y ≡ right_of k) → y ≢ code_of c → kind (r.holder y) ≡ 0)
       (long : length homes' ≡ length s.homes) (away : (y : ℕ) → y ≢ 4 * k → y ≢ 4 * k + 1 → y ≢ 4 * k + 2 → y ≢ 4 * k + 3 → get_elem? homes' y ≡ get_elem? s.homes y) (bare : get_elem? homes' (4 * k + 1) ≡ some (some None)) (full : new ≡ 31 + 256 * code_of up) where
     met_cell : CellOk F s.words s.homes r.holder r.ending k (opened up l b)

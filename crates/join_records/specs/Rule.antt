@@ -39,10 +39,10 @@ pub data Holder : Type 0 where
   kept : ℕ → Holder
 
 -- whether the right side of an open record was claimed, and whether it has arrived
-pub data Progress : Type 0 where
-  unclaimed : Progress
-  claimed : Progress
-  arrived : Progress
+pub data RightSide : Type 0 where
+  unclaimed : RightSide
+  claimed : RightSide
+  arrived : RightSide
 
 -- where a record is: free; taken, in the hand of a seat; open, with the end that its rest keeps,
 -- whether its left side has arrived, and how far its right side is; or met, in the hand of a seat.
@@ -50,7 +50,7 @@ pub data Progress : Type 0 where
 pub data Phase : Type 0 where
   free : Phase
   taken : ℕ → Bool → Phase
-  opened : End → Bool → Progress → Phase
+  opened : End → Bool → RightSide → Phase
   met : ℕ → Bool → End → Phase
 
 -- the first seat has yet to read the finish word; or the finish is to come; or it was made
@@ -84,13 +84,13 @@ held_of j (seat i m) e = cond (eqb i j) (Some (e, m)) None
 held_of j (kept k) e = None
 
 -- the claimed bit and that of the right side, in a record's word
-abbrev pub marks : Progress → ℕ
+abbrev pub marks : RightSide → ℕ
 marks unclaimed = 0
 marks claimed = 4
 marks arrived = 20
 
 -- not both sides of an open record have arrived
-abbrev pub NotBoth : Progress → Bool → Type 0
+abbrev pub NotBoth : RightSide → Bool → Type 0
 NotBoth unclaimed l = Unit {0}
 NotBoth claimed l = Unit {0}
 NotBoth arrived false = Unit {0}
@@ -163,7 +163,7 @@ module _ {R C D E : Type 0} (F : Facts R C D E) (words : List ℕ)
 
   -- where the child was claimed its slot is home and empty, unless the holder of the right end is
   -- in the middle of its claim
-  abbrev pub RightOk : Progress → Type 0
+  abbrev pub RightOk : RightSide → Type 0
   RightOk unclaimed = IsDead (right_of k) × HasChild × IsEmpty (4 * k + 3)
   RightOk claimed =
       Waits (4 * k + 3) (right_of k) × (kind (holder (right_of k)) ≢ 2 → IsEmpty (4 * k + 1))

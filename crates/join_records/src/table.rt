@@ -24,7 +24,8 @@ pub struct Records<L: Load> {
         Global,
     >,
     pub(crate) count: u32,
-    pub ghost sized: { (table.shared.table_id.words ≡ count + 1) × (table.shared.table_id.slots ≡ 4 * count) },
+    pub ghost sized: { (table.shared.table_id.words ≡ count + 1)
+        × (table.shared.table_id.slots ≡ 4 * count) },
 }
 
 /// A worker's seat at a table. Clauses speak of it by its `view`, which has a `View`.
@@ -35,7 +36,8 @@ pub struct Pass<L: Load> {
     pub(crate) made: bool,
     /// Where the next search for a free record begins. Any number will do.
     pub(crate) next: u32,
-    pub ghost counted: { (opens ≡ seat.me.0.opens) × (opens ≤ 4294967296) × (bit made ≡ seat.me.0.made) },
+    pub ghost counted: { (opens ≡ seat.me.0.opens) × (opens ≤ 4294967296)
+        × (bit made ≡ seat.me.0.made) },
 }
 
 /// A record that was taken and isn't open. Where it is dropped the record stays in its pass's hand.

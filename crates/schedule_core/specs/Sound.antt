@@ -106,7 +106,7 @@ module _ {Task Rest Ending : Type 0} (M : CoreMachine Task Rest Ending) (promise
     SeatOwes (running task due) = M.owes due task (promise (M.home task))
     SeatOwes (forked k on child rest) =
         M.owes false on (promise (left k)) × M.owes false child (promise (right k))
-            × RestOwes k rest
+        × RestOwes k rest
     SeatOwes (ended e) = M.meets e (promise (M.end_of e))
     SeatOwes (holding k) = Unit {0}
 
