@@ -83,7 +83,7 @@ module _ (code : Listing) (heartbeat : ℕ) where
   keeps_by allowed task (machine.Stuck fault) k q = tt
   keeps_by allowed task machine.Strays k q = tt
 
-  keeps_at : (allowed : Bool) (task : State) → KeepsTurn (tasks code heartbeat) heartbeat allowed task (turn_of (step code heartbeat allowed task))
+  pub keeps_at : (allowed : Bool) (task : State) → KeepsTurn (tasks code heartbeat) heartbeat allowed task (turn_of (step code heartbeat allowed task))
   keeps_at allowed task = keeps_by allowed task (step code heartbeat allowed task) (step_keeps heartbeat code allowed task) refl
 
   -- ---- what a merge keeps
@@ -95,7 +95,7 @@ module _ (code : Listing) (heartbeat : ℕ) where
   sides_keep : (rest : RestState) (p q : Side) (both : Merged State Ending) → MergesSides code rest p q both → KeepsMerge (tasks code heartbeat) rest both
   sides_keep rest p q both m = subst (KeepsMerge (tasks code heartbeat) rest) m.is (joined_keep rest m.joined (subst (JoinedKeeps rest) m.merge.gives (merge_keeps code rest p q)))
 
-  merges_keep : (rest : RestState) (p q : Ending) (both : Merged State Ending) → MergesTo code rest p q both → KeepsMerge (tasks code heartbeat) rest both
+  pub merges_keep : (rest : RestState) (p q : Ending) (both : Merged State Ending) → MergesTo code rest p q both → KeepsMerge (tasks code heartbeat) rest both
   merges_keep rest (ending.At i Left p) (ending.At j Right q) both m = sides_keep rest p q both m
   merges_keep rest (ending.At i Left p) (ending.At j Left q) both m = absurd m
   merges_keep rest (ending.At i Right p) (ending.At j side q) both m = absurd m
