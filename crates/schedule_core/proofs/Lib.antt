@@ -44,6 +44,8 @@ pub mod Finishing
 pub mod Turning
 -- a solo run on its way
 pub mod Soloing
+-- one instruction of a solo run, and all that it leads to, as events of the core
+pub mod Reaching
 -- a solo run is a list of events of the core
 pub mod Sharing
 -- a solo run comes to one end

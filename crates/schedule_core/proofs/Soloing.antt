@@ -20,7 +20,7 @@ use Rattle.schedule_core.specs.Solo.{Lane, SoloState, Runs, Over, Lost, Comes, o
 use Rattle.schedule_core.specs.Solo.{no_tally, SoloRun, first_lane}
 use Rattle.schedule_core.specs.Steps.{is_over, runs_to, is_last, ComesToAnEnd, ComesToAnEnd-prop}
 use Rattle.schedule_core.proofs.Finishing.{Finishes, finishes}
-use Rattle.schedule_core.proofs.Turning.{TurnNearer, turn_nearer, turn_fits, turn_stage}
+use Rattle.schedule_core.proofs.Turning.{TurnNearer, turn_nearer, turn_fits, owed_fits, turn_stage}
 use Rattle.schedule_core.proofs.Turning.{stopped_owed}
 use Rattle.tpal_machine.specs.declared.turn.Ran.{Ran}
 use Rattle.tpal_machine.specs.declared.turn.Turn.{Turn}
@@ -137,8 +137,11 @@ module _ (code : Listing) (heartbeat forks : ℕ) where
     keeps_turn = turn_keeps budget heartbeat code (nat_lt lane.tally.beats forks) lane.task
 
     -- the turn is one that a run goes on with
-    pub running_fits : (beat : ℕ) × (outcome : Outcome) × TurnFits code beat ran.turn lane.opened outcome
-    running_fits = (heartbeat, run.outcome, turn_fits code heartbeat (due_after run.owed.due (turn_of budget code heartbeat (nat_lt lane.tally.beats forks) lane.task).beats) (turn_of budget code heartbeat (nat_lt lane.tally.beats forks) lane.task).steps lane.task lane.opened run.outcome run.owed.ending (turn_of budget code heartbeat (nat_lt lane.tally.beats forks) lane.task).stopped ran.turn is.turn run.owed.more keeps_turn owes_turn.stopped)
+    pub running_fits : TurnFits code ran.turn lane.opened
+    running_fits =
+        let whole = turn_of budget code heartbeat (nat_lt lane.tally.beats forks) lane.task in
+        turn_fits code heartbeat whole.steps lane.task lane.opened whole.stopped ran.turn is.turn keeps_turn
+        (owed_fits code heartbeat (due_after run.owed.due whole.beats) lane.opened run.outcome run.owed.ending whole.stopped run.owed.more owes_turn.stopped)
 
     abbrev pub Reached : SoloState
     Reached = after_turn code ran.turn lane.opened (turned ran.steps ran.beats lane.tally)

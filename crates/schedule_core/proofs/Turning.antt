@@ -35,9 +35,10 @@ use Rattle.tpal_machine.proofs.Undiverted.{agrees}
 use Rattle.schedule_core.specs.declared.lanes.Opened.{Opened}
 use Rattle.schedule_core.specs.declared.lanes.Opened.TheVariants.{Waiting, Half}
 use Rattle.schedule_core.specs.declared.lanes.Tally.{Tally}
-use Rattle.schedule_core.specs.Lanes.{Placed, TaskOwed, JoinedOwed, RestOwed, SideOwed, EndingOwed}
+use Rattle.schedule_core.specs.Lanes.{Placed, TaskOwed, JoinedOwed, SideOwed, EndingOwed}
 use Rattle.schedule_core.specs.Lanes.{ArrivalOwed, SoloStateOwed, after_stopped, after_turn, TurnFits}
-use Rattle.schedule_core.specs.Lanes.{IsTally}
+use Rattle.schedule_core.specs.Lanes.{IsTally, EndArrives, JoinedArrives, SidesMerge, SideArrives}
+use Rattle.schedule_core.specs.Lanes.{CanArrive}
 use Rattle.schedule_core.specs.Solo.{Lane, SoloState, Runs, Lost, Comes, on, more, records, runs, next}
 use Rattle.schedule_core.specs.Solo.{after_step, arrived_with, arrived_at, on_joined, met, turned}
 use Rattle.schedule_core.specs.Solo.{one_skipped}
@@ -59,19 +60,31 @@ more_twice a n m = ⊎_elim
     ap (λ (k : ℕ). min (k + m) (2 ^ 64 - 1)) same ∙ one ∙ sym all)
     (cases_lt (a + n) (2 ^ 64 - 1))
 
-turned_twice : (s b n m : ℕ) (tally : Tally) → turned n m (turned s b tally) ≡ turned (s + n) (b + m) tally
+pub turned_twice : (s b n m : ℕ) (tally : Tally) → turned n m (turned s b tally) ≡ turned (s + n) (b + m) tally
 turned_twice s b n m tally = λ i. record { tasks = tally.tasks; beats = more_twice tally.beats b m i; skipped = tally.skipped; instructions = more_twice tally.instructions s n i }
 
 pub more_none : (a : ℕ) → a ≤ 2 ^ 64 - 1 → more a 0 ≡ a
 more_none a few = let same : a + 0 ≡ a = omega arith in ap (λ (k : ℕ). min k (2 ^ 64 - 1)) same ∙ min-eq_left few
 
-turned_none : (tally : Tally) → IsTally tally → turned 0 0 tally ≡ tally
+pub turned_none : (tally : Tally) → IsTally tally → turned 0 0 tally ≡ tally
 turned_none tally is = λ i. record { tasks = tally.tasks; beats = more_none tally.beats is.beats i; skipped = tally.skipped; instructions = more_none tally.instructions is.instructions i }
 
-turned_tally : (s b : ℕ) (tally : Tally) → IsTally (turned s b tally)
+pub turned_tally : (s b : ℕ) (tally : Tally) → IsTally (turned s b tally)
 turned_tally s b tally = record { beats = min-le_right (tally.beats + b) (2 ^ 64 - 1); instructions = min-le_right (tally.instructions + s) (2 ^ 64 - 1) }
 
 -- ---- what is owed
+
+-- what a side that arrives second merges with
+pub half_arrives : (code : Listing) (all opened : List Opened) (rest : RestState) (left side : Side) → all ≡ Half rest left ∷ opened → CanArrive code all side → SidesMerge code rest left side (λ other. CanArrive code opened other)
+half_arrives code all opened rest left side is arrives = subst (λ o. CanArrive code o side) is arrives
+
+-- how a turn has to end: it isn't stuck, and what it ends with can arrive
+abbrev pub StoppedFits : Listing → Stopped → List Opened → Type 0
+StoppedFits code (Pauses after) opened = Unit {0}
+StoppedFits code (Waits waits) opened = Unit {0}
+StoppedFits code (Parts parts) opened = Unit {0}
+StoppedFits code (turns.Comes e) opened = EndArrives e (λ side. CanArrive code opened side)
+StoppedFits code (Sticks fault block at) opened = ⊥
 
 module _ (code : Listing) (heartbeat : ℕ) where
   abbrev pub More : List Opened → Outcome → Ending → Type 0
@@ -96,9 +109,26 @@ module _ (code : Listing) (heartbeat : ℕ) where
   arrival_owed (one ∷ opened) out tally side is =
       met_owed one opened out tally side (λ e more. ending_owed opened out tally e (λ other arrives. arrival_owed opened out tally other arrives) more) is
 
-  -- what a side that arrives second owes
-  pub half_owed : (all opened : List Opened) (rest : RestState) (left side : Side) (out : Outcome) → all ≡ Half rest left ∷ opened → ArrivalOwed code heartbeat all out side → RestOwed code heartbeat rest left side opened (More opened out)
-  half_owed all opened rest left side out is arrives = subst (λ o. ArrivalOwed code heartbeat o out side) is arrives
+  -- where an ending owes the outcome, it can arrive
+  end_arrives : (opened : List Opened) (out : Outcome) (e : Ending) → ((side : Side) → ArrivalOwed code heartbeat opened out side → CanArrive code opened side) → More opened out e → EndArrives e (λ side. CanArrive code opened side)
+  end_arrives opened out (ending.Root outcome) each is = tt
+  end_arrives opened out (ending.At k name side) each is = each side is
+
+  joined_arrives : (both : Joined) (opened : List Opened) (out : Outcome) → ((e : Ending) → More opened out e → EndArrives e (λ side. CanArrive code opened side)) → JoinedOwed code heartbeat both opened (More opened out) → JoinedArrives both (λ side. CanArrive code opened side)
+  joined_arrives (merging.Goes task) opened out each is = tt
+  joined_arrives (merging.Ends e) opened out each is = each e is
+
+  met_arrives : (one : Opened) (opened : List Opened) (out : Outcome) (side : Side) → ((e : Ending) → More opened out e → EndArrives e (λ other. CanArrive code opened other)) → SideOwed code heartbeat one side opened (More opened out) → SideArrives code one side (λ other. CanArrive code opened other)
+  met_arrives (Waiting rest child) opened out side each is = tt
+  met_arrives (Half rest left) opened out side each is = record { both = is.both; merge = is.merge; later = joined_arrives is.both opened out each is.owed }
+
+  can_arrive : (opened : List Opened) (out : Outcome) (side : Side) → ArrivalOwed code heartbeat opened out side → CanArrive code opened side
+  can_arrive [] out side is = absurd is
+  can_arrive (one ∷ opened) out side is =
+      met_arrives one opened out side (λ e more. end_arrives opened out e (λ other arrives. can_arrive opened out other arrives) more) is
+
+  pub ending_arrives : (opened : List Opened) (out : Outcome) (e : Ending) → More opened out e → EndArrives e (λ side. CanArrive code opened side)
+  ending_arrives opened out e is = end_arrives opened out e (λ side arrives. can_arrive opened out side arrives) is
 
   -- what the end of a turn comes to owes the outcome
   room_owed : (b : Bool) (waits : State) (opened : List Opened) (out : Outcome) (tally : Tally) (e : Ending) → nat_lt (length opened) records ≡ b → (nat_lt (length opened) records ≡ true → TaskOwed code heartbeat false (answered (Some (length opened)) waits) opened e) → TaskOwed code heartbeat false (answered None waits) opened e → More opened out e → SoloStateOwed code heartbeat out (cond b (runs (answered (Some (length opened)) waits) opened tally) (runs (answered None waits) opened (one_skipped tally)))
@@ -144,14 +174,22 @@ module _ (code : Listing) (heartbeat : ℕ) where
   turn_stage stopped turn.NoMemory opened tally is had = absurd (had refl)
 
   -- what it has to be
-  pub turn_fits : (due : Bool) (steps : ℕ) (task : State) (opened : List Opened) (out : Outcome) (e : Ending) (stopped : Stopped) (t : Turn) → IsTurn stopped t → More opened out e → StoppedKeeps heartbeat steps task stopped → StoppedOwes code (owing code heartbeat) due e stopped → TurnFits code heartbeat t opened out
-  turn_fits due steps task opened out e stopped (turn.Pause after) is rest kept owes = tt
-  turn_fits due steps task opened out e stopped (turn.NeedRecord waits) is rest kept owes = let waiting : WaitsFrom heartbeat steps task waits = subst (StoppedKeeps heartbeat steps task) is kept in waiting.waiting
-  turn_fits due steps task opened out e stopped (turn.Forked left below child rec) is rest kept owes = tt
-  turn_fits due steps task opened out e stopped (turn.Arrived rec side p) is rest kept owes = subst (More opened out) (sym (subst (StoppedOwes code (owing code heartbeat) due e) is owes).1) rest
-  turn_fits due steps task opened out e stopped (turn.Halted outcome) is rest kept owes = tt
-  turn_fits due steps task opened out e stopped (turn.Stuck fault block at) is rest kept owes = subst (StoppedOwes code (owing code heartbeat) due e) is owes
-  turn_fits due steps task opened out e stopped turn.NoMemory is rest kept owes = tt
+  pub turn_fits : (steps : ℕ) (task : State) (opened : List Opened) (stopped : Stopped) (t : Turn) → IsTurn stopped t → StoppedKeeps heartbeat steps task stopped → StoppedFits code stopped opened → TurnFits code t opened
+  turn_fits steps task opened stopped (turn.Pause after) is kept fits = tt
+  turn_fits steps task opened stopped (turn.NeedRecord waits) is kept fits = let waiting : WaitsFrom heartbeat steps task waits = subst (StoppedKeeps heartbeat steps task) is kept in waiting.waiting
+  turn_fits steps task opened stopped (turn.Forked left below child rec) is kept fits = tt
+  turn_fits steps task opened stopped (turn.Arrived rec side p) is kept fits = subst (λ s. StoppedFits code s opened) is fits
+  turn_fits steps task opened stopped (turn.Halted outcome) is kept fits = tt
+  turn_fits steps task opened stopped (turn.Stuck fault block at) is kept fits = subst (λ s. StoppedFits code s opened) is fits
+  turn_fits steps task opened stopped turn.NoMemory is kept fits = tt
+
+  -- which holds where the outcome is owed
+  pub owed_fits : (due : Bool) (opened : List Opened) (out : Outcome) (e : Ending) (stopped : Stopped) → More opened out e → StoppedOwes code (owing code heartbeat) due e stopped → StoppedFits code stopped opened
+  owed_fits due opened out e (Pauses after) rest owes = tt
+  owed_fits due opened out e (Waits waits) rest owes = tt
+  owed_fits due opened out e (Parts parts) rest owes = tt
+  owed_fits due opened out e (turns.Comes other) rest owes = ending_arrives opened out other (subst (More opened out) (sym owes.1) rest)
+  owed_fits due opened out e (Sticks fault block at) rest owes = absurd owes
 
 -- ---- nearer to the end
 

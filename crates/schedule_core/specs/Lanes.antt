@@ -41,6 +41,45 @@ pub record Placed (task : State) (opened : List Opened) : Type 0 where
   pub place : end_of task.goal ≡ end_at opened
   pub given : (number_of task.pending ≡ None) ⊎ (number_of task.pending ≡ Some (length opened))
 
+-- each open record stands above those that were opened before: there its rest ends, and its child
+-- is its right side
+abbrev pub AreNested : List Opened → Type 0
+AreNested [] = Unit {0}
+AreNested (Waiting rest child ∷ opened) =
+    (end_of rest.goal ≡ end_at opened)
+    × (child.pending ≡ None)
+    × (end_of child.goal ≡ «end».At (length opened) Right)
+    × AreNested opened
+AreNested (Half rest left ∷ opened) = (end_of rest.goal ≡ end_at opened) × AreNested opened
+
+-- ---- arrivals
+
+abbrev pub EndArrives : Ending → (Side → Type 0) → Type 0
+EndArrives (ending.Root outcome) More = Unit {0}
+EndArrives (ending.At k name side) More = More side
+
+abbrev pub JoinedArrives : Joined → (Side → Type 0) → Type 0
+JoinedArrives (merging.Goes task) More = Unit {0}
+JoinedArrives (merging.Ends e) More = EndArrives e More
+
+-- two sides merge under a rest, and what they come to can arrive in its turn
+pub record SidesMerge (code : Listing) (rest : RestState) (left right : Side)
+    (More : Side → Type 0) : Type 0 where
+  pub both : Joined
+  pub merge : MergeOf code rest left right both
+  pub later : JoinedArrives both More
+
+-- a side that arrives at a record whose child waits is kept, and any other is merged with the left
+abbrev pub SideArrives : Listing → Opened → Side → (Side → Type 0) → Type 0
+SideArrives code (Waiting rest child) side More = Unit {0}
+SideArrives code (Half rest left) side More = SidesMerge code rest left side More
+
+-- a side can arrive at these open records
+abbrev pub CanArrive : Listing → List Opened → Side → Type 0
+CanArrive code [] side = ⊥
+CanArrive code (one ∷ opened) side =
+    SideArrives code one side (λ other. CanArrive code opened other)
+
 -- ---- what is owed
 
 module _ (code : Listing) (heartbeat : ℕ) where
@@ -121,16 +160,15 @@ after_turn code (turn.Halted outcome) opened tally = Over outcome tally
 after_turn code (turn.Stuck fault block at) opened tally = Lost
 after_turn code turn.NoMemory opened tally = Lost
 
--- what a turn is, of a run that owes an outcome
-abbrev pub TurnFits : Listing → ℕ → Turn → List Opened → Outcome → Type 0
-TurnFits code heartbeat (turn.Pause task) opened out = Unit {0}
-TurnFits code heartbeat (turn.NeedRecord waits) opened out = IsSome waits.waiting
-TurnFits code heartbeat (turn.Forked left rest child rec) opened out = Unit {0}
-TurnFits code heartbeat (turn.Arrived rec side p) opened out =
-    ArrivalOwed code heartbeat opened out p
-TurnFits code heartbeat (turn.Halted outcome) opened out = Unit {0}
-TurnFits code heartbeat (turn.Stuck fault block at) opened out = ⊥
-TurnFits code heartbeat turn.NoMemory opened out = Unit {0}
+-- what a turn is that a run goes on with
+abbrev pub TurnFits : Listing → Turn → List Opened → Type 0
+TurnFits code (turn.Pause task) opened = Unit {0}
+TurnFits code (turn.NeedRecord waits) opened = IsSome waits.waiting
+TurnFits code (turn.Forked left rest child rec) opened = Unit {0}
+TurnFits code (turn.Arrived rec side p) opened = CanArrive code opened p
+TurnFits code (turn.Halted outcome) opened = Unit {0}
+TurnFits code (turn.Stuck fault block at) opened = ⊥
+TurnFits code turn.NoMemory opened = Unit {0}
 
 -- a stage as it is kept, with the open records and the counts
 abbrev pub IsSoloState : SoloState → declared.SoloState → List Opened → Tally → Type 0

@@ -28,7 +28,7 @@ pub struct Tally {
 
 /// What a solo run comes to next.
 #[derive(Drop)]
-pub(crate) enum SoloState {
+pub enum SoloState {
     /// A task runs.
     Runs(Task),
     /// The run has ended.

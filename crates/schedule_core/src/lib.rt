@@ -23,5 +23,5 @@ pub use applying::apply;
 pub use config::Config;
 pub use event::{ApplyFault, Event};
 pub use job::{Job, Report};
-pub use lanes::{Opened, Tally};
-pub use solo::solo_run;
+pub use lanes::{Opened, SoloState, Tally};
+pub use solo::{go_on, in_range, solo_run, turned};

@@ -12,7 +12,7 @@ ghost use Rattle.schedule_core.specs.declared.lanes.Tally.{Tally};
 ghost use Rattle.schedule_core.specs.Apply.{IsJob};
 ghost use Rattle.schedule_core.specs.Counting.{tally_of};
 ghost use Rattle.schedule_core.specs.Sharing.{SharedRun};
-ghost use Rattle.schedule_core.specs.Lanes.{ArrivalOwed, IsSoloState, IsTally, TurnFits};
+ghost use Rattle.schedule_core.specs.Lanes.{CanArrive, IsSoloState, IsTally, TurnFits};
 ghost use Rattle.schedule_core.specs.Lanes.{after_turn};
 ghost use Rattle.schedule_core.specs.Solo.{SoloRun, asked, arrived_at, runs, turned};
 ghost use Rattle.schedule_core.specs.Steps.{ComesToAnEnd, ComesToAnEnd-prop};
@@ -42,7 +42,7 @@ struct Start<'a> {
 }
 
 /// The counts after so many instructions and diversions more.
-fn turned(tally: Tally, steps: u64, beats: u64) -> Tally
+pub fn turned(tally: Tally, steps: u64, beats: u64) -> Tally
     ensures { result ≡ turned steps beats tally }
 {
     Tally {
@@ -54,7 +54,7 @@ fn turned(tally: Tally, steps: u64, beats: u64) -> Tally
 }
 
 /// Counts are numbers of their type.
-fn in_range(tally: Tally)
+pub fn in_range(tally: Tally)
     ensures { IsTally tally }
 {
     let Tally {
@@ -83,9 +83,7 @@ fn give(task: Task, opened: &[Opened], tally: &mut Tally) -> Task
 /// A side arrives at the record that was opened last, and so does what it and its other side are
 /// merged to, until a task runs or the run is over.
 fn arrive(out: Side, code: &Code, opened: &mut Vec<Opened>) -> Result<SoloState, NoMemory>
-    requires { (heartbeat : ℕ)
-        × (outcome : Outcome)
-        × ArrivalOwed code.now heartbeat (reverse opened.old.items) outcome out }
+    requires { CanArrive code.now (reverse opened.old.items) out }
     ensures { IfOk result
         (λ stage. (tally : Tally)
         → IsSoloState (arrived_at (reverse opened.old.items) code.now tally out) stage
@@ -112,16 +110,15 @@ fn arrive(out: Side, code: &Code, opened: &mut Vec<Opened>) -> Result<SoloState,
     unreachable!()
 }
 
-/// What the end of a turn comes to.
-fn go_on(
+/// What the end of a turn comes to: the task that runs next, with the records that are open then,
+/// or the outcome. A turn that found no memory comes to none.
+pub fn go_on(
     turn: Turn,
     code: &Code,
     opened: &mut Vec<Opened>,
     tally: &mut Tally,
 ) -> Result<SoloState, NoMemory>
-    requires { (heartbeat : ℕ)
-        × (outcome : Outcome)
-        × TurnFits code.now heartbeat turn (reverse opened.old.items) outcome }
+    requires { TurnFits code.now turn (reverse opened.old.items) }
     ensures { IfOk result
         (λ stage. IsSoloState (after_turn code.now turn (reverse opened.old.items) tally.old) stage
         (reverse opened.new.items) tally.new) }

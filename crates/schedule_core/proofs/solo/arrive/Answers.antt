@@ -4,9 +4,9 @@ use Rattle.tpal_machine.specs.Answer.{IsMerged}
 use Rattle.tpal_machine.specs.Merge.{joined}
 use Rattle.schedule_core.specs.declared.lanes.Opened.{Opened}
 use Rattle.schedule_core.specs.declared.lanes.Opened.TheVariants.{Half}
-use Rattle.schedule_core.specs.Lanes.{JoinedOwed}
+use Rattle.schedule_core.specs.Lanes.{CanArrive, JoinedArrives}
 use Rattle.schedule_core.specs.Solo.{arrived_at, arrived_with, on_joined, runs}
-use Rattle.schedule_core.proofs.Turning.{More, half_owed}
+use Rattle.schedule_core.proofs.Turning.{half_arrives}
 use Rattle.schedule_core.proofs.solo.arrive.Goals as goal
 
 pub returns-in-Waiting : goal.returns-in-Waiting
@@ -20,12 +20,12 @@ returns-in-Waiting c = λ tally.
 pub merge-requires-clause-left : goal.merge-requires-clause-left
 merge-requires-clause-left c =
     let whole = ap reverse c.in-Some.ensures.items ∙ reverse-append c.pop.new.self.items (c.in-Some.last ∷ []) ∙ ap (λ (x : Opened). x ∷ reverse c.pop.new.self.items) c.in-Half.is in
-    (half_owed c.args.code.now c.loop-last.invariant.owed.0 _ (reverse c.pop.new.self.items) c.in-Half.rest c.in-Half.left c.loop-last.out c.loop-last.invariant.owed.1 whole c.loop-last.invariant.owed.2).merge.left_belongs
+    (half_arrives c.args.code.now _ (reverse c.pop.new.self.items) c.in-Half.rest c.in-Half.left c.loop-last.out whole c.loop-last.invariant.arrives).merge.left_belongs
 
 pub merge-requires-clause-right : goal.merge-requires-clause-right
 merge-requires-clause-right c =
     let whole = ap reverse c.in-Some.ensures.items ∙ reverse-append c.pop.new.self.items (c.in-Some.last ∷ []) ∙ ap (λ (x : Opened). x ∷ reverse c.pop.new.self.items) c.in-Half.is in
-    (half_owed c.args.code.now c.loop-last.invariant.owed.0 _ (reverse c.pop.new.self.items) c.in-Half.rest c.in-Half.left c.loop-last.out c.loop-last.invariant.owed.1 whole c.loop-last.invariant.owed.2).merge.right_belongs
+    (half_arrives c.args.code.now _ (reverse c.pop.new.self.items) c.in-Half.rest c.in-Half.left c.loop-last.out whole c.loop-last.invariant.arrives).merge.right_belongs
 
 pub returns-in-Runs : goal.returns-in-Runs
 returns-in-Runs c = λ tally.
@@ -47,9 +47,9 @@ pub loop-last-preserved : goal.loop-last-preserved
 loop-last-preserved c =
     let whole = ap reverse c.in-Some.ensures.items ∙ reverse-append c.pop.new.self.items (c.in-Some.last ∷ []) ∙ ap (λ (x : Opened). x ∷ reverse c.pop.new.self.items) c.in-Half.is in
     let merged = subst (IsMerged (joined c.args.code.now c.in-Half.rest c.in-Half.left c.loop-last.out)) c.in-Arrived.is c.in_ok-task-in-Half.ensures.merged in
-    let rest = half_owed c.args.code.now c.loop-last.invariant.owed.0 _ (reverse c.pop.new.self.items) c.in-Half.rest c.in-Half.left c.loop-last.out c.loop-last.invariant.owed.1 whole c.loop-last.invariant.owed.2 in
+    let rest = half_arrives c.args.code.now _ (reverse c.pop.new.self.items) c.in-Half.rest c.in-Half.left c.loop-last.out whole c.loop-last.invariant.arrives in
     record {
-      owed = (c.loop-last.invariant.owed.0, c.loop-last.invariant.owed.1, subst (λ both. JoinedOwed c.args.code.now c.loop-last.invariant.owed.0 both (reverse c.pop.new.self.items) (More c.args.code.now c.loop-last.invariant.owed.0 (reverse c.pop.new.self.items) c.loop-last.invariant.owed.1)) (sym rest.merge.gives ∙ merged) rest.owed);
+      arrives = subst (λ both. JoinedArrives both (λ other. CanArrive c.args.code.now (reverse c.pop.new.self.items) other)) (sym rest.merge.gives ∙ merged) rest.later;
       same = λ tally.
           c.loop-last.invariant.same tally
           ∙ ap (λ (o : List Opened). arrived_at o c.args.code.now tally c.loop-last.out) whole

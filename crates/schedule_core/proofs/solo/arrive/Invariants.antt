@@ -1,14 +1,13 @@
-use Rattle.std.proofs.Common.{◌≡◌, ℕ, length, reverse}
-use Rattle.tp_value.specs.declared.values.Outcome.{Outcome}
+use Rattle.std.proofs.Common.{◌≡◌, length, reverse}
 use Rattle.schedule_core.specs.declared.lanes.Tally.{Tally}
-use Rattle.schedule_core.specs.Lanes.{ArrivalOwed}
+use Rattle.schedule_core.specs.Lanes.{CanArrive}
 use Rattle.schedule_core.specs.Solo.{arrived_at}
 use Rattle.schedule_core.proofs.solo.arrive.Given as goal
 
 -- the side that is at hand comes to what the first one comes to
 abbrev pub invariant-loop-last : goal.invariant-loop-last
 invariant-loop-last l = record {
-  owed : (heartbeat : ℕ) × (outcome : Outcome) × ArrivalOwed l.code heartbeat (reverse l.opened.items) outcome l.out;
+  arrives : CanArrive l.code (reverse l.opened.items) l.out;
   same : (tally : Tally) → arrived_at (reverse l.fn.opened.items) l.code tally l.fn.out ≡ arrived_at (reverse l.opened.items) l.code tally l.out;
 }
 
