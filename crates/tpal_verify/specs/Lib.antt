@@ -28,3 +28,9 @@ pub mod Breaks
 pub mod Verdict
 -- codes by which the definitions were tried
 pub mod Sample
+-- walks that go well
+pub mod Well
+-- when a task fits what is known at its place
+pub mod Fits
+-- the faults by which code that meets the rules may be stuck
+pub mod Safe

@@ -1,9 +1,10 @@
 //! A verifier of code that was written by hand: `verify` accepts a flat code, or names the first
-//! rule that it breaks. It stands on `tp_value` and `tpal_syntax`. `specs/` has the definitions:
-//! kinds and shapes, the rules, one walk over a block, rounds up to the least assignment of shapes,
-//! the first rule that a code breaks. `laws` says how these hang together. Start with `kinds`,
-//! `shape` and `rules`; `walk` and `blocks` walk over a block, `rounds` finds the least assignment,
-//! `breaks` what it breaks.
+//! rule that it breaks. It stands on `tpal_syntax`, `tpal_machine` and `schedule_core`. `specs/`
+//! has the definitions: kinds and shapes, the rules, one walk over a block, rounds up to the least
+//! assignment of shapes, the first rule that a code breaks, and what a task holds where it fits its
+//! shape. `laws` says how these hang together, and `safe_laws` that accepted code never goes wrong,
+//! whatever the interleaving. Start with `kinds`, `shape` and `rules`; `walk` and `blocks` walk
+//! over a block, `rounds` finds the least assignment, `breaks` what it breaks.
 #![tactic(auto)]
 
 mod agreement;
@@ -19,6 +20,7 @@ mod phases;
 mod rounds;
 mod rules;
 mod safe;
+mod safe_laws;
 mod shape;
 #[cfg(test)]
 mod tests;
@@ -33,5 +35,6 @@ pub use laws::{
 };
 pub use phases::Phase;
 pub use safe::{SafeCode, verify};
+pub use safe_laws::{first_task_knows, stuck_by_allowed};
 pub use shape::Shape;
 pub use trace::Trace;
