@@ -37,3 +37,9 @@ pub mod Stops
 pub mod Merged
 pub mod Turning
 pub mod Safety
+pub mod Counting
+pub mod Budgets
+pub mod Reached
+pub mod Executing
+pub mod Told
+pub mod Beginning

@@ -34,3 +34,5 @@ pub mod Well
 pub mod Fits
 -- the faults by which code that meets the rules may be stuck
 pub mod Safe
+-- what a run by one worker comes to
+pub mod Exec

@@ -118,3 +118,29 @@ stops = code_of (plain (Trap Divide (record { line = 1; col = 1 }) ∷ []) (Jump
 -- a write of r31 in a block that nothing enters
 abbrev pub writes_base : Listing
 writes_base = code_of (plain [] Halt ∷ plain (Move 31 (num 1) ∷ []) Halt ∷ [])
+
+-- ---- codes that are run
+
+abbrev pub block_of_main : List Instr → Term → Listing
+block_of_main body term = code_of (plain body term ∷ [])
+
+-- 2 and 3 are added and printed
+abbrev pub adds : Listing
+adds = block_of_main (Move 0 (num 2) ∷ Calc 0 0 Add (num 3) ∷ Print 0 ∷ []) Halt
+
+-- a division by zero
+abbrev pub divides : Listing
+divides = block_of_main (Move 0 (num 1) ∷ Calc 0 0 Div (num 0) ∷ []) Halt
+
+-- two blocks, the second of which jumps to itself
+abbrev pub loops : Listing
+loops = code_of (plain [] (Jump (Label 1)) ∷ plain [] (Jump (Label 1)) ∷ [])
+
+-- a count to 20, whose handler prints how far it is and goes back without asking for a record
+abbrev pub counts : Listing
+counts =
+    code_of
+    (plain (Salloc 1 ∷ Move 0 (num 0) ∷ PrmPush 31 0 1 2 ∷ []) (Jump (Label 1))
+    ∷ ready 2 (Calc 0 0 Add (num 1) ∷ Calc 1 0 Lt (num 20) ∷ IfJump 1 1 ∷ []) Halt
+    ∷ plain (Print 0 ∷ []) (Jump (Reg 30))
+    ∷ [])

@@ -3,8 +3,10 @@
 //! has the definitions: kinds and shapes, the rules, one walk over a block, rounds up to the least
 //! assignment of shapes, the first rule that a code breaks, and what a task holds where it fits its
 //! shape. `laws` says how these hang together, and `safe_laws` that accepted code never goes wrong,
-//! whatever the interleaving. Start with `kinds`, `shape` and `rules`; `walk` and `blocks` walk
-//! over a block, `rounds` finds the least assignment, `breaks` what it breaks.
+//! whatever the interleaving. `exec_run` runs accepted code by one worker, `specs/Exec.antt` says
+//! what it comes to, and `exec_laws` what is so of each run. Start with `kinds`, `shape` and
+//! `rules`; `walk` and `blocks` walk over a block, `rounds` finds the least assignment, `breaks`
+//! what it breaks.
 #![tactic(auto)]
 
 mod agreement;
@@ -12,11 +14,14 @@ mod blocks;
 mod board;
 mod breaks;
 mod combs;
+mod exec;
+mod exec_laws;
 mod fault;
 mod flat;
 mod kinds;
 mod laws;
 mod phases;
+mod report;
 mod rounds;
 mod rules;
 mod safe;
@@ -27,6 +32,8 @@ mod tests;
 mod trace;
 mod walk;
 
+pub use exec::exec_run;
+pub use exec_laws::{exec_samples, runs_are_told};
 pub use fault::VerifyFault;
 pub use kinds::{EndFact, Kind, MarkFact};
 pub use laws::{
@@ -34,6 +41,7 @@ pub use laws::{
     samples,
 };
 pub use phases::Phase;
+pub use report::{ExecEnd, ExecReport, MAX_STEPS};
 pub use safe::{SafeCode, verify};
 pub use safe_laws::{first_task_knows, stuck_by_allowed};
 pub use shape::Shape;
