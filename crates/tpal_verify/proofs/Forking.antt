@@ -6,7 +6,7 @@ use Rattle.stack_marks.specs.Stacks.{StackValue}
 use Rattle.stack_marks.specs.declared.mark.Mark.{Mark}
 use Rattle.tpal_syntax.specs.declared.blocks.Block.{Block}
 use Rattle.tpal_syntax.specs.declared.instructions.Instr.{Instr}
-use Rattle.tpal_syntax.specs.declared.instructions.Instr.TheVariants.{Fork, Rows}
+use Rattle.tpal_syntax.specs.declared.instructions.Instr.TheVariants.{Fork}
 use Rattle.tpal_syntax.specs.declared.words.Word.{Word}
 use Rattle.tpal_syntax.specs.declared.words.Word.TheVariants as word
 use Rattle.tpal_syntax.specs.Listing.{Listing}
@@ -22,7 +22,6 @@ use Rattle.tpal_verify.specs.declared.kinds.Kind.TheVariants.{Number, Empty, Own
 use Rattle.tpal_verify.specs.declared.phases.Phase.{Phase}
 use Rattle.tpal_verify.specs.declared.phases.Phase.TheVariants.{Calm, Compared, Asked, Tested, Given}
 use Rattle.tpal_verify.specs.Kinds.{kind_eq}
-use Rattle.tpal_verify.proofs.Walking.{joins}
 use Rattle.std.specs.Prelude.{take, map, is_some}
 use Rattle.std.specs.List.{list_all}
 use Rattle.stack_marks.specs.Stacks as stacks

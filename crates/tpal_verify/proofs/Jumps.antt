@@ -45,13 +45,12 @@ use Rattle.tpal_verify.proofs.Holding.{set_both, register_is, operand_is}
 use Rattle.tpal_verify.proofs.Walking.{OnWell}
 use Rattle.tpal_verify.proofs.Ahead.{calm_at, set_other, not_same, Writes, after_write, ahead_of_write}
 use Rattle.tp_value.specs.Number.{wrapped, truth}
-use Rattle.tp_value.specs.declared.values.Op.TheVariants.{Affine}
 use Rattle.std.specs.Prelude.{int_div, int_rem, is_some}
 use Rattle.tpal_syntax.specs.declared.notes.Note.{Note}
 use Rattle.tpal_syntax.specs.declared.notes.Note.TheVariants as note
 use Rattle.tpal_machine.specs.Reading as reading
 use Rattle.tpal_machine.specs.Step.{asked, if_jump, enters}
-use Rattle.schedule_core.specs.Machine.{left, right}
+use Rattle.schedule_core.specs.Machine.{left}
 use Rattle.tpal_verify.specs.declared.kinds.EndFact.{EndFact}
 use Rattle.tpal_verify.specs.declared.kinds.EndFact.TheVariants.{Root, Side as IsSide, Either}
 use Rattle.tpal_verify.specs.Breaks.{MeetsRules}

@@ -22,7 +22,7 @@ use Rattle.tpal_machine.specs.State.{State}
 use Rattle.tpal_machine.specs.Step.{Step, stepped, halting, executed}
 use Rattle.tpal_verify.specs.declared.phases.Phase.{Phase}
 use Rattle.tpal_verify.specs.declared.phases.Phase.TheVariants.{Calm}
-use Rattle.tpal_verify.specs.Shapes.{Shape, kind_at, cell_at, with_cell}
+use Rattle.tpal_verify.specs.Shapes.{Shape, kind_at}
 use Rattle.tpal_verify.specs.Flat.{Ground, ground_of}
 use Rattle.tpal_verify.specs.Rules.{is_number_at}
 use Rattle.tpal_verify.specs.Rounds.{Shapes}

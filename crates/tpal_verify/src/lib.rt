@@ -16,6 +16,8 @@ mod breaks;
 mod combs;
 mod exec;
 mod exec_laws;
+#[cfg(test)]
+mod exec_tests;
 mod fault;
 mod flat;
 mod kinds;
@@ -43,6 +45,6 @@ pub use laws::{
 pub use phases::Phase;
 pub use report::{ExecEnd, ExecReport, MAX_STEPS};
 pub use safe::{SafeCode, verify};
-pub use safe_laws::{first_task_knows, stuck_by_allowed};
+pub use safe_laws::{first_task_knows, no_step_goes_wrong, stays_sound, stuck_by_allowed};
 pub use shape::Shape;
 pub use trace::Trace;

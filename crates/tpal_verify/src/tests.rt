@@ -6,9 +6,9 @@ use std::test::Fail;
 use tp_value::{Items, NoMemory, Place, TrapKind};
 use tpal_syntax::{Alu, Block, Code, CutKind, Instr, Note, Target, Term, Value};
 
-const JUMP_BACK: Term = Term::Jump(Value::Reg(30));
+pub(crate) const JUMP_BACK: Term = Term::Jump(Value::Reg(30));
 
-fn block(
+pub(crate) fn block(
     alloc: Global,
     name: u8,
     note: Note,
@@ -23,7 +23,7 @@ fn block(
     })
 }
 
-const fn set(to: u8, number: i64) -> Instr {
+pub(crate) const fn set(to: u8, number: i64) -> Instr {
     Instr::Move {
         to,
         value: Value::Int(number),
@@ -37,7 +37,7 @@ const fn copy(to: u8, from: u8) -> Instr {
     }
 }
 
-const fn calc(to: u8, left: u8, alu: Alu, right: Value) -> Instr {
+pub(crate) const fn calc(to: u8, left: u8, alu: Alu, right: Value) -> Instr {
     Instr::Calc {
         to,
         left,
@@ -46,15 +46,15 @@ const fn calc(to: u8, left: u8, alu: Alu, right: Value) -> Instr {
     }
 }
 
-const fn if_jump(test: u8, label: u32) -> Instr {
+pub(crate) const fn if_jump(test: u8, label: u32) -> Instr {
     Instr::IfJump { test, label }
 }
 
-const fn jump(label: u32) -> Term {
+pub(crate) const fn jump(label: u32) -> Term {
     Term::Jump(Value::Label(label))
 }
 
-const fn mark(cells: u16, split: u32) -> Instr {
+pub(crate) const fn mark(cells: u16, split: u32) -> Instr {
     Instr::PrmPush {
         base: 31,
         off: 0,
