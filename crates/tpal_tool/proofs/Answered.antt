@@ -18,15 +18,16 @@ use Rattle.tpal_tool.specs.declared.status.Status.TheVariants.{BadWords}
 use Rattle.tpal_tool.specs.Inputs.{first_missing}
 use Rattle.tpal_tool.specs.Lines.{bad_words_line, missing_line, tables_line, too_long_line}
 use Rattle.tpal_tool.specs.Owed.{RunOwes, faulty_tables, missing, ran, shown, Owes, bad_words}
-use Rattle.tpal_tool.specs.Owed.{too_long, refused, compiled, tables_too_long, Finished}
+use Rattle.tpal_tool.specs.Owed.{too_long, refused, compiled, tables_too_long, executed, Finished}
 use Rattle.tpal_tool.specs.Owed as owed
 use Rattle.tpal_tool.specs.Promises.{AsksFor, AsksForRun, IsRefusedWith}
 use Rattle.tpal_tool.specs.Sink.{Appended}
 use Rattle.tpal_tool.specs.Statuses.{number_of}
 use Rattle.tpal_tool.specs.Told.{told_source, told_tables}
 use Rattle.tpal_tool.specs.Verdict.{Refuses, Accepts}
-use Rattle.tpal_tool.specs.Words.{Options, Command, Run, Compile, program_name, run_options}
-use Rattle.tpal_tool.specs.Words.{tables_name}
+use Rattle.tpal_tool.specs.Words.{Options, ExecOptions, Command, Run, Compile, Exec, program_name}
+use Rattle.tpal_tool.specs.Words.{run_options, tables_name}
+use Rattle.tpal_tool.proofs.ExecEndings.{ExecOwes-not_bad}
 use Rattle.tpal_tool.proofs.Endings.{some_none, some_same, told_named}
 use Rattle.tpal_tool.proofs.TreeInputs.{missing_of_tree}
 use Rattle.loop_meaning.proofs.TreeMeanings.{meaning_of_tree}
@@ -98,6 +99,10 @@ run_same way p q tables options status status' text text' same (shown inputs are
 no_run : {P : Type 0} {wanted : Option Command} {name : List ℕ} {command : Command} {options : Options} → wanted ≡ Some (Compile name) → wanted ≡ Some command → run_options command ≡ Some options → P
 no_run compiles runs goes = absurd (some_none (ap run_options (some_same (sym compiles ∙ runs)) ∙ goes))
 
+-- where a source is told, it isn't a code that is asked for
+no_exec : {P : Type 0} {wanted : Option Command} {name : List ℕ} {over : Option (List ℕ)} {options : ExecOptions} {command : Command} {source : List ℕ} (told : List ℕ → Option (List ℕ)) → wanted ≡ Some (Exec name over options) → wanted ≡ Some command → told_source told command ≡ Some source → P
+no_exec told executes also tells = absurd (some_none (ap (told_source told) (some_same (sym executes ∙ also)) ∙ tells))
+
 -- no run has the status of bad words
 no_bad_stop : (stop : Stop) → by_stop Done Trap OutOfFuel stop ≡ BadWords → ⊥
 no_bad_stop stops.Done bad = omega (arith, ap number_of bad)
@@ -133,18 +138,20 @@ module _ (wanted : Option Command) (told : List ℕ → Option (List ℕ)) (old 
   pub bad_is : {source tables text : List ℕ} → Owes wanted source tables status text → status ≡ BadWords → (wanted ≡ None) × (text ≡ bad_words_line)
   bad_is (bad_words none is text_is) bad = (none, text_is)
   bad_is (too_long also named over_it is text_is) bad = absurd (omega (arith, ap number_of (sym is ∙ bad)))
-  bad_is (refused also low only is) bad = absurd (omega (arith, ap number_of (sym is ∙ bad)))
+  bad_is (refused also none low only is) bad = absurd (omega (arith, ap number_of (sym is ∙ bad)))
   bad_is (compiled also low only is compiles) bad = absurd (omega (arith, ap number_of (sym is ∙ bad)))
   bad_is (tables_too_long also low only beyond is text_is) bad = absurd (omega (arith, ap number_of (sym is ∙ bad)))
   bad_is (owed.ran also goes low only few owes) bad = absurd (RunOwes-not_bad owes bad)
+  bad_is (executed also owes) bad = absurd (ExecOwes-not_bad owes bad)
 
   pub none_is_bad : {source tables text : List ℕ} → Owes wanted source tables status text → wanted ≡ None → status ≡ BadWords
   none_is_bad (bad_words none is text_is) not_asked = is
   none_is_bad (too_long also named over_it is text_is) not_asked = absurd (some_none (sym not_asked ∙ also))
-  none_is_bad (refused also low only is) not_asked = absurd (some_none (sym not_asked ∙ also))
+  none_is_bad (refused also none low only is) not_asked = absurd (some_none (sym not_asked ∙ also))
   none_is_bad (compiled also low only is compiles) not_asked = absurd (some_none (sym not_asked ∙ also))
   none_is_bad (tables_too_long also low only beyond is text_is) not_asked = absurd (some_none (sym not_asked ∙ also))
   none_is_bad (owed.ran also goes low only few owes) not_asked = absurd (some_none (sym not_asked ∙ also))
+  none_is_bad (executed also owes) not_asked = absurd (some_none (sym not_asked ∙ also))
 
   -- a source that is too long
   pub finished-too_long : (f : Finished wanted told old new status) (command : Command) (name source : List ℕ) → wanted ≡ Some command → program_name command ≡ Some name → told name ≡ Some source → MAX_SOURCE_BYTES < length source → IsRefusedWith old new status (too_long_line name)
@@ -161,10 +168,11 @@ module _ (wanted : Option Command) (told : List ℕ → Option (List ℕ)) (old 
       by (too_long {name = other} also other_named over_it is text_is) appended =
           let one : other ≡ name = some_same (sym other_named ∙ ap program_name (some_same (sym also ∙ asked_is)) ∙ named) in
           record { refused = is; written = wrote (text_is ∙ ap too_long_line one) appended }
-      by (refused also low only is) appended = absurd (omega (arith, low, over_here))
+      by (refused also none low only is) appended = absurd (omega (arith, low, over_here))
       by (compiled also low only is compiles) appended = absurd (omega (arith, low, over_here))
       by (tables_too_long also low only beyond is text_is) appended = absurd (omega (arith, low, over_here))
       by (owed.ran also goes low only few owes) appended = absurd (omega (arith, low, over_here))
+      by (executed also owes) appended = absurd (some_none (ap program_name (some_same (sym also ∙ asked_is)) ∙ named))
 
   -- a source that is refused
   pub finished-refused : (f : Finished wanted told old new status) (command : Command) (source line : List ℕ) → wanted ≡ Some command → told_source told command ≡ Some source → length source ≤ MAX_SOURCE_BYTES → Refuses source line → IsRefusedWith old new status line
@@ -182,10 +190,11 @@ module _ (wanted : Option Command) (told : List ℕ → Option (List ℕ)) (old 
       by : {text : List ℕ} → Owes wanted f.source f.tables status text → Appended old new text → IsRefusedWith old new status line
       by (bad_words none is text_is) appended = absurd (some_none (sym none ∙ asked_is))
       by (too_long also named over_it is text_is) appended = absurd (omega (arith, under, over_it))
-      by (refused also low only is) appended = record { refused = is; written = wrote (sym (only.one_line line here)) appended }
+      by (refused also none low only is) appended = record { refused = is; written = wrote (sym (only.one_line line here)) appended }
       by (compiled also low only is compiles) appended = absurd (only.not_refused line here)
       by (tables_too_long also low only beyond is text_is) appended = absurd (only.not_refused line here)
       by (owed.ran also goes low only few owes) appended = absurd (only.not_refused line here)
+      by (executed also owes) appended = no_exec told also asked_is told_is
 
   -- a program that is compiled
   pub finished-compiled : (f : Finished wanted told old new status) (name : List ℕ) (program : Program) → AsksFor wanted told (Compile name) program → status ≡ Done
@@ -200,10 +209,11 @@ module _ (wanted : Option Command) (told : List ℕ → Option (List ℕ)) (old 
       by : {text : List ℕ} → Owes wanted f.source f.tables status text → status ≡ Done
       by (bad_words none is text_is) = absurd (some_none (sym none ∙ a.asked))
       by (too_long also named over_it is text_is) = absurd (omega (arith, under, over_it))
-      by (refused also low only is) = absurd (only.not_accepted program (accepted_here a.source f.source program same a.accepts))
+      by (refused also none low only is) = absurd (only.not_accepted program (accepted_here a.source f.source program same a.accepts))
       by (compiled also low only is compiles) = is
       by (tables_too_long {options = options} also low only beyond is text_is) = absurd (no_run {options = options} a.asked also refl)
       by (owed.ran {options = options} also goes low only few owes) = absurd (no_run {options = options} a.asked also goes)
+      by (executed also owes) = no_exec told also a.asked a.tells
 
   -- a run whose tables text is too long
   pub finished-tables_too_long : (f : Finished wanted told old new status) (name over tables : List ℕ) (options : Options) (program : Program) → AsksFor wanted told (Run name (Some over) options) program → told over ≡ Some tables → MAX_TABLES_BYTES < length tables → IsRefusedWith old new status (too_long_line over)
@@ -221,12 +231,13 @@ module _ (wanted : Option Command) (told : List ℕ → Option (List ℕ)) (old 
       by : {text : List ℕ} → Owes wanted f.source f.tables status text → Appended old new text → IsRefusedWith old new status (too_long_line over)
       by (bad_words none is text_is) appended = absurd (some_none (sym none ∙ a.asked))
       by (too_long also named beyond is text_is) appended = absurd (omega (arith, under, beyond))
-      by (refused also low only is) appended = absurd (only.not_accepted program (accepted_here a.source f.source program same a.accepts))
+      by (refused also none low only is) appended = absurd (only.not_accepted program (accepted_here a.source f.source program same a.accepts))
       by (compiled also low only is compiles) appended = absurd (no_run {options = options} also a.asked refl)
       by (tables_too_long {over = other} also low only beyond is text_is) appended =
           let one : other ≡ over = some_same (ap tables_name (some_same (sym also ∙ a.asked))) in
           record { refused = is; written = wrote (text_is ∙ ap too_long_line one) appended }
       by (owed.ran also goes low only few owes) appended = absurd (omega (arith, few, over_it))
+      by (executed also owes) appended = no_exec told also a.asked a.tells
 
   -- what a call owed that came to its end, of a run over a tables text that isn't too long
   pub record RunOf (program : Program) (tables : List ℕ) (options : Options) : Type 0 where
@@ -257,7 +268,7 @@ module _ (wanted : Option Command) (told : List ℕ → Option (List ℕ)) (old 
       by : {mine : List ℕ} → Owes wanted f.source f.tables status mine → Appended old new mine → RunOf program tables options
       by (bad_words none is text_is) appended = absurd (some_none (sym none ∙ a.of_program.asked))
       by (too_long also named beyond is text_is) appended = absurd (omega (arith, under, beyond))
-      by (refused also low only is) appended = absurd (only.not_accepted program accepts_here)
+      by (refused also none low only is) appended = absurd (only.not_accepted program accepts_here)
       by (compiled also low only is compiles) appended = absurd (no_run {options = options} also a.of_program.asked a.goes)
       by (tables_too_long also low only beyond is text_is) appended = absurd (omega (arith, few_here, beyond))
       by {mine = mine} (owed.ran {options = options'} {program = q} also goes low only few owes) appended =
@@ -269,6 +280,7 @@ module _ (wanted : Option Command) (told : List ℕ → Option (List ℕ)) (old 
             owes = subst (λ (t : List ℕ). RunOwes q t options status mine) (sym tables_is) (subst (λ (o : Options). RunOwes q f.tables o status mine) options_is owes);
             written = appended;
           }
+      by (executed also owes) appended = no_exec told also a.of_program.asked a.of_program.tells
 
   -- a run whose tables text has a fault
   pub finished-faulty : ReadOneWay → (program : Program) (tables : List ℕ) (options : Options) (fault : TableFault) → FirstTableFault tables fault → RunOf program tables options → IsRefusedWith old new status (tables_line fault)

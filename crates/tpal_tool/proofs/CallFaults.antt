@@ -11,12 +11,17 @@ use Rattle.tpal_tool.specs.declared.refusal.Refusal.{Refusal}
 use Rattle.tpal_tool.specs.declared.status.Status.{Status}
 use Rattle.tpal_tool.specs.Answering.{IsFaultOf, OwesRefusal, RefusesLength, RefusesMissing}
 use Rattle.tpal_tool.specs.Answering.{RefusesSource, RefusesTables, RefusesTablesLength}
-use Rattle.tpal_tool.specs.Answering.{status_with}
+use Rattle.tpal_tool.specs.Answering.{RefusesCodeText, RefusesMissingInput, status_with}
+use Rattle.tpal_syntax.specs.Listing.{Listing}
+use Rattle.tpal_tool.specs.declared.fetching.TheConstants.{MAX_CODE_BYTES}
+use Rattle.tpal_tool.specs.ExecOwed.{ExecRunOwes, NamedExecOwes}
+use Rattle.tpal_tool.specs.ExecOwed as exec
 use Rattle.tpal_tool.specs.Lines.{line_of}
 use Rattle.tpal_tool.specs.Owed.{NamedRunOwes, long, Owed, RunOwes, faulty_tables, missing}
 use Rattle.tpal_tool.specs.Told.{told_source}
-use Rattle.tpal_tool.specs.Words.{Command, Options, program_name}
-use Rattle.tpal_tool.proofs.Endings.{refused-owed, too_long-owed}
+use Rattle.tpal_tool.specs.Words.{Command, Options, ExecOptions, Exec, code_name, program_name}
+use Rattle.tpal_tool.proofs.Endings.{refused-owed, too_long-owed, exec_too_long-owed}
+use Rattle.tpal_tool.proofs.Endings.{exec_refused-owed}
 
 -- what is_fault a part is_fault the whole
 pub fault_more : {R S : Refusal → Type 0} {C D : Type 0} (h : CallFault) → ((r : Refusal) → R r → S r) → (C → D) → IsFaultOf R C h → IsFaultOf S D h
@@ -47,8 +52,26 @@ pub refuses_long : (told : List ℕ → Option (List ℕ)) (command : Command) (
 refuses_long told command name named r (is, is_long) = too_long-owed told command name (status_with r) (line_of r) named is_long is.0 is.1
 
 -- a source text that is refused
-pub refuses_source : (told : List ℕ → Option (List ℕ)) (command : Command) (source : List ℕ) → IfSome (told_source told command) (λ t. t ≡ source) → length source ≤ MAX_SOURCE_BYTES → (r : Refusal) → RefusesSource source r → OwesRefusal (Owed (Some command) told) r
-refuses_source told command source is_source low r (is, only) = refused-owed told command source (status_with r) (line_of r) is_source low only is
+pub refuses_source : (told : List ℕ → Option (List ℕ)) (command : Command) (source : List ℕ) → code_name command ≡ None → IfSome (told_source told command) (λ t. t ≡ source) → length source ≤ MAX_SOURCE_BYTES → (r : Refusal) → RefusesSource source r → OwesRefusal (Owed (Some command) told) r
+refuses_source told command source none is_source low r (is, only) = refused-owed told command source (status_with r) (line_of r) none is_source low only is
+
+-- a code text that is too long, or refused
+pub refuses_long_code : (told : List ℕ → Option (List ℕ)) (name : List ℕ) (over : Option (List ℕ)) (options : ExecOptions) (r : Refusal) → RefusesLength (told name) MAX_CODE_BYTES name r → OwesRefusal (Owed (Some (Exec name over options)) told) r
+refuses_long_code told name over options r (is, is_long) = exec_too_long-owed told name over options (status_with r) (line_of r) is_long is.0 is.1
+
+pub refuses_code : (told : List ℕ → Option (List ℕ)) (name : List ℕ) (over : Option (List ℕ)) (options : ExecOptions) (source : List ℕ) → IfSome (told name) (λ t. t ≡ source) → length source ≤ MAX_CODE_BYTES → (r : Refusal) → RefusesCodeText source r → OwesRefusal (Owed (Some (Exec name over options)) told) r
+refuses_code told name over options source is_source low r (is, refuses) = exec_refused-owed told name over options source (status_with r) (line_of r) is_source low refuses is
+
+-- of a run of a code: a tables text with a fault, a missing input, a tables text that is too long
+pub refuses_exec_tables : (code : Listing) (tables : List ℕ) (options : ExecOptions) (r : Refusal) → RefusesTables tables r → OwesRefusal (ExecRunOwes code tables options) r
+refuses_exec_tables code tables options r (fault, first, is) = exec.faulty_tables fault first is.0 is.1
+
+pub refuses_exec_missing : (code : Listing) (tables : List ℕ) (options : ExecOptions) (given : List Table) → TablesOf tables given → (r : Refusal) → RefusesMissingInput code.tables given r → OwesRefusal (ExecRunOwes code tables options) r
+refuses_exec_missing code tables options given are r (name, misses, is) = exec.missing given name are misses is.0 is.1
+
+pub refuses_exec_over : (code : Listing) (told : List ℕ → Option (List ℕ)) (over : Option (List ℕ)) (options : ExecOptions) (r : Refusal) → RefusesTablesLength told over r → OwesRefusal (NamedExecOwes code told over options) r
+refuses_exec_over code told None options r never = elim never [ ]
+refuses_exec_over code told (Some name) options r (is, is_long) = exec.long refl is_long is.0 is.1
 
 -- what is written of a refusal is what is owed
 pub refusal-owed : (wanted : Option Command) (told : List ℕ → Option (List ℕ)) (r : Refusal) (status : Status) (text : List ℕ) → status ≡ status_with r → text ≡ line_of r → OwesRefusal (Owed wanted told) r → Owed wanted told status text

@@ -4,12 +4,17 @@ pub mod Appending
 pub mod ThreeTexts
 -- a text that is written piece by piece
 pub mod Pieces
+-- how a call ends that runs a code
+pub mod ExecEndings
 -- how a call ends
 pub mod Endings
 -- what a call wrote that came to its end
 pub mod Answered
 -- the promises of the top call, from how it ends
 pub mod Promised
+-- what a call wrote that runs a code, and what is promised of that
+pub mod ExecAnswered
+pub mod ExecPromised
 -- from a run that is prepared to what is owed
 pub mod Finishing
 -- why a part of a call is_fault, and why the whole does
@@ -20,10 +25,16 @@ pub mod TreeInputs
 pub mod GivenTables
 -- tables that are taken out of the given ones, one by one
 pub mod TakenTables
--- the declared tables, one by one
+-- the declared tables, and those of the program's code
 pub mod Declarations
--- a program that breaks no rule gives its inputs different names
-pub mod DistinctNames
+-- the tables of a code, one by one
+pub mod CodeDeclarations
+-- what the first task of a run of a code holds is one list
+pub mod HeldOnce
+-- why a code text is refused, and lines that end with a position
+pub mod CodeRefused
+-- from a run of a code that is prepared to what is owed
+pub mod ExecFinishing
 -- a source text comes to one thing alone
 pub mod Soles
 -- numbers that digits spell

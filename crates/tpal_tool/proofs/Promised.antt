@@ -9,15 +9,16 @@ use Rattle.table_text.specs.TablesText.{TablesOf}
 use Rattle.tpal_tool.specs.declared.status.Status.{Status}
 use Rattle.tpal_tool.specs.declared.status.Status.TheVariants.{Done, Trap, OutOfFuel, NoMemory}
 use Rattle.tpal_tool.specs.Inputs.{first_missing}
-use Rattle.tpal_tool.specs.Lines as lines
 use Rattle.tpal_tool.specs.Owed.{Ends, IsFinal, Finished, finished, read_failed, write_failed}
-use Rattle.tpal_tool.specs.Owed.{no_memory, program_failed, tables_failed}
+use Rattle.tpal_tool.specs.Owed.{no_memory, program_failed, tables_failed, code_failed}
+use Rattle.tpal_tool.specs.Owed.{code_tables_failed}
 use Rattle.tpal_tool.specs.Promises.{HasCause, RefusesRightly, RunsOrCompiles, AsksFor, AsksForRun}
 use Rattle.tpal_tool.specs.Promises.{MeetsNoFault}
 use Rattle.tpal_tool.specs.Sink.{Appended}
 use Rattle.tpal_tool.specs.Statuses.{number_of}
-use Rattle.tpal_tool.specs.Words.{Options, Command, Compile, program_name, tables_name}
-use Rattle.tpal_tool.proofs.Endings.{some_same, final-finished, not_final}
+use Rattle.tpal_tool.specs.Words.{Options, Command, Compile, file_name, tables_name}
+use Rattle.tpal_tool.proofs.Endings.{some_same, final-finished, not_final, program_first}
+use Rattle.tpal_tool.proofs.Endings.{code_first}
 use Rattle.tpal_tool.proofs.Answered.{ReadOneWay, bad_is, none_is_bad, finished-too_long}
 use Rattle.tpal_tool.proofs.Answered.{finished-refused, finished-tables_too_long, finished-run}
 use Rattle.tpal_tool.proofs.Answered.{finished-faulty, finished-missing, finished-ran}
@@ -73,11 +74,15 @@ module _ (wanted : Option Command) (told : List ℕ → Option (List ℕ)) (read
   }
 
   -- a call that meets no fault came to its end, or found no memory
-  unhurt : (command : Command) → wanted ≡ Some command → MeetsNoFault command reads reads' writes writes' → Ends wanted told reads reads' old new writes writes' status → (Finished wanted told old new status) ⊎ (status ≡ NoMemory)
+  pub unhurt : (command : Command) → wanted ≡ Some command → MeetsNoFault command reads reads' writes writes' → Ends wanted told reads reads' old new writes writes' status → (Finished wanted told old new status) ⊎ (status ≡ NoMemory)
   unhurt command asked_is meets (finished ends f) = inl f
-  unhurt command asked_is meets (read_failed is (program_failed {name = name} also named risen) silent) =
-      absurd (meets.no_read name (inl (ap program_name (some_same (sym asked_is ∙ also)) ∙ named)) risen)
+  unhurt command asked_is meets (read_failed is (program_failed {command = other} {name = name} also named risen) silent) =
+      absurd (meets.no_read name (inl (ap file_name (some_same (sym asked_is ∙ also)) ∙ program_first other name named)) risen)
   unhurt command asked_is meets (read_failed is (tables_failed {over = over} also p risen) silent) =
+      absurd (meets.no_read over (inr (ap tables_name (some_same (sym asked_is ∙ also)))) risen)
+  unhurt command asked_is meets (read_failed is (code_failed {command = other} {name = name} also named risen) silent) =
+      absurd (meets.no_read name (inl (ap file_name (some_same (sym asked_is ∙ also)) ∙ code_first other name named)) risen)
+  unhurt command asked_is meets (read_failed is (code_tables_failed {over = over} also p risen) silent) =
       absurd (meets.no_read over (inr (ap tables_name (some_same (sym asked_is ∙ also)))) risen)
   unhurt command asked_is meets (write_failed is risen cut) = absurd (meets.no_write risen)
   unhurt command asked_is meets (no_memory is cut) = inr is

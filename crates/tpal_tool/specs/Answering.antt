@@ -13,6 +13,9 @@ use Rattle.tpal_tool.specs.declared.refusal.Refusal.{Refusal}
 use Rattle.tpal_tool.specs.declared.refusal.Refusal.TheVariants as refusals
 use Rattle.tpal_tool.specs.declared.status.Status.{Status}
 use Rattle.tpal_tool.specs.declared.status.Status.TheVariants as statuses
+use Rattle.tpal_syntax.specs.declared.blocks.CodeTable.{CodeTable}
+use Rattle.tpal_tool.specs.CodeInputs.{first_missing_input}
+use Rattle.tpal_tool.specs.CodeVerdict.{RefusesCode}
 use Rattle.tpal_tool.specs.Inputs.{first_missing}
 use Rattle.tpal_tool.specs.Lines.{line_of, missing_line, tables_line, too_long_line}
 use Rattle.tpal_tool.specs.Verdict.{RefusesOnly}
@@ -30,6 +33,8 @@ status_with (refusals.Source fault) = statuses.Refused
 status_with (refusals.Rule rule place) = statuses.Refused
 status_with (refusals.Parallel rule place) = statuses.Refused
 status_with refusals.NotBuilt = statuses.Refused
+status_with (refusals.Assembly fault) = statuses.Refused
+status_with (refusals.Break name at rule) = statuses.Refused
 status_with (refusals.Blocks blocks) = statuses.Refused
 status_with (refusals.Tables fault) = statuses.Refused
 status_with (refusals.Missing name) = statuses.Refused
@@ -76,4 +81,18 @@ abbrev pub RefusesMissing : List TableDecl → List Table → Refusal → Type 0
 RefusesMissing declared given refusal =
     (name : List ℕ)
     × (first_missing declared given ≡ Some name)
+    × HasLine (missing_line name) refusal
+
+-- ---- codes
+
+-- a code text is refused so
+abbrev pub RefusesCodeText : List ℕ → Refusal → Type 0
+RefusesCodeText source refusal =
+    (status_with refusal ≡ statuses.Refused) × RefusesCode source (line_of refusal)
+
+-- the first input of a code that has no table
+abbrev pub RefusesMissingInput : List CodeTable → List Table → Refusal → Type 0
+RefusesMissingInput tables given refusal =
+    (name : List ℕ)
+    × (first_missing_input tables given ≡ Some name)
     × HasLine (missing_line name) refusal

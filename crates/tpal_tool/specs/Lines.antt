@@ -12,6 +12,7 @@ use Rattle.tpal_tool.specs.declared.refusal.Refusal.{Refusal}
 use Rattle.tpal_tool.specs.declared.refusal.Refusal.TheVariants as refusals
 use Rattle.tpal_tool.specs.declared.refusal.SourceFault.{SourceFault}
 use Rattle.tpal_tool.specs.declared.refusal.SourceFault.TheVariants as faults
+use Rattle.tpal_tool.specs.ExecLines.{assembly_line, break_line}
 
 -- a refusal with its code, at a place
 abbrev pub line_at : List ℕ → Place → List ℕ
@@ -78,6 +79,8 @@ line_of (refusals.Source fault) = fault_line (fault_of fault)
 line_of (refusals.Rule rule place) = rule_line rule place
 line_of (refusals.Parallel rule place) = parallel_line rule place
 line_of refusals.NotBuilt = not_built_line
+line_of (refusals.Assembly fault) = assembly_line fault
+line_of (refusals.Break name at rule) = break_line name.items at rule
 line_of (refusals.Blocks blocks) = blocks_line blocks
 line_of (refusals.Tables fault) = tables_line fault
 line_of (refusals.Missing name) = missing_line name.items

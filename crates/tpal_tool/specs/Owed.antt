@@ -26,10 +26,12 @@ use Rattle.tpal_tool.specs.Lines.{bad_words_line, counts_line, missing_line, tab
 use Rattle.tpal_tool.specs.Lines.{too_long_line}
 use Rattle.tpal_tool.specs.Shelf.{HasRisen}
 use Rattle.tpal_tool.specs.Sink.{Appended, PrefixAppended}
-use Rattle.tpal_tool.specs.Told.{IsProgramOf, text_over, told_source, told_tables}
+use Rattle.tpal_tool.specs.ExecOwed.{ExecOwes}
+use Rattle.tpal_tool.specs.Told.{IsCodeOf, IsProgramOf, text_over, told_code, told_source}
+use Rattle.tpal_tool.specs.Told.{told_tables}
 use Rattle.tpal_tool.specs.Verdict.{RefusesOnly, AcceptsOnly}
-use Rattle.tpal_tool.specs.Words.{Options, Command, Run, Compile, program_name, tables_name}
-use Rattle.tpal_tool.specs.Words.{run_options}
+use Rattle.tpal_tool.specs.Words.{Options, ExecOptions, Command, Run, Compile, Exec, code_name}
+use Rattle.tpal_tool.specs.Words.{file_name, program_name, tables_name, run_options}
 
 -- ---- what a program owes
 
@@ -115,6 +117,7 @@ pub data Owes (wanted : Option Command) (source tables : List ℕ) (status : Sta
       status ≡ Refused → text ≡ too_long_line name → Owes wanted source tables status text
   refused : {command : Command}
       → wanted ≡ Some command
+      → code_name command ≡ None
       → length source ≤ MAX_SOURCE_BYTES
       → RefusesOnly source text →
       status ≡ Refused → Owes wanted source tables status text
@@ -138,6 +141,10 @@ pub data Owes (wanted : Option Command) (source tables : List ℕ) (status : Sta
       → AcceptsOnly source program
       → length tables ≤ MAX_TABLES_BYTES →
       RunOwes program tables options status text → Owes wanted source tables status text
+  executed : {name : List ℕ} {over : Option (List ℕ)} {options : ExecOptions}
+      → wanted ≡ Some (Exec name over options)
+      → ExecOwes name over options source tables status text →
+      Owes wanted source tables status text
 
 -- the texts that are asked for are these, where they are told
 pub record AreTexts (wanted : Option Command) (told : List ℕ → Option (List ℕ))
@@ -145,6 +152,9 @@ pub record AreTexts (wanted : Option Command) (told : List ℕ → Option (List 
   pub is_source : (command : Command)
       → wanted ≡ Some command
       → IfSome (told_source told command) (λ text. text ≡ source)
+  pub is_code : (command : Command)
+      → wanted ≡ Some command
+      → IfSome (told_code told command) (λ text. text ≡ source)
   pub is_tables : (command : Command)
       → wanted ≡ Some command
       → IfSome (told_tables told command) (λ text. text ≡ tables)
@@ -174,12 +184,12 @@ pub record CutShort (wanted : Option Command) (told : List ℕ → Option (List 
   pub some : text ≢ []
   pub written : PrefixAppended old new text
 
--- a name that is asked for: that of the program's text, or that of the tables' text
+-- a name that is asked for: that of the program's or the code's text, or that of the tables' text
 abbrev pub Names : Command → List ℕ → Type 0
-Names command name = (program_name command ≡ Some name) ⊎ (tables_name command ≡ Some name)
+Names command name = (file_name command ≡ Some name) ⊎ (tables_name command ≡ Some name)
 
--- the count of the faults of a name rose: that of the program's text, or, where that text was
--- accepted, that of the tables' text
+-- the count of the faults of a name rose: that of the program's or the code's text, or, where that
+-- text was accepted, that of the tables' text
 pub data ReadFailed (wanted : Option Command) (told : List ℕ → Option (List ℕ))
     (old new : List ℕ → ℕ) : Type 0 where
   program_failed : {command : Command} {name : List ℕ}
@@ -190,6 +200,16 @@ pub data ReadFailed (wanted : Option Command) (told : List ℕ → Option (List 
   tables_failed : {name over : List ℕ} {options : Options} {program : Program}
       → wanted ≡ Some (Run name (Some over) options)
       → IsProgramOf (told name) program
+      → HasRisen (old over) (new over) →
+      ReadFailed wanted told old new
+  code_failed : {command : Command} {name : List ℕ}
+      → wanted ≡ Some command
+      → code_name command ≡ Some name
+      → HasRisen (old name) (new name) →
+      ReadFailed wanted told old new
+  code_tables_failed : {name over : List ℕ} {options : ExecOptions} {code : Listing}
+      → wanted ≡ Some (Exec name (Some over) options)
+      → IsCodeOf (told name) code
       → HasRisen (old over) (new over) →
       ReadFailed wanted told old new
 

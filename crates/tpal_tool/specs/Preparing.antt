@@ -1,5 +1,5 @@
 -- What a call comes to before anything runs.
-use Rattle.std.specs.Prelude.{◌≡◌, ℕ, All, true, false, List}
+use Rattle.std.specs.Prelude.{◌≡◌, ℕ, All, true, false, List, length, Some}
 use Rattle.slices.specs.Holding.{Holding}
 use Rattle.tp_value.specs.declared.values.Table.{Table}
 use Rattle.loop_syntax.specs.declared.program.Program.{Program}
@@ -13,9 +13,12 @@ use Rattle.tpal_tool.specs.declared.prepared.Prepared.{Prepared}
 use Rattle.tpal_tool.specs.declared.prepared.Prepared.TheVariants as prepared
 use Rattle.tpal_tool.specs.declared.status.Status.{Status}
 use Rattle.tpal_tool.specs.declared.status.Status.TheVariants.{Done, Trap, OutOfFuel}
-use Rattle.tpal_tool.specs.Asking.{options_seen}
+use Rattle.tpal_verify.specs.declared.report.ExecReport.{ExecReport}
+use Rattle.tpal_verify.specs.Exec.{exec}
+use Rattle.tpal_tool.specs.Asking.{exec_options_seen, options_seen}
+use Rattle.tpal_tool.specs.ExecOwed.{exec_status, exec_text}
 use Rattle.tpal_tool.specs.Owed.{Shows}
-use Rattle.tpal_tool.specs.Words.{Options}
+use Rattle.tpal_tool.specs.Words.{ExecOptions, Options}
 
 -- the text of a run
 pub data RunText (program : Program) (inputs : List Table) (options : Options) (text : List ℕ) :
@@ -47,14 +50,26 @@ pub record IsPreparedFor (Owes : Status → List ℕ → Type 0) (code : Listing
       → RunText program inputs options text
       → Owes status text
 
+-- a run of a code is about to begin; and who answers the status and the text that it comes to
+-- answers what is owed
+pub record IsPreparedExec (Owes : Status → List ℕ → Type 0) (code : Listing) (held : List Holding)
+    (options : ExecOptions) : Type 0 where
+  pub as_many : length held ≡ length code.tables
+  pub done : (report : ExecReport)
+      → exec options.steps code options.beat options.forks held options.fuel ≡ Some report
+      → Owes (exec_status report.«end») (exec_text code report.«end»)
+
 -- the text of a code is what is owed, and that of a run will be
 abbrev pub Prepares : (Status → List ℕ → Type 0) → Prepared → Type 0
 Prepares Owes (prepared.Compiled code) =
     (text : List ℕ) → CodeText text code.tables code.blocks → Owes Done text
 Prepares Owes (prepared.Run run) =
     IsPreparedFor Owes run.code run.held.items (options_seen run.options)
+Prepares Owes (prepared.Exec run) =
+    IsPreparedExec Owes run.code run.held.items (exec_options_seen run.options)
 
 -- a run has so many workers
 abbrev pub HasWorkers : ℕ → Prepared → Type 0
 HasWorkers workers (prepared.Compiled code) = Unit {0}
 HasWorkers workers (prepared.Run run) = run.options.workers ≡ workers
+HasWorkers workers (prepared.Exec run) = workers ≡ 1

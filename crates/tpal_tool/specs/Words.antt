@@ -6,8 +6,10 @@ use Rattle.std.specs.Prelude.{if◌then◌else◌, string_bytes}
 use Rattle.std.specs.Str.{all_ascii_digits}
 use Rattle.std.specs.Str.Parse.{digits_value_after}
 use Rattle.tp_value.specs.declared.limits.TheConstants.{MAX_BEAT, MAX_FORKS, MAX_FUEL, MAX_WORKERS}
+use Rattle.tpal_verify.specs.declared.report.TheConstants.{MAX_STEPS}
 use Rattle.tpal_tool.specs.declared.request.Valued.{Valued}
 use Rattle.tpal_tool.specs.declared.request.Valued.TheVariants.{Beat, Workers, Forks, Fuel}
+use Rattle.tpal_tool.specs.declared.request.Valued.TheVariants.{Steps}
 
 -- ---- what a call is asked for
 
@@ -20,35 +22,61 @@ pub record Options : Type 0 where
   pub fuel : ℕ
   pub show : Bool
 
--- a run of a program, over the tables of a text where one is named; the code of a program; or a run
--- of the sample of a seed
+-- how a run of a code goes, by one worker: its heartbeat in instructions, how often it may be
+-- diverted, its fuel in ticks, and how many instructions it may execute
+pub record ExecOptions : Type 0 where
+  pub beat : ℕ
+  pub forks : ℕ
+  pub fuel : ℕ
+  pub steps : ℕ
+
+-- a run of a program, over the tables of a text where one is named; the code of a program; a run of
+-- the sample of a seed; or a run of a code whose text is named, over tables as that of a program
 pub data Command : Type 0 where
   Run : (program : List ℕ) → (tables : Option (List ℕ)) → (options : Options) → Command
   Compile : (program : List ℕ) → Command
   Sample : (seed : ℕ) → (options : Options) → Command
+  Exec : (code : List ℕ) → (tables : Option (List ℕ)) → (options : ExecOptions) → Command
 
 -- the name of the program's text, where one is named
 abbrev pub program_name : Command → Option (List ℕ)
 program_name (Run program tables options) = Some program
 program_name (Compile program) = Some program
 program_name (Sample seed options) = None
+program_name (Exec code tables options) = None
+
+-- the name of the code's text, where one is named
+abbrev pub code_name : Command → Option (List ℕ)
+code_name (Run program tables options) = None
+code_name (Compile program) = None
+code_name (Sample seed options) = None
+code_name (Exec code tables options) = Some code
+
+-- the name of the text that is fetched first, where one is named: the program's or the code's
+abbrev pub file_name : Command → Option (List ℕ)
+file_name (Run program tables options) = Some program
+file_name (Compile program) = Some program
+file_name (Sample seed options) = None
+file_name (Exec code tables options) = Some code
 
 -- the name of the tables' text, where one is named
 abbrev pub tables_name : Command → Option (List ℕ)
 tables_name (Run program tables options) = tables
 tables_name (Compile program) = None
 tables_name (Sample seed options) = None
+tables_name (Exec code tables options) = tables
 
--- how a run goes, where one is asked for
+-- how a run of a program goes, where one is asked for
 abbrev pub run_options : Command → Option Options
 run_options (Run program tables options) = Some options
 run_options (Compile program) = None
 run_options (Sample seed options) = Some options
+run_options (Exec code tables options) = None
 
--- the name of the program's text, where words name one
-abbrev pub program_asked : Option Command → Option (List ℕ)
-program_asked None = None
-program_asked (Some command) = program_name command
+-- the name of the text that is fetched first, where words name one
+abbrev pub file_asked : Option Command → Option (List ℕ)
+file_asked None = None
+file_asked (Some command) = file_name command
 
 -- the workers that are asked for
 abbrev pub workers_asked : Option Command → ℕ
@@ -56,6 +84,7 @@ workers_asked None = 1
 workers_asked (Some (Run program tables options)) = options.workers
 workers_asked (Some (Compile program)) = 1
 workers_asked (Some (Sample seed options)) = options.workers
+workers_asked (Some (Exec code tables options)) = 1
 
 -- ---- numbers
 
@@ -81,6 +110,7 @@ least_of Beat = 1
 least_of Workers = 1
 least_of Forks = 0
 least_of Fuel = 0
+least_of Steps = 0
 
 -- the greatest value of an option
 abbrev pub most_of : Valued → ℕ
@@ -88,6 +118,7 @@ most_of Beat = MAX_BEAT
 most_of Workers = MAX_WORKERS
 most_of Forks = MAX_FORKS
 most_of Fuel = MAX_FUEL
+most_of Steps = MAX_STEPS
 
 -- the value of an option: a number in its range
 abbrev pub value_of : Valued → List ℕ → Option ℕ
@@ -122,12 +153,14 @@ kind_of word =
     else (if bytes_eq word (codes "--workers") then ValueNext Workers
     else (if bytes_eq word (codes "--forks") then ValueNext Forks
     else (if bytes_eq word (codes "--fuel") then ValueNext Fuel
+    else (if bytes_eq word (codes "--steps") then ValueNext Steps
     else (if begins_with (codes "--beat=") word then ValueIs Beat (drop 7 word)
     else (if begins_with (codes "--workers=") word then ValueIs Workers (drop 10 word)
     else (if begins_with (codes "--forks=") word then ValueIs Forks (drop 8 word)
     else (if begins_with (codes "--fuel=") word then ValueIs Fuel (drop 7 word)
+    else (if begins_with (codes "--steps=") word then ValueIs Steps (drop 8 word)
     else (if is_dashed word && not (bytes_eq word (codes "-")) then Unlisted
-    else Positional))))))))))
+    else Positional))))))))))))
 
 -- the options so far
 pub record Chosen : Type 0 where
@@ -135,6 +168,7 @@ pub record Chosen : Type 0 where
   pub workers : Option ℕ
   pub forks : Option ℕ
   pub fuel : Option ℕ
+  pub steps : Option ℕ
   pub show : Bool
 
 -- the words so far: up to two positional words, and the options
@@ -144,7 +178,15 @@ pub record Given : Type 0 where
   pub options : Chosen
 
 abbrev pub nothing_chosen : Chosen
-nothing_chosen = record { beat = None; workers = None; forks = None; fuel = None; show = false }
+nothing_chosen =
+    record {
+      beat = None;
+      workers = None;
+      forks = None;
+      fuel = None;
+      steps = None;
+      show = false;
+    }
 
 abbrev pub nothing_given : Given
 nothing_given = record { first_word = None; second_word = None; options = nothing_chosen }
@@ -166,6 +208,8 @@ with_number Forks n chosen =
     if is_some chosen.forks then None else Some (record chosen { forks = Some n })
 with_number Fuel n chosen =
     if is_some chosen.fuel then None else Some (record chosen { fuel = Some n })
+with_number Steps n chosen =
+    if is_some chosen.steps then None else Some (record chosen { steps = Some n })
 
 abbrev pub with_options : Option Chosen → Given → Option Given
 with_options None given = None
@@ -238,17 +282,28 @@ options_of chosen =
       show = chosen.show;
     }
 
--- `run` takes a program, tables or none, and options
+-- the options of a run of a code, with what is taken where one isn't given
+abbrev pub exec_options_of : Chosen → ExecOptions
+exec_options_of chosen =
+    record {
+      beat = unwrap_or chosen.beat 10000;
+      forks = unwrap_or chosen.forks 1000000;
+      fuel = unwrap_or chosen.fuel 1000000000;
+      steps = unwrap_or chosen.steps 1000000000;
+    }
+
+-- `run` takes a program, tables or none, and options but `--steps`
 abbrev pub run_of : Given → Option Command
 run_of given =
-    option_map (λ program. Run program given.second_word (options_of given.options))
-    given.first_word
+    if is_none given.options.steps then option_map
+    (λ program. Run program given.second_word (options_of given.options)) given.first_word
+    else None
 
 -- whether no option was given
 abbrev pub is_plain : Chosen → Bool
 is_plain chosen =
     is_none chosen.beat && is_none chosen.workers && is_none chosen.forks && is_none chosen.fuel
-    && not chosen.show
+    && is_none chosen.steps && not chosen.show
 
 -- `compile` takes a program alone
 abbrev pub compile_of : Given → Option Command
@@ -263,8 +318,15 @@ seed_of word = number_up_to (2 ^ 32 - 1) word
 -- `sample` takes a seed alone, and the options of a run but `--show`
 abbrev pub sample_run_of : Given → Option Command
 sample_run_of given =
-    if is_none given.second_word && not given.options.show then option_map
-    (λ seed. Sample seed (options_of given.options)) (option_and_then seed_of given.first_word)
+    if is_none given.second_word && not given.options.show && is_none given.options.steps
+    then option_map (λ seed. Sample seed (options_of given.options))
+    (option_and_then seed_of given.first_word) else None
+
+-- `exec` takes a code, tables or none, and options but `--workers` and `--show`
+abbrev pub exec_of : Given → Option Command
+exec_of given =
+    if is_none given.options.workers && not given.options.show then option_map
+    (λ code. Exec code given.second_word (exec_options_of given.options)) given.first_word
     else None
 
 -- what good words ask for: the first is the command
@@ -276,7 +338,9 @@ asked (command ∷ words) =
     (with_rest AnyWord words nothing_given) compile_of
     else (if bytes_eq command (codes "sample") then on_given
     (with_rest AnyWord words nothing_given) sample_run_of
-    else None))
+    else (if bytes_eq command (codes "exec") then on_given
+    (with_rest AnyWord words nothing_given) exec_of
+    else None)))
 
 -- what the words of a call ask for
 abbrev pub asked_by : {Z : Type 0} → List (String Z) → Option Command

@@ -12,6 +12,9 @@ use crate::shelf::{Shelf, ShelfFault};
 use std::alloc::Global;
 use tp_value::MAX_TABLES_BYTES;
 
+/// The most bytes of a code text.
+pub const MAX_CODE_BYTES: u32 = 67_108_864;
+
 /// The text of a name, of at most `limit` bytes.
 pub fn fetched<S: Shelf>(
     alloc: Global,

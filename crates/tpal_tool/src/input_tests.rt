@@ -1,38 +1,28 @@
 // What a run begins with.
 
-use crate::inputs::{have_all, hold_tables};
-use crate::judging::judge;
-use loop_check::Checked;
+use crate::code_inputs::{have_inputs, hold_inputs};
+use crate::code_judging::judge_code;
+use crate::inputs::tables_of;
 use slices::Held;
 use std::alloc::Global;
 use std::test::Fail;
-use table_text::read_tables;
 
-fn accepted(alloc: Global, source: &[u8]) -> Option<Checked> {
-    if source.len() > 1_048_576 {
-        return None;
-    }
-    judge(alloc, source).ok()
-}
-
-// What a run of a program over a tables text begins with.
+// What a run of a code over a tables text begins with.
 fn held_of(alloc: Global, source: &[u8], tables: &[u8]) -> Option<Vec<Held>> {
-    let program = accepted(alloc, source)?;
-    if tables.len() > 67_108_864 {
+    if source.len() > 1_048_576 || tables.len() > 1_048_576 {
         return None;
     }
-    let Ok(given) = read_tables(alloc, tables) else {
-        return None;
-    };
-    have_all(alloc, &program.program().tables, &given).ok()?;
-    hold_tables(alloc, &program, given).ok()
+    let code = judge_code(alloc, source).ok()?;
+    let given = tables_of(alloc, tables).ok()?;
+    have_inputs(alloc, code.code().tables(), &given).ok()?;
+    hold_inputs(alloc, code.code(), given).ok()
 }
 
 #[test]
 fn a_run_holds_its_inputs_by_name(rt: HostRuntime) -> Result<(), Fail> {
     let held = held_of(
         rt.alloc(),
-        b"table m[2][2]; input b; input a; main { }",
+        b"table t0 made\ntable t1 input b\ntable t2 input a\nmain: plain\n  halt\n",
         b"table a 2 3 1 2 3 4 5 6 table c 1 1 9 table b 1 2 -7 8",
     )
     .ok_or("tables")?;

@@ -7,15 +7,22 @@
 //!
 //! `tool` leads a call down one road, and each of its modules names only those before it: `words`,
 //! `fetching`, `parsing`, `judging`, `inputs`, `preparing`, which calls these, `running`, `texts`
-//! and `writing`. What they hand on stands in modules of types alone: `request`, `refusal`,
-//! `prepared`, `answer` and `status`.
+//! and `writing`. A run of a code goes by `code_judging`, `code_inputs` and `exec_preparing` where
+//! that of a program goes by `judging`, `inputs` and `preparing`. What they hand on stands in
+//! modules of types alone: `request`, `refusal`, `prepared`, `answer` and `status`. `laws` has what
+//! holds of all runs of a code.
 #![tactic(auto)]
 
 mod answer;
+mod code_inputs;
+mod code_judging;
+mod exec_preparing;
+mod exec_text;
 mod fetching;
 mod files;
 mod inputs;
 mod judging;
+mod laws;
 mod lines;
 mod outcome_text;
 mod parsing;
@@ -36,6 +43,7 @@ mod words;
 mod writing;
 
 pub use files::FileShelf;
+pub use laws::a_code_comes_to_one_report;
 pub use shelf::{Shelf, ShelfFault};
 pub use shelves::{MemShelf, SureShelf};
 pub use sink::{Sink, SinkFault};

@@ -1,6 +1,7 @@
 // The lines of refusals.
 
 ghost use Rattle.std.specs.Prelude.{◌≡◌, ◌≢◌, IfOk};
+ghost use Rattle.tpal_tool.specs.ExecLines.{assembly_line, break_line, line_at_line};
 ghost use Rattle.tpal_tool.specs.Lines.{bad_words_line, blocks_line, fault_line, fault_of, line_at};
 ghost use Rattle.tpal_tool.specs.Lines.{line_at_byte, line_of, missing_line, not_built_line};
 ghost use Rattle.tpal_tool.specs.Lines.{parallel_line, rule_line, tables_line, too_long_line};
@@ -9,6 +10,7 @@ use crate::refusal::{Refusal, SourceFault};
 use std::alloc::{AllocError, Global};
 use table_text::TableFault;
 use tp_value::{NoMemory, Place};
+use tpal_asm::AsmFault;
 
 fn line_at(alloc: Global, code: &str, place: Place) -> Result<Vec<u8>, AllocError>
     ensures { IfOk result (λ line. line.items ≡ line_at code.now place) }
@@ -68,6 +70,38 @@ fn tables_line(alloc: Global, fault: TableFault) -> Result<Vec<u8>, NoMemory>
     }
 }
 
+fn line_at_line(alloc: Global, code: &str, line: u32) -> Result<Vec<u8>, AllocError>
+    ensures { IfOk result (λ text. text.items ≡ line_at_line code.now line) }
+{
+    let text = format!(in alloc; "refused {code} at line {line}\n")?;
+    Ok(text.into_bytes())
+}
+
+/// The line of a refused code text.
+fn assembly_line(alloc: Global, fault: AsmFault) -> Result<Vec<u8>, NoMemory>
+    ensures { IfOk result (λ line. line.items ≡ assembly_line fault) }
+{
+    match fault {
+        AsmFault::Form(line) => Ok(line_at_line(alloc, "E9", line)?),
+        AsmFault::Label(line) => Ok(line_at_line(alloc, "E10", line)?),
+        AsmFault::Limit(line) => Ok(line_at_line(alloc, "E11", line)?),
+        AsmFault::NoMemory => Err(NoMemory),
+    }
+}
+
+/// The line of a code whose first break is of this rule, at this position of the block of that
+/// name.
+fn break_line(alloc: Global, name: &[u8], at: u32, rule: u8) -> Result<Vec<u8>, AllocError>
+    ensures { IfOk result (λ line. line.items ≡ break_line name.now at rule) }
+{
+    let front = format!(in alloc; "refused E16 V{rule} at ")?;
+    let back = format!(in alloc; ":{at}\n")?;
+    let mut line = front.into_bytes();
+    line.extend_from_slice(name)?;
+    line.extend_from_slice(back.as_bytes())?;
+    Ok(line)
+}
+
 /// The line of a file above its limit.
 fn too_long_line(alloc: Global, name: &str) -> Result<Vec<u8>, AllocError>
     ensures { IfOk result (λ line. line.items ≡ too_long_line name.now) }
@@ -120,6 +154,8 @@ pub fn refusal_line(alloc: Global, refusal: Refusal) -> Result<Vec<u8>, NoMemory
         Refusal::Parallel { rule, place } => Ok(parallel_line(alloc, rule, place)?),
         Refusal::NotBuilt => Ok(not_built_line(alloc)?),
         Refusal::Blocks(blocks) => Ok(blocks_line(alloc, blocks)?),
+        Refusal::Assembly(fault) => assembly_line(alloc, fault),
+        Refusal::Break { name, at, rule } => Ok(break_line(alloc, &name, at, rule)?),
         Refusal::Tables(fault) => tables_line(alloc, fault),
         Refusal::Missing(name) => Ok(missing_line(alloc, &name)?),
     }

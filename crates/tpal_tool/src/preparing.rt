@@ -12,11 +12,13 @@ ghost use Rattle.tpal_tool.specs.Owed.{NamedRunOwes, Owed, ReadFailed, RunOwes};
 ghost use Rattle.tpal_tool.specs.Preparing.{HasWorkers, IsPreparedFor, Prepares};
 ghost use Rattle.tpal_tool.specs.Shelf.{HasRisen};
 ghost use Rattle.tpal_tool.specs.Told.{IsProgramOf};
-ghost use Rattle.tpal_tool.specs.Words.{Command, Sample, asked_by, program_asked, program_name};
-ghost use Rattle.tpal_tool.specs.Words.{workers_asked};
+ghost use Rattle.tpal_tool.specs.Words.{Command, Sample, asked_by, file_asked, file_name};
+ghost use Rattle.tpal_tool.specs.Words.{program_name, workers_asked};
 
+use crate::code_inputs::hold_inputs;
+use crate::exec_preparing::prepare_exec;
 use crate::fetching::{fetched, fetched_tables};
-use crate::inputs::{have_all, hold_tables, tables_of};
+use crate::inputs::{have_all, tables_of};
 use crate::judging::judge;
 use crate::prepared::{Prepared, PreparedRun};
 use crate::refusal::{CallFault, Refusal};
@@ -61,8 +63,8 @@ fn prepare_run(
 {
     let given = tables_of(alloc, tables)?;
     have_all(alloc, &program.program().tables, &given)?;
-    let held = hold_tables(alloc, program, given)?;
     let code = code_of(alloc, program)?;
+    let held = hold_inputs(alloc, &code, given)?;
     Ok(PreparedRun {
         code,
         held,
@@ -141,7 +143,7 @@ fn prepare_request<S: Shelf>(
         (IsFaultOf (OwesRefusal (Owed (Some (command_of request.entry)) (S.text shelf.old)))
         (ReadFailed (Some (command_of request.entry)) (S.text shelf.old) (S.faults shelf.old)
         (S.faults shelf.new))) }
-    ensures unread { program_name (command_of request.entry) ≡ None → shelf.new ≡ shelf.old }
+    ensures unread { file_name (command_of request.entry) ≡ None → shelf.new ≡ shelf.old }
 {
     match request {
         Request::Run(run) => {
@@ -153,6 +155,7 @@ fn prepare_request<S: Shelf>(
             Ok(Prepared::Compiled(code_of(alloc, &program)?))
         }
         Request::Sample(sample) => Ok(Prepared::Run(prepare_sample_run(alloc, sample)?)),
+        Request::Exec(exec) => Ok(Prepared::Exec(prepare_exec(alloc, exec, shelf)?)),
     }
 }
 
@@ -168,7 +171,7 @@ pub fn prepare<S: Shelf>(
         (IsFaultOf (OwesRefusal (Owed (asked_by words.now) (S.text shelf.old)))
         (ReadFailed (asked_by words.now) (S.text shelf.old) (S.faults shelf.old)
         (S.faults shelf.new))) }
-    ensures unread { program_asked (asked_by words.now) ≡ None → shelf.new ≡ shelf.old }
+    ensures unread { file_asked (asked_by words.now) ≡ None → shelf.new ≡ shelf.old }
 {
     match asked(words) {
         None => Err(CallFault::Refused(Refusal::Words)),

@@ -5,6 +5,7 @@ ghost use Rattle.std.specs.Prelude.{◌≡◌};
 use std::alloc::AllocError;
 use table_text::TableFault;
 use tp_value::{NoMemory, Place};
+use tpal_asm::AsmFault;
 
 /// The first fault of a source text, with its place.
 #[derive(Clone, Copy, PartialEq, Eq, Debug)]
@@ -46,6 +47,17 @@ pub enum Refusal {
     NotBuilt,
     /// A program whose code may have so many blocks, which are too many.
     Blocks(u64),
+    /// A code text, for its first fault.
+    Assembly(AsmFault),
+    /// A code, for the first rule that it breaks.
+    Break {
+        /// The name of the block in which that is.
+        name: Vec<u8>,
+        /// The position there.
+        at: u32,
+        /// The rule's number.
+        rule: u8,
+    },
     /// A tables text, for its first fault.
     Tables(TableFault),
     /// A tables text without a table for the declared input of that name.

@@ -1,13 +1,14 @@
 // Runs that are prepared, to their end.
 
-ghost use Rattle.std.specs.Prelude.{◌≡◌, ◌≤◌, List, IfOk};
+ghost use Rattle.std.specs.Prelude.{◌≡◌, ◌≤◌, List, IfOk, Some, length};
 ghost use Rattle.loop_syntax.specs.declared.program.Program.{Program};
 ghost use Rattle.tp_value.specs.declared.values.Table.{Table};
+ghost use Rattle.tpal_verify.specs.Exec.{exec};
 ghost use Rattle.tpal_tool.specs.Asking.{options_seen};
 ghost use Rattle.tpal_tool.specs.Preparing.{IsFirstTask};
 ghost use Rattle.tpal_tool.specs.Running.{IsEndOf};
 
-use crate::prepared::PreparedRun;
+use crate::prepared::{PreparedExec, PreparedRun};
 use schedule_core::{Job, Report, solo_run};
 use std::alloc::Global;
 use std::sync::Wait;
@@ -15,6 +16,7 @@ use std::thread::Threads;
 use steal_pool::{Gate, pool_run};
 use tp_value::{Items, NoMemory};
 use tpal_syntax::Code;
+use tpal_verify::{ExecReport, SafeCode, exec_run};
 
 /// A run that came to its end.
 #[derive(Drop)]
@@ -25,6 +27,40 @@ pub struct EndedRun {
     pub report: Report,
     /// Whether the code and the counts are shown.
     pub show: bool,
+}
+
+/// A run of a code that came to an end.
+#[derive(Drop)]
+pub struct EndedExec {
+    /// The code that ran.
+    pub code: SafeCode,
+    /// How the run ended.
+    pub report: ExecReport,
+}
+
+/// Runs a code, by one worker, until its end or until it has executed all its instructions.
+pub fn run_code(alloc: Global, run: PreparedExec) -> Result<EndedExec, NoMemory>
+    requires { length run.held.items ≡ length run.code.tables }
+    ensures code { IfOk result (λ ended. ended.code ≡ run.code) }
+    ensures report { IfOk result
+        (λ ended. exec run.options.steps run.code run.options.beat run.options.forks
+        run.held.items run.options.fuel
+        ≡ Some ended.report) }
+{
+    let PreparedExec {
+        code,
+        held,
+        options,
+    } = run;
+    let job = Job {
+        tables: Items::new(held),
+        fuel: options.fuel,
+        heartbeat: options.beat,
+        workers: 1,
+        forks: options.forks,
+    };
+    let report = exec_run(alloc, &code, job, options.steps)?;
+    Ok(EndedExec { code, report })
 }
 
 /// Runs what is prepared to its end, by one worker.

@@ -5,20 +5,23 @@ ghost use Rattle.loop_meaning.specs.Answers.{status_of, text_of};
 ghost use Rattle.schedule_core.specs.Counting.{tally_of};
 ghost use Rattle.tpal_syntax.specs.Text.{CodeText};
 ghost use Rattle.tpal_tool.specs.Answering.{status_with, whole_of};
+ghost use Rattle.tpal_tool.specs.ExecOwed.{exec_status, exec_text};
 ghost use Rattle.tpal_tool.specs.Lines.{line_of};
 ghost use Rattle.tpal_tool.specs.Owed.{ShowsRun};
 
 use crate::answer::{Answer, Texts};
+use crate::exec_text::exec_text;
 use crate::lines::refusal_line;
 use crate::outcome_text::{counts_line, text_of};
 use crate::refusal::Refusal;
-use crate::running::EndedRun;
+use crate::running::{EndedExec, EndedRun};
 use crate::status::{Status, status_of};
 use schedule_core::{Report, Tally};
 use std::alloc::Global;
 use tp_value::NoMemory;
 use tpal_print::print_code;
 use tpal_syntax::Code;
+use tpal_verify::ExecEnd;
 
 fn status_with(refusal: &Refusal) -> Status
     ensures { result ≡ status_with refusal.now }
@@ -101,5 +104,28 @@ pub fn ran(alloc: Global, run: EndedRun) -> Result<Answer, NoMemory>
     let EndedRun { code, report, show } = run;
     let status = status_of(report.outcome.stop);
     let texts = texts_of(alloc, &code, report, show)?;
+    Ok(Answer { status, texts })
+}
+
+/// The status of a run of a code that ended so.
+fn exec_status(end: &ExecEnd) -> Status
+    ensures { result ≡ exec_status end.now }
+{
+    match end {
+        ExecEnd::Ended(outcome) => status_of(outcome.stop),
+        ExecEnd::Spent => Status::OutOfFuel,
+        ExecEnd::Stuck { .. } => Status::Trap,
+    }
+}
+
+/// The answer of a run of a code that came to an end.
+pub fn executed(alloc: Global, run: EndedExec) -> Result<Answer, NoMemory>
+    ensures status { IfOk result (λ answer. answer.status ≡ exec_status run.report.«end») }
+    ensures text { IfOk result
+        (λ answer. whole_of answer.texts ≡ exec_text run.code run.report.«end») }
+{
+    let EndedExec { code, report } = run;
+    let status = exec_status(&report.end);
+    let texts = Texts::One(exec_text(alloc, code.code(), report.end)?);
     Ok(Answer { status, texts })
 }

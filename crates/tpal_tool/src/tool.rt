@@ -5,18 +5,19 @@ ghost use Rattle.std.specs.Prelude.{false, true};
 ghost use Rattle.tpal_tool.specs.Answering.{IsFaultOf, OwesRefusal, whole_of};
 ghost use Rattle.tpal_tool.specs.Owed.{Ends, Finished, IsFinal, IsWritten, Owed, ReadFailed};
 ghost use Rattle.tpal_tool.specs.Promises.{HasCause, RefusesRightly, RunsOrCompiles};
-ghost use Rattle.tpal_tool.specs.Words.{Command, asked_by, program_asked, workers_asked};
+ghost use Rattle.tpal_tool.specs.ExecPromises.{ExecsRightly};
+ghost use Rattle.tpal_tool.specs.Words.{Command, asked_by, file_asked, workers_asked};
 
 use crate::answer::Answer;
 use crate::prepared::Prepared;
 use crate::preparing::prepare;
 use crate::refusal::CallFault;
 use crate::request::Request;
-use crate::running::{run_alone, run_in_pool};
+use crate::running::{run_alone, run_code, run_in_pool};
 use crate::shelf::Shelf;
 use crate::sink::{Sink, SinkFault};
 use crate::status::Status;
-use crate::texts::{compiled, ran, refused};
+use crate::texts::{compiled, executed, ran, refused};
 use crate::words::asked;
 use crate::writing::write_texts;
 use std::alloc::Global;
@@ -40,7 +41,7 @@ fn answer_alone<S: Shelf>(
         (IsFaultOf (OwesRefusal (Owed (asked_by words.now) (S.text shelf.old)))
         (ReadFailed (asked_by words.now) (S.text shelf.old) (S.faults shelf.old)
         (S.faults shelf.new))) }
-    ensures unread { program_asked (asked_by words.now) ≡ None
+    ensures unread { file_asked (asked_by words.now) ≡ None
         → shelf.new ≡ shelf.old }
 {
     match prepare(alloc, words, shelf)? {
@@ -48,6 +49,10 @@ fn answer_alone<S: Shelf>(
         Prepared::Run(prepared) => {
             let ended = run_alone(alloc, prepared)?;
             Ok(ran(alloc, ended)?)
+        }
+        Prepared::Exec(prepared) => {
+            let ended = run_code(alloc, prepared)?;
+            Ok(executed(alloc, ended)?)
         }
     }
 }
@@ -68,7 +73,7 @@ fn answer_in_pool<R: Threads + Wait + Sync, S: Shelf, G: Gate + Sync>(
         (IsFaultOf (OwesRefusal (Owed (asked_by words.now) (S.text shelf.old)))
         (ReadFailed (asked_by words.now) (S.text shelf.old) (S.faults shelf.old)
         (S.faults shelf.new))) }
-    ensures unread { program_asked (asked_by words.now) ≡ None
+    ensures unread { file_asked (asked_by words.now) ≡ None
         → shelf.new ≡ shelf.old }
 {
     match prepare(alloc, words, shelf)? {
@@ -76,6 +81,10 @@ fn answer_in_pool<R: Threads + Wait + Sync, S: Shelf, G: Gate + Sync>(
         Prepared::Run(prepared) => {
             let ended = run_in_pool(rt, alloc, prepared, gate)?;
             Ok(ran(alloc, ended)?)
+        }
+        Prepared::Exec(prepared) => {
+            let ended = run_code(alloc, prepared)?;
+            Ok(executed(alloc, ended)?)
         }
     }
 }
@@ -123,7 +132,7 @@ fn call_alone<S: Shelf, K: Sink>(
     ensures ends { Ends (asked_by words.now) (S.text shelf.old)
         (S.faults shelf.old) (S.faults shelf.new) (K.written sink.old) (K.written sink.new)
         (K.faults sink.old) (K.faults sink.new) result }
-    ensures unread { program_asked (asked_by words.now) ≡ None
+    ensures unread { file_asked (asked_by words.now) ≡ None
         → shelf.new ≡ shelf.old }
 {
     let answer = answer_alone(alloc, words, shelf);
@@ -141,7 +150,7 @@ fn call_in_pool<R: Threads + Wait + Sync + AllocGlobal, S: Shelf, K: Sink, G: Ga
     ensures ends { Ends (asked_by words.now) (S.text shelf.old)
         (S.faults shelf.old) (S.faults shelf.new) (K.written sink.old) (K.written sink.new)
         (K.faults sink.old) (K.faults sink.new) result }
-    ensures unread { program_asked (asked_by words.now) ≡ None
+    ensures unread { file_asked (asked_by words.now) ≡ None
         → shelf.new ≡ shelf.old }
 {
     let answer = answer_in_pool(rt, rt.alloc(), words, shelf, gate);
@@ -157,6 +166,7 @@ pub fn asks_for_many(words: &[String]) -> bool
         Some(Request::Run(run)) => run.options.workers > 1,
         Some(Request::Compile(_)) => false,
         Some(Request::Sample(sample)) => sample.options.workers > 1,
+        Some(Request::Exec(_)) => false,
         None => false,
     }
 }
@@ -171,7 +181,7 @@ fn call<R: Threads + Wait + Sync + AllocGlobal, S: Shelf, K: Sink, G: Gate + Syn
     ensures ends { Ends (asked_by words.now) (S.text shelf.old)
         (S.faults shelf.old) (S.faults shelf.new) (K.written sink.old) (K.written sink.new)
         (K.faults sink.old) (K.faults sink.new) result }
-    ensures unread { program_asked (asked_by words.now) ≡ None
+    ensures unread { file_asked (asked_by words.now) ≡ None
         → shelf.new ≡ shelf.old }
 {
     if asks_for_many(words) {
@@ -209,11 +219,17 @@ pub fn tpal_alone<S: Shelf, K: Sink>(
         (S.faults shelf.old) (S.faults shelf.new) (K.written sink.old) (K.written sink.new)
         (K.faults sink.old) (K.faults sink.new) result }
 
-    // Words that name no program, as those of `sample`, leave the shelf alone.
-    ensures unread { program_asked (asked_by words.now) ≡ None
+    // A code that is accepted runs over its tables text, and else is refused rightly.
+    ensures executes { ExecsRightly (asked_by words.now) (S.text shelf.old)
+        (S.faults shelf.old) (S.faults shelf.new) (K.written sink.old) (K.written sink.new)
+        (K.faults sink.old) (K.faults sink.new) result }
+
+    // Words that name no program and no code, as those of `sample`, leave the shelf alone.
+    ensures unread { file_asked (asked_by words.now) ≡ None
         → shelf.new ≡ shelf.old }
 {
     text_is_read_one_way();
+    tpal_asm::text_is_read_one_way();
     call_alone(alloc, words, shelf, sink)
 }
 
@@ -222,7 +238,9 @@ pub fn tpal_alone<S: Shelf, K: Sink>(
 /// The words are `run`, a name, and optionally a second name, with the options `--beat`, `--forks`,
 /// `--fuel` and `--workers`, each with a number in one word with `=` or in two, and `--show`, each
 /// of them once and in any order; or `sample`, a seed of at most 4,294,967,295, and these options
-/// but `--show`; or `compile` and a name. `--` ends the options. All others are bad words.
+/// but `--show`; or `compile` and a name; or `exec`, a name, and optionally a second name, with the
+/// options `--beat`, `--forks`, `--fuel` and `--steps`. `--` ends the options. All others are bad
+/// words.
 ///
 /// `run` runs the program whose text has the first name, over the tables text of the second, or
 /// over the empty one: by 1 to 16 workers, with a heartbeat of 1 to 1,000,000,000 instructions,
@@ -231,6 +249,9 @@ pub fn tpal_alone<S: Shelf, K: Sink>(
 /// With `--show` the program's code stands before its output, and a line of counts behind it.
 /// `sample` runs the program of `sample_gen` over the table of a million cells that the seed makes.
 /// `compile` writes the program's code. The texts are fetched from the shelf; `sample` needs none.
+/// `exec` runs the code whose text has the first name, where the verifier accepts it, by one worker
+/// and for at most `--steps` instructions, 1,000,000,000 where none are given, of at most
+/// 1,000,000,000,000. A run that isn't over then, and one that is stuck, writes one line alone.
 ///
 /// `ReadFault` comes only where the count of the first name's faults rose, or, where the program
 /// was accepted, that of the second name's, and nothing is written then; `WriteFault` only where
@@ -265,10 +286,16 @@ pub fn tpal<R: Threads + Wait + Sync + AllocGlobal, S: Shelf, K: Sink, G: Gate +
         (S.faults shelf.old) (S.faults shelf.new) (K.written sink.old) (K.written sink.new)
         (K.faults sink.old) (K.faults sink.new) result }
 
-    // Words that name no program, as those of `sample`, leave the shelf alone.
-    ensures unread { program_asked (asked_by words.now) ≡ None
+    // A code that is accepted runs over its tables text, and else is refused rightly.
+    ensures executes { ExecsRightly (asked_by words.now) (S.text shelf.old)
+        (S.faults shelf.old) (S.faults shelf.new) (K.written sink.old) (K.written sink.new)
+        (K.faults sink.old) (K.faults sink.new) result }
+
+    // Words that name no program and no code, as those of `sample`, leave the shelf alone.
+    ensures unread { file_asked (asked_by words.now) ≡ None
         → shelf.new ≡ shelf.old }
 {
     text_is_read_one_way();
+    tpal_asm::text_is_read_one_way();
     call(rt, words, shelf, sink, gate)
 }

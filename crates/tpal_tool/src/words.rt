@@ -2,15 +2,20 @@
 
 ghost use Rattle.std.specs.Prelude.{◌≡◌, ◌≤◌, IfSome, map, option_map, string_bytes};
 ghost use Rattle.tp_value.specs.declared.limits.TheConstants.{MAX_FUEL};
-ghost use Rattle.tpal_tool.specs.Words.{asked_by, compile_of, is_dashed, is_plain, kind_of};
+ghost use Rattle.tpal_tool.specs.Words.{asked_by, compile_of, exec_of, exec_options_of, is_dashed};
+ghost use Rattle.tpal_tool.specs.Words.{is_plain, kind_of};
 ghost use Rattle.tpal_tool.specs.Words.{least_of, most_of, number_up_to, options_of, run_of};
 ghost use Rattle.tpal_tool.specs.Words.{sample_run_of, seed_of, spelled, value_of, with_number};
 ghost use Rattle.tpal_tool.specs.Words.{with_rest, with_show, with_value, with_word, with_words};
 ghost use Rattle.tpal_tool.specs.Asking.{chosen_of, command_of, given_of, kind_seen, due_of};
-ghost use Rattle.tpal_tool.specs.Asking.{options_seen};
+ghost use Rattle.tpal_tool.specs.Asking.{exec_options_seen, options_seen};
 
-use crate::request::{Chosen, Gathered, Request, RunOptions, RunRequest, SampleRequest, Valued};
+use crate::request::{
+    Chosen, ExecOptions, ExecRequest, Gathered, Request, RunOptions, RunRequest, SampleRequest,
+    Valued,
+};
 use tp_value::{MAX_BEAT, MAX_FORKS, MAX_FUEL, MAX_WORKERS};
+use tpal_verify::MAX_STEPS;
 
 /// The heartbeat of a run that names none, in instructions.
 pub const DEFAULT_BEAT: u64 = 10_000;
@@ -23,6 +28,9 @@ pub const DEFAULT_FORKS: u64 = 1_000_000;
 
 /// The fuel of a run that names none, in ticks.
 pub const DEFAULT_FUEL: u64 = 1_000_000_000;
+
+/// The instructions that a run of a code may execute where it names no number.
+pub const DEFAULT_STEPS: u64 = 1_000_000_000;
 
 /// What a word behind the command is.
 #[derive(Clone, Copy)]
@@ -83,6 +91,7 @@ fn least_of(option: Valued) -> u64
         Valued::Workers => 1,
         Valued::Forks => 0,
         Valued::Fuel => 0,
+        Valued::Steps => 0,
     }
 }
 
@@ -95,6 +104,7 @@ fn most_of(option: Valued) -> u64
         Valued::Workers => u64::from(MAX_WORKERS),
         Valued::Forks => u64::from(MAX_FORKS),
         Valued::Fuel => MAX_FUEL,
+        Valued::Steps => MAX_STEPS,
     }
 }
 
@@ -129,6 +139,7 @@ fn kind_of(word: &str) -> WordKind<'_>
         "--workers" => return WordKind::ValueNext(Valued::Workers),
         "--forks" => return WordKind::ValueNext(Valued::Forks),
         "--fuel" => return WordKind::ValueNext(Valued::Fuel),
+        "--steps" => return WordKind::ValueNext(Valued::Steps),
         _ => {}
     }
     if let Some(value) = word.as_bytes().strip_prefix(b"--beat=") {
@@ -143,6 +154,9 @@ fn kind_of(word: &str) -> WordKind<'_>
     if let Some(value) = word.as_bytes().strip_prefix(b"--fuel=") {
         return WordKind::ValueIs(Valued::Fuel, value);
     }
+    if let Some(value) = word.as_bytes().strip_prefix(b"--steps=") {
+        return WordKind::ValueIs(Valued::Steps, value);
+    }
     if is_dashed(word.as_bytes()) && word != "-" {
         return WordKind::Unlisted;
     }
@@ -154,45 +168,25 @@ fn with_number(option: Valued, number: u64, chosen: Chosen) -> Option<Chosen>
     requires { (least_of option ≤ number) × (number ≤ most_of option) }
     ensures { option_map chosen_of result ≡ with_number option number (chosen_of chosen) }
 {
-    let Chosen {
-        beat,
-        workers,
-        forks,
-        fuel,
-        show,
-    } = chosen;
-    let number = Some(number);
-    match (option, beat, workers, forks, fuel) {
-        (Valued::Beat, None, _, _, _) => Some(Chosen {
-            beat: number,
-            workers,
-            forks,
-            fuel,
-            show,
-        }),
-        (Valued::Workers, _, None, _, _) => Some(Chosen {
-            beat,
-            workers: number,
-            forks,
-            fuel,
-            show,
-        }),
-        (Valued::Forks, _, _, None, _) => Some(Chosen {
-            beat,
-            workers,
-            forks: number,
-            fuel,
-            show,
-        }),
-        (Valued::Fuel, _, _, _, None) => Some(Chosen {
-            beat,
-            workers,
-            forks,
-            fuel: number,
-            show,
-        }),
-        _ => None,
+    let old = match option {
+        Valued::Beat => chosen.beat,
+        Valued::Workers => chosen.workers,
+        Valued::Forks => chosen.forks,
+        Valued::Fuel => chosen.fuel,
+        Valued::Steps => chosen.steps,
+    };
+    if old.is_some() {
+        return None;
     }
+    let mut chosen = chosen;
+    match option {
+        Valued::Beat => chosen.beat = Some(number),
+        Valued::Workers => chosen.workers = Some(number),
+        Valued::Forks => chosen.forks = Some(number),
+        Valued::Fuel => chosen.fuel = Some(number),
+        Valued::Steps => chosen.steps = Some(number),
+    }
+    Some(chosen)
 }
 
 /// The words so far with the value of an option.
@@ -217,6 +211,7 @@ fn with_show<'a>(given: Gathered<'a>) -> Option<Gathered<'a>>
         workers,
         forks,
         fuel,
+        steps,
         show,
     } = given.options;
     if show {
@@ -230,6 +225,7 @@ fn with_show<'a>(given: Gathered<'a>) -> Option<Gathered<'a>>
             workers,
             forks,
             fuel,
+            steps,
             show: true,
         },
     })
@@ -308,10 +304,25 @@ fn options_of(chosen: Chosen) -> RunOptions
     }
 }
 
-/// `run` takes a program, tables or none, and options.
+/// The options of a run of a code, with what is taken where one isn't given.
+fn exec_options_of(chosen: Chosen) -> ExecOptions
+    ensures { exec_options_seen result ≡ exec_options_of (chosen_of chosen) }
+{
+    ExecOptions {
+        beat: chosen.beat.unwrap_or(DEFAULT_BEAT),
+        forks: chosen.forks.unwrap_or(DEFAULT_FORKS) as u32,
+        fuel: chosen.fuel.unwrap_or(DEFAULT_FUEL),
+        steps: chosen.steps.unwrap_or(DEFAULT_STEPS),
+    }
+}
+
+/// `run` takes a program, tables or none, and options but `--steps`.
 fn run_of(given: Gathered) -> Option<Request>
     ensures { option_map command_of result ≡ run_of (given_of given.entry) }
 {
+    if given.options.steps.is_some() {
+        return None;
+    }
     Some(Request::Run(RunRequest {
         program: given.first_word?,
         tables: given.second_word,
@@ -327,6 +338,7 @@ fn is_plain(chosen: Chosen) -> bool
         && chosen.workers.is_none()
         && chosen.forks.is_none()
         && chosen.fuel.is_none()
+        && chosen.steps.is_none()
         && !chosen.show
 }
 
@@ -352,12 +364,26 @@ fn seed_of(word: &[u8]) -> Option<u32>
 fn sample_run_of(given: Gathered) -> Option<Request>
     ensures { option_map command_of result ≡ sample_run_of (given_of given.entry) }
 {
-    if given.second_word.is_some() || given.options.show {
+    if given.second_word.is_some() || given.options.show || given.options.steps.is_some() {
         return None;
     }
     let seed = seed_of(given.first_word?.as_bytes())?;
     let options = options_of(given.options);
     Some(Request::Sample(SampleRequest { seed, options }))
+}
+
+/// `exec` takes a code, tables or none, and options but `--workers` and `--show`.
+fn exec_of(given: Gathered) -> Option<Request>
+    ensures { option_map command_of result ≡ exec_of (given_of given.entry) }
+{
+    if given.options.workers.is_some() || given.options.show {
+        return None;
+    }
+    Some(Request::Exec(ExecRequest {
+        code: given.first_word?,
+        tables: given.second_word,
+        options: exec_options_of(given.options),
+    }))
 }
 
 /// What the words of a call ask for, or None where they are not of the form.
@@ -373,6 +399,7 @@ pub fn asked(words: &[String]) -> Option<Request<'_>>
             workers: None,
             forks: None,
             fuel: None,
+            steps: None,
             show: false,
         },
     };
@@ -380,6 +407,7 @@ pub fn asked(words: &[String]) -> Option<Request<'_>>
         "run" => run_of(with_rest(NextWord::Any, rest, given)?),
         "compile" => compile_of(with_rest(NextWord::Any, rest, given)?),
         "sample" => sample_run_of(with_rest(NextWord::Any, rest, given)?),
+        "exec" => exec_of(with_rest(NextWord::Any, rest, given)?),
         _ => None,
     }
 }

@@ -1,5 +1,4 @@
-use Rattle.std.proofs.Common.{◌≡◌, ℕ, ◌*◌, ◌≤◌, length, ap, subst, ◌∙◌, arith}
-use Rattle.loop_syntax.specs.declared.program.Program.{Program}
+use Rattle.std.proofs.Common.{ap, ◌∙◌, arith}
 use Rattle.scene_laws.specs.Count.{blocks_of_program}
 use Rattle.scene_laws.proofs.Counts.FewBlocks.{few_blocks_of}
 use Rattle.tpal_tool.proofs.judging.judge.Goals as goal

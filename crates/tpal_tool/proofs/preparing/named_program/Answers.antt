@@ -5,7 +5,7 @@ use Rattle.tpal_tool.specs.Answering.{IsFaultOf, OwesRefusal}
 use Rattle.tpal_tool.specs.Owed.{Owed}
 use Rattle.tpal_tool.specs.Shelf.{HasRisen}
 use Rattle.tpal_tool.specs.Told.{told_source}
-use Rattle.tpal_tool.proofs.Endings.{ok_map, told_named, turned}
+use Rattle.tpal_tool.proofs.Endings.{ok_map, no_code_named, told_named, turned}
 use Rattle.tpal_tool.proofs.CallFaults.{err_map, fault_more, refuses_long, refuses_source}
 use Rattle.tpal_tool.proofs.preparing.named_program.Goals as goal
 
@@ -34,4 +34,4 @@ returns-clause-fault g c command named =
     let here : IfSome (told_source told command) (λ t. t ≡ source) =
     subst (λ (o : Option (List ℕ)). IfSome o (λ t. t ≡ source)) (sym (told_named told command name named)) (turned (told name) source is_source) in
     let low : length source ≤ MAX_SOURCE_BYTES = subst (λ (s : List ℕ). length s ≤ MAX_SOURCE_BYTES) (sym c.deref.ensures.value) c.in_ok-source.ensures.within in
-    err_map c.judge.result (λ h. fault_more h (refuses_source told command source here low) (λ never. absurd never)) c.judge.ensures.fault
+    err_map c.judge.result (λ h. fault_more h (refuses_source told command source (no_code_named command name named) here low) (λ never. absurd never)) c.judge.ensures.fault

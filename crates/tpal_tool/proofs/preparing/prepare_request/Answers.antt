@@ -3,18 +3,19 @@ use Rattle.std.specs.Prelude.{Option, Some, IsSomeAnd, option_map}
 use Rattle.loop_syntax.specs.declared.program.Program.{Program}
 use Rattle.tpal_syntax.specs.Listing.{Listing}
 use Rattle.tpal_syntax.specs.Text.{CodeText}
+use Rattle.tpal_tool.specs.declared.prepared.PreparedExec.{PreparedExec}
 use Rattle.tpal_tool.specs.declared.prepared.PreparedRun.{PreparedRun}
 use Rattle.tpal_tool.specs.declared.refusal.CallFault.{CallFault}
 use Rattle.tpal_tool.specs.declared.request.Request.{Request}
 use Rattle.tpal_tool.specs.declared.status.Status.TheVariants.{Done}
 use Rattle.tpal_tool.specs.Answering.{IsFaultOf, OwesRefusal, status_with}
-use Rattle.tpal_tool.specs.Asking.{command_of, options_seen}
+use Rattle.tpal_tool.specs.Asking.{command_of, exec_options_seen, options_seen}
 use Rattle.tpal_tool.specs.Lines.{line_of}
 use Rattle.tpal_tool.specs.Owed.{NamedRunOwes, Owed, ReadFailed, program_failed}
 use Rattle.tpal_tool.specs.Shelf.{HasRisen}
 use Rattle.tpal_tool.specs.Told.{IsProgramOf}
 use Rattle.tpal_tool.specs.Words.{Compile, Options, Run}
-use Rattle.tpal_tool.specs.Preparing.{IsPreparedFor}
+use Rattle.tpal_tool.specs.Preparing.{IsPreparedExec, IsPreparedFor}
 use Rattle.tpal_tool.proofs.Endings.{compiled-owed, later-failed, run-owed, tables-failed}
 use Rattle.tpal_tool.proofs.Finishing.{prepared_more}
 use Rattle.tpal_tool.proofs.CallFaults.{fault_more}
@@ -110,3 +111,20 @@ returns-in_ok-prepare_sample_run-in-Sample-clause-prepared g c =
     let run : PreparedRun = c.in_ok-prepare_sample_run-in-Sample.field-0 in
     subst (λ (r : Request). IsPreparedFor (Owed (Some (command_of r)) told) run.code run.held.items (options_seen run.options)) (sym c.in-Sample.is)
     (c.in_ok-prepare_sample_run-in-Sample.ensures.prepared told)
+
+pub returns-in_err-prepare_exec-in-Exec-clause-fault : goal.returns-in_err-prepare_exec-in-Exec-clause-fault
+returns-in_err-prepare_exec-in-Exec-clause-fault g c =
+    let told : List ℕ → Option (List ℕ) = g.S.Shelf.text c.args.shelf.now in
+    let old : List ℕ → ℕ = g.S.Shelf.faults c.args.shelf.now in
+    let new : List ℕ → ℕ = g.S.Shelf.faults c.prepare_exec.new.shelf in
+    let e : CallFault = c.in_err-prepare_exec-in-Exec.field-0.0 in
+    let is_fault : IsFaultOf (OwesRefusal (Owed (Some (command_of c.args.request)) told)) (ReadFailed (Some (command_of c.args.request)) told old new) e =
+    subst (λ (r : Request). IsFaultOf (OwesRefusal (Owed (Some (command_of r)) told)) (ReadFailed (Some (command_of r)) told old new) e) (sym c.in-Exec.is) c.in_err-prepare_exec-in-Exec.ensures.fault in
+    search rules
+
+pub returns-in_ok-prepare_exec-in-Exec-clause-prepared : goal.returns-in_ok-prepare_exec-in-Exec-clause-prepared
+returns-in_ok-prepare_exec-in-Exec-clause-prepared g c =
+    let told : List ℕ → Option (List ℕ) = g.S.Shelf.text c.args.shelf.now in
+    let run : PreparedExec = c.in_ok-prepare_exec-in-Exec.field-0 in
+    subst (λ (r : Request). IsPreparedExec (Owed (Some (command_of r)) told) run.code run.held.items (exec_options_seen run.options)) (sym c.in-Exec.is)
+    c.in_ok-prepare_exec-in-Exec.ensures.prepared

@@ -6,7 +6,7 @@ use Rattle.tpal_tool.specs.Answering.{IsFaultOf, OwesRefusal, RefusesMissing}
 use Rattle.tpal_tool.specs.Asking.{options_seen}
 use Rattle.tpal_tool.specs.Inputs.{first_missing}
 use Rattle.tpal_tool.specs.Owed.{RunOwes}
-use Rattle.tpal_tool.proofs.Declarations.{are_named}
+use Rattle.tpal_tool.proofs.Declarations.{are_named, as_declared, missing_input}
 use Rattle.tpal_tool.proofs.Finishing.{run_owes}
 use Rattle.tpal_tool.proofs.CallFaults.{fault_more, refuses_missing, refuses_tables}
 use Rattle.tpal_tool.proofs.preparing.prepare_run.Goals as goal
@@ -27,6 +27,11 @@ returns-in_err-have_all-clause-fault c =
     fault_more c.in_err-have_all.field-0.0 (refuses_missing c.args.program.now c.args.tables.now (options_seen c.args.options) c.in_ok-given.given.items c.in_ok-given.ensures.are) (λ never. never) lacks in
     search rules
 
+pub hold_inputs-requires-clause-complete : goal.hold_inputs-requires-clause-complete
+hold_inputs-requires-clause-complete c =
+    let complete : first_missing c.args.program.now.tables.items c.in_ok-given.given.items ≡ None = search rules in
+    missing_input c.args.program.now.tables.items c.in_ok-code.code.tables c.in_ok-given.given.items c.in_ok-code.ensures.declared ∙ complete
+
 pub returns-clause-prepared : goal.returns-clause-prepared
 returns-clause-prepared c =
     let given : List Table = c.in_ok-given.given.items in
@@ -38,7 +43,7 @@ returns-clause-prepared c =
         owes = c.in_ok-code.ensures;
         tables = c.in_ok-given.ensures.tables;
         named = are_named c.args.program.now.tables.items given complete;
-        are_held = c.in_ok-held.ensures;
+        are_held = as_declared c.args.program.now.tables.items c.in_ok-code.code.tables given c.in_ok-held.held.items c.in_ok-code.ensures.declared c.in_ok-held.ensures;
       };
       done = run_owes c.args.program.now c.args.tables.now (options_seen c.args.options) given c.in_ok-given.ensures.are complete;
     }

@@ -1,4 +1,4 @@
-use Rattle.std.proofs.Common.{◌≡◌, ◌≤◌, rules, ℕ, List, length, sym, subst, ◌∙◌}
+use Rattle.std.proofs.Common.{◌≡◌, ◌≤◌, rules, ℕ, List, length, refl, sym, subst, ◌∙◌}
 use Rattle.std.specs.Prelude.{Some}
 use Rattle.tp_value.specs.declared.limits.TheConstants.{MAX_SOURCE_BYTES, MAX_TABLES_BYTES}
 use Rattle.sample_gen.specs.Texts.{sample_source, sample_tables}
@@ -19,7 +19,7 @@ returns-in_err-program-clause-fault c = λ told.
     let is_source : sample_source ≡ source = sym (c.deref.ensures.value ∙ c.in_ok-sample.ensures.source) in
     let low : length source ≤ MAX_SOURCE_BYTES = subst (λ (s : List ℕ). length s ≤ MAX_SOURCE_BYTES) (sym c.deref.ensures.value) c.in_ok-sample.ensures.source_fits in
     let is_fault : IsFaultOf (OwesRefusal (Owed (Some (Sample c.args.request.seed options)) told)) ⊥ c.in_err-program.field-0.0 =
-    fault_more c.in_err-program.field-0.0 (refuses_source told (Sample c.args.request.seed options) source is_source low) (λ never. never) c.in_err-program.ensures.fault in
+    fault_more c.in_err-program.field-0.0 (refuses_source told (Sample c.args.request.seed options) source refl is_source low) (λ never. never) c.in_err-program.ensures.fault in
     search rules
 
 pub returns-clause-prepared : goal.returns-clause-prepared

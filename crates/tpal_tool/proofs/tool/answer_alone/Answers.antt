@@ -4,10 +4,11 @@ use Rattle.tpal_tool.specs.declared.prepared.Prepared.{Prepared}
 use Rattle.tpal_tool.specs.declared.prepared.Prepared.TheVariants.{Compiled}
 use Rattle.tpal_tool.specs.declared.status.Status.{Status}
 use Rattle.tpal_tool.specs.Answering.{whole_of}
-use Rattle.tpal_tool.specs.Asking.{options_seen}
+use Rattle.tpal_tool.specs.Asking.{exec_options_seen, options_seen}
 use Rattle.tpal_tool.specs.Owed.{Owed}
-use Rattle.tpal_tool.specs.Preparing.{HasWorkers, IsPreparedFor, Prepares}
+use Rattle.tpal_tool.specs.Preparing.{HasWorkers, IsPreparedExec, IsPreparedFor, Prepares}
 use Rattle.tpal_tool.specs.Words.{asked_by, workers_asked}
+use Rattle.tpal_tool.proofs.ExecFinishing.{executed-owed}
 use Rattle.tpal_tool.proofs.Finishing.{ended-owed}
 use Rattle.tpal_tool.proofs.tool.answer_alone.Goals as goal
 
@@ -36,3 +37,17 @@ returns-in_ok-ran-in-Run-clause-answer g c =
     ended-owed c.in-Run.prepared.code c.in-Run.prepared.held.items (options_seen c.in-Run.prepared.options) prepared c.in_ok-ended-in-Run.ended
     (c.in_ok-ended-in-Run.ensures prepared.program prepared.inputs prepared.first) c.in_ok-ran-in-Run.field-0
     c.in_ok-ran-in-Run.ensures.status c.in_ok-ran-in-Run.ensures.plain c.in_ok-ran-in-Run.ensures.shown
+
+pub run_code-requires : goal.run_code-requires
+run_code-requires g c =
+    let prepared : IsPreparedExec (Owed (asked_by c.args.words.now) (g.S.Shelf.text c.args.shelf.now)) c.in-Exec.prepared.code c.in-Exec.prepared.held.items (exec_options_seen c.in-Exec.prepared.options) =
+    subst (λ (p : Prepared). Prepares (Owed (asked_by c.args.words.now) (g.S.Shelf.text c.args.shelf.now)) p) c.in-Exec.is c.in_ok-code.ensures.prepared in
+    prepared.as_many
+
+pub returns-in_ok-executed-in-Exec-clause-answer : goal.returns-in_ok-executed-in-Exec-clause-answer
+returns-in_ok-executed-in-Exec-clause-answer g c =
+    let prepared : IsPreparedExec (Owed (asked_by c.args.words.now) (g.S.Shelf.text c.args.shelf.now)) c.in-Exec.prepared.code c.in-Exec.prepared.held.items (exec_options_seen c.in-Exec.prepared.options) =
+    subst (λ (p : Prepared). Prepares (Owed (asked_by c.args.words.now) (g.S.Shelf.text c.args.shelf.now)) p) c.in-Exec.is c.in_ok-code.ensures.prepared in
+    executed-owed c.in-Exec.prepared.code c.in-Exec.prepared.held.items (exec_options_seen c.in-Exec.prepared.options) prepared c.in_ok-ended-in-Exec.ended
+    c.in_ok-ended-in-Exec.ensures.code c.in_ok-ended-in-Exec.ensures.report c.in_ok-executed-in-Exec.field-0
+    c.in_ok-executed-in-Exec.ensures.status c.in_ok-executed-in-Exec.ensures.text

@@ -1,5 +1,7 @@
 use Rattle.tpal_tool.proofs.Answered.{ReadOneWay}
 use Rattle.tpal_tool.proofs.Endings.{final-finished}
+use Rattle.tpal_tool.proofs.ExecAnswered.{CodeReadOneWay}
+use Rattle.tpal_tool.proofs.ExecPromised.{execs-rightly}
 use Rattle.tpal_tool.proofs.Promised.{has-cause, refuses-rightly, runs-or-compiles}
 use Rattle.tpal_tool.proofs.tool.tpal_alone.Goals as goal
 
@@ -18,3 +20,9 @@ pub returns-clause-runs : goal.returns-clause-runs
 returns-clause-runs g c =
     let way : ReadOneWay = record { one_list = c.text_is_read_one_way.ensures.one_list; one_fault = c.text_is_read_one_way.ensures.one_fault; not_both = c.text_is_read_one_way.ensures.not_both } in
     runs-or-compiles _ _ _ _ _ _ _ _ _ way c.call_alone.ensures.ends
+
+pub returns-clause-executes : goal.returns-clause-executes
+returns-clause-executes g c =
+    let read : ReadOneWay = record { one_list = c.text_is_read_one_way.ensures.one_list; one_fault = c.text_is_read_one_way.ensures.one_fault; not_both = c.text_is_read_one_way.ensures.not_both } in
+    let way : CodeReadOneWay = record { one_code = c.text_is_read_one_way-2.ensures.one_code; one_fault = c.text_is_read_one_way-2.ensures.one_fault; not_both = c.text_is_read_one_way-2.ensures.not_both } in
+    execs-rightly _ _ _ _ _ _ _ _ _ read way c.call_alone.ensures.ends

@@ -8,7 +8,7 @@ use Rattle.scene_laws.specs.Tables.{IsTable, IsWholeOf}
 use Rattle.block_lower.proofs.HeldTables.{whole_of}
 use Rattle.tpal_tool.proofs.TakenTables.{has_name, place, place_found, place_has, place_taken}
 use Rattle.tpal_tool.proofs.TakenTables.{table_of_all}
-use Rattle.tpal_tool.proofs.inputs.take_input.Goals as goal
+use Rattle.tpal_tool.proofs.code_inputs.take_input.Goals as goal
 
 no_place : (k : ℕ) → None ≡ Some k → ⊥
 no_place k is = cc
