@@ -52,6 +52,7 @@ mkdir folder
 ends 'a folder as program' 5 '' run folder
 ends 'a folder as tables' 5 '' run first folder
 ends 'a folder to compile' 5 '' compile folder
+ends 'a folder as code' 5 '' exec folder
 ends 'a file below a file' 5 '' run five/five
 ends 'the empty name' 5 '' run ''
 ends 'a name of 5,000 bytes' 5 '' run "$(repeat x 5000)"
@@ -92,6 +93,7 @@ wait
 ends 'tables without an end' 3 'refused E15 file pipe\n' run first pipe
 wait
 ends 'a device without an end' 3 'refused E15 file /dev/zero\n' run /dev/zero
+ends 'the same as a code text' 3 'refused E15 file /dev/zero\n' exec /dev/zero
 ends 'an empty device' 3 'refused E3 at 1:1\n' run /dev/null
 
 # --- names that are no text ---
@@ -166,6 +168,11 @@ printf ' ' >>over_tables
 ends 'tables of 67,108,864 bytes' 0 '7\n' run first full_tables
 ends 'tables of 67,108,865 bytes' 3 'refused E15 file over_tables\n' run first over_tables
 rm -f full_tables over_tables
+truncate -s 67108864 full_code
+ends 'a code text of 67,108,864 bytes' 3 'refused E9 at line 1\n' exec full_code
+truncate -s 67108865 over_code
+ends 'a code text of 67,108,865 bytes' 3 'refused E15 file over_code\n' exec over_code
+rm -f full_code over_code
 
 # --- no thread can be made ---
 printf 'main { let s = 0; par i in 0..100 reduce s by add { fold s with i; } print s; }' >sum
