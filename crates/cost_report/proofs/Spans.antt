@@ -1,12 +1,11 @@
 -- The span is at most the ticks that a run adds.
 use Rattle.std.proofs.Common.{◌≡◌, ◌<◌, ◌≤◌, ◌+◌, ◌-◌, ◌*◌, ℕ, zero, suc, ℤ, pos, negsuc, ◌+ℤ◌, max}
 use Rattle.std.proofs.Common.{List, [], ◌∷◌, Option, Some, None, Bool, true, false, nat_lt, length}
-use Rattle.std.proofs.Common.{refl, sym, ◌∙◌, arith, if◌then◌else◌, zero-le, unsigned_abs}
+use Rattle.std.proofs.Common.{refl, sym, ◌∙◌, arith, zero-le, unsigned_abs}
 use Rattle.std.specs.Int.{int_gap}
 use Rattle.std.proofs.lemmas.Bool.{ltb-true}
 use Rattle.tp_value.specs.declared.limits.TheConstants.{MAX_CALL_DEPTH}
 use Rattle.tp_value.specs.declared.Place.{Place}
-use Rattle.tp_value.specs.declared.TrapKind.{TrapKind}
 use Rattle.tp_value.specs.declared.TrapKind.TheVariants.{Deep, Wide, Size}
 use Rattle.tp_value.specs.declared.Stop.{Stop}
 use Rattle.tp_value.specs.declared.Stop.TheVariants.{Done, Left, Trap, NoFuel}
@@ -25,8 +24,8 @@ use Rattle.loop_syntax.specs.declared.Program.{Program}
 use Rattle.loop_rules.specs.Names.{func_of}
 use Rattle.loop_meaning.specs.declared.value.Answer.{Answer}
 use Rattle.loop_meaning.specs.declared.value.Answer.TheVariants.{Number, Traps}
-use Rattle.loop_meaning.specs.State.{table_of, has_cell, assign, declare, State, Note, Writes, Emits}
-use Rattle.loop_meaning.specs.State.{Chance, Ran, write_cell, done, out_of_fuel, trapped, noted}
+use Rattle.loop_meaning.specs.State.{table_of, has_cell, declare, State, Note}
+use Rattle.loop_meaning.specs.State.{Chance, Ran, done, noted}
 use Rattle.loop_meaning.specs.State.{go_on, after, tick, leave_block}
 use Rattle.loop_meaning.specs.Expressions.{eval}
 use Rattle.loop_meaning.specs.Leaving.{left_in, caught_by, caught}
@@ -34,7 +33,7 @@ use Rattle.loop_meaning.specs.Statements.{given_answer, given, given_all, choose
 use Rattle.loop_meaning.specs.Statements.{iteration, iterate, too_wide, unless_wide, put_cell}
 use Rattle.loop_meaning.specs.Statements.{Called, Setting, run_call, run_both, run}
 use Rattle.loop_meaning.specs.Statements.{run_all, run_list}
-use Rattle.loop_meaning.specs.Calls.{bound, returned, enter, no_value, call_on, call_at, setting}
+use Rattle.loop_meaning.specs.Calls.{bound, enter, call_on, call_at, setting}
 use Rattle.loop_meaning.specs.Meaning.{is_too_large, unless_large, zero_table, add_table}
 use Rattle.loop_meaning.specs.Meaning.{make_tables, input_cells, first_state, whole_run, meaning}
 use Rattle.cost_report.specs.Span.{with_answer, given_span, given_all_span, with_stop, then_span}

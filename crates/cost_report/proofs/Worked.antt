@@ -1,6 +1,6 @@
 -- Worked programs: how each ends, its work and its span, computed from the definitions.
-use Rattle.std.proofs.Common.{◌≡◌, ℕ, ◌<◌, ◌^◌, ℤ, pos, negsuc, Vec, Box, List, [], ◌∷◌, refl}
-use Rattle.std.proofs.Common.{length, arith, lit<, ◌×◌}
+use Rattle.std.proofs.Common.{◌≡◌, ℕ, ◌<◌, ◌^◌, ℤ, pos, Vec, Box, List, [], ◌∷◌, refl}
+use Rattle.std.proofs.Common.{length, arith, lit<}
 use Rattle.std.specs.Int.{int_wrap}
 use Rattle.std.specs.Fmt.{digits}
 use Rattle.std.specs.declared.alloc.Global.{Global}
@@ -8,22 +8,19 @@ use denote.RawPtr.{Ptr, null_ptr}
 use Rattle.tp_value.specs.declared.Place.{Place}
 use Rattle.tp_value.specs.declared.Table.{Table}
 use Rattle.tp_value.specs.declared.Stop.{Stop}
-use Rattle.tp_value.specs.declared.Stop.TheVariants.{Done, Trap, NoFuel}
-use Rattle.tp_value.specs.declared.TrapKind.TheVariants.{Divide}
+use Rattle.tp_value.specs.declared.Stop.TheVariants.{Done, NoFuel}
 use Rattle.tp_value.specs.declared.Op.TheVariants.{Add}
 use Rattle.loop_syntax.specs.declared.Name.{Name}
 use Rattle.loop_syntax.specs.declared.BinOp.{BinOp}
 use Rattle.loop_syntax.specs.declared.BinOp.TheVariants as op
 use Rattle.loop_syntax.specs.declared.Expr.{Expr}
 use Rattle.loop_syntax.specs.declared.Expr.TheVariants.{Int, Var, Cell, Rows, Bin}
-use Rattle.loop_syntax.specs.declared.App.{App}
 use Rattle.loop_syntax.specs.declared.Stmt.{Stmt}
 use Rattle.loop_syntax.specs.declared.Stmt.TheBlock.{hidden-the_row-Stmt-0, shape-the_row-Stmt-0}
 use Rattle.loop_syntax.specs.declared.Stmt.TheVariants.{Let, Set, Put, If, While, Loop, Par, Fold}
-use Rattle.loop_syntax.specs.declared.Stmt.TheVariants.{Call, Both, Print, Leave}
+use Rattle.loop_syntax.specs.declared.Stmt.TheVariants.{Call, Both, Leave}
 use Rattle.loop_syntax.specs.declared.Func.{Func}
 use Rattle.loop_syntax.specs.declared.Reduce.{Reduce}
-use Rattle.loop_syntax.specs.declared.TableDecl.{TableDecl}
 use Rattle.loop_syntax.specs.declared.TableDecl.TheVariants.{Input, Made}
 use Rattle.loop_syntax.specs.declared.Program.{Program}
 use Rattle.loop_meaning.specs.Statements.{iterate, turns}
@@ -91,65 +88,65 @@ module _ (g : Global) (q : Ptr) where
 
   -- the sum of a table's rows: its iterations run at once
   total : Program
-  unfolding vec at nm box int var bin cell none one two par sums main 
+  unfolding vec at nm box int var bin cell none one two par sums main
   total = record { tables = vec (Input (nm 97) ∷ []) (lit< tt); funcs = none; main = two (Let (nm 115) (int (pos 0))) (par 105 (int (pos 0)) (Rows (nm 97)) (sums 115) (one (Fold (nm 115) (cell 97 (var 105) (int (pos 0)))))) }
 
   total_costs : costs total (record { name = 97 ∷ []; rows = 4; cols = 1; cells = pos 1 ∷ pos 2 ∷ pos 3 ∷ pos 4 ∷ [] } ∷ []) 100 ≡ (Done, 4, 1)
-  unfolding vec at nm box int var bin cell none one two par sums main  total meaning whole_run whole_span iterate turns call_at iterate_span turns_span call_span hidden-the_row-Stmt-0 shape-the_row-Stmt-0 denote.Hole.Carrier.hidden int_wrap digits
+  unfolding vec at nm box int var bin cell none one two par sums main total meaning whole_run whole_span iterate turns call_at iterate_span turns_span call_span hidden-the_row-Stmt-0 shape-the_row-Stmt-0 denote.Hole.Carrier.hidden int_wrap digits
   total_costs = refl
 
   -- a `par` in a `par`: the greatest of the outer iterations
   nested : Program
-  unfolding vec at nm box int var bin cell none one two par sums main 
+  unfolding vec at nm box int var bin cell none one two par sums main
   nested = record { tables = vec (Made (nm 116) (int (pos 3)) (int (pos 3)) ∷ []) (lit< tt); funcs = none; main = one (par 105 (int (pos 0)) (int (pos 3)) none (one (par 106 (int (pos 0)) (int (pos 3)) none (one (Put (nm 116) (var 105) (var 106) (var 106)))))) }
 
   nested_costs : costs nested [] 100 ≡ (Done, 12, 2)
-  unfolding vec at nm box int var bin cell none one two par sums main  nested meaning whole_run whole_span iterate turns call_at iterate_span turns_span call_span hidden-the_row-Stmt-0 shape-the_row-Stmt-0 denote.Hole.Carrier.hidden int_wrap digits
+  unfolding vec at nm box int var bin cell none one two par sums main nested meaning whole_run whole_span iterate turns call_at iterate_span turns_span call_span hidden-the_row-Stmt-0 shape-the_row-Stmt-0 denote.Hole.Carrier.hidden int_wrap digits
   nested_costs = refl
 
   nested_spent : costs nested [] 11 ≡ (NoFuel, 12, 2)
-  unfolding vec at nm box int var bin cell none one two par sums main  nested meaning whole_run whole_span iterate turns call_at iterate_span turns_span call_span hidden-the_row-Stmt-0 shape-the_row-Stmt-0 denote.Hole.Carrier.hidden int_wrap digits
+  unfolding vec at nm box int var bin cell none one two par sums main nested meaning whole_run whole_span iterate turns call_at iterate_span turns_span call_span hidden-the_row-Stmt-0 shape-the_row-Stmt-0 denote.Hole.Carrier.hidden int_wrap digits
   nested_spent = refl
 
   -- iterations of unequal length: a loop in a `par`, of which the first is the longest
   unequal : Program
-  unfolding vec at nm box int var bin cell none one two par sums main 
+  unfolding vec at nm box int var bin cell none one two par sums main
   unequal = main (one (par 105 (int (pos 0)) (int (pos 3)) none (one (Loop (nm 106) (bin op.Mul (var 105) (var 105)) (int (pos 3)) none))))
 
   unequal_costs : costs unequal [] 100 ≡ (Done, 8, 4)
-  unfolding vec at nm box int var bin cell none one two par sums main  unequal meaning whole_run whole_span iterate turns call_at iterate_span turns_span call_span hidden-the_row-Stmt-0 shape-the_row-Stmt-0 denote.Hole.Carrier.hidden int_wrap digits
+  unfolding vec at nm box int var bin cell none one two par sums main unequal meaning whole_run whole_span iterate turns call_at iterate_span turns_span call_span hidden-the_row-Stmt-0 shape-the_row-Stmt-0 denote.Hole.Carrier.hidden int_wrap digits
   unequal_costs = refl
 
   -- a `par` in a loop: each turn adds its own, and a `par` without iterations adds nothing
   in_turn : Program
-  unfolding vec at nm box int var bin cell none one two par sums main 
+  unfolding vec at nm box int var bin cell none one two par sums main
   in_turn = main (two (Loop (nm 106) (int (pos 0)) (int (pos 3)) (one (par 105 (int (pos 0)) (var 106) none none))) (While (int (pos 0)) none))
 
   in_turn_costs : costs in_turn [] 100 ≡ (Done, 6, 5)
-  unfolding vec at nm box int var bin cell none one two par sums main  in_turn meaning whole_run whole_span iterate turns call_at iterate_span turns_span call_span hidden-the_row-Stmt-0 shape-the_row-Stmt-0 denote.Hole.Carrier.hidden int_wrap digits
+  unfolding vec at nm box int var bin cell none one two par sums main in_turn meaning whole_run whole_span iterate turns call_at iterate_span turns_span call_span hidden-the_row-Stmt-0 shape-the_row-Stmt-0 denote.Hole.Carrier.hidden int_wrap digits
   in_turn_costs = refl
 
   -- the second iteration leaves: it has the span of what it ran, and no further one is begun
   found : Program
-  unfolding vec at nm box int var bin cell none one two par sums main 
+  unfolding vec at nm box int var bin cell none one two par sums main
   found = main (two (Let (nm 120) (int (pos 0))) (par 105 (int (pos 0)) (int (pos 4)) none (one (Loop (nm 106) (int (pos 0)) (int (pos 3)) (one (If (bin op.Eq (var 105) (int (pos 1))) (one (Leave (nm 120) (var 105))) none))))))
 
   found_costs : costs found [] 100 ≡ (Done, 6, 4)
-  unfolding vec at nm box int var bin cell none one two par sums main  found meaning whole_run whole_span iterate turns call_at iterate_span turns_span call_span hidden-the_row-Stmt-0 shape-the_row-Stmt-0 denote.Hole.Carrier.hidden int_wrap digits
+  unfolding vec at nm box int var bin cell none one two par sums main found meaning whole_run whole_span iterate turns call_at iterate_span turns_span call_span hidden-the_row-Stmt-0 shape-the_row-Stmt-0 denote.Hole.Carrier.hidden int_wrap digits
   found_costs = refl
 
   -- the first iteration leaves, and what comes behind the `par` is run
   left_first : Program
-  unfolding vec at nm box int var bin cell none one two par sums main 
+  unfolding vec at nm box int var bin cell none one two par sums main
   left_first = main (two (Let (nm 120) (int (pos 0))) (par 105 (int (pos 0)) (int (pos 4)) none (two (Loop (nm 106) (int (pos 0)) (int (pos 2)) none) (Leave (nm 120) (var 105)))))
 
   left_first_costs : costs left_first [] 100 ≡ (Done, 3, 3)
-  unfolding vec at nm box int var bin cell none one two par sums main  left_first meaning whole_run whole_span iterate turns call_at iterate_span turns_span call_span hidden-the_row-Stmt-0 shape-the_row-Stmt-0 denote.Hole.Carrier.hidden int_wrap digits
+  unfolding vec at nm box int var bin cell none one two par sums main left_first meaning whole_run whole_span iterate turns call_at iterate_span turns_span call_span hidden-the_row-Stmt-0 shape-the_row-Stmt-0 denote.Hole.Carrier.hidden int_wrap digits
   left_first_costs = refl
 
   -- a function that takes its argument's number of turns
   long : Func
-  unfolding vec at nm box int var bin cell none one two par sums main 
+  unfolding vec at nm box int var bin cell none one two par sums main
   long = record { name = nm 102; params = vec (nm 110 ∷ []) (lit< tt); body = one (Loop (nm 106) (int (pos 0)) (var 110) none); result = (var 110) }
 
   -- two calls at once, of as many turns as these numbers
@@ -167,7 +164,7 @@ module _ (g : Global) (q : Ptr) where
 
   -- Fibonacci's numbers by two calls at once: a tick a level
   fib : Func
-  unfolding vec at nm box int var bin cell none one two par sums main 
+  unfolding vec at nm box int var bin cell none one two par sums main
   fib = record { name = nm 102; params = vec (nm 110 ∷ []) (lit< tt); body = two (Let (nm 114) (var 110)) (If (bin op.Lt (int (pos 1)) (var 110)) (vec (Let (nm 120) (int (pos 0)) ∷ Let (nm 121) (int (pos 0)) ∷ Both (nm 120) (record { callee = nm 102; args = vec (bin op.Sub (var 110) (int (pos 1)) ∷ []) (lit< tt) }) (nm 121) (record { callee = nm 102; args = vec (bin op.Sub (var 110) (int (pos 2)) ∷ []) (lit< tt) }) ∷ Set (nm 114) (bin op.Add (var 120) (var 121)) ∷ []) (lit< tt)) none); result = (var 114) }
 
   -- the number of 10

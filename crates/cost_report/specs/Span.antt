@@ -5,7 +5,6 @@ use Rattle.std.specs.Prelude.{ℕ, zero, suc, ◌+◌, ◌-◌, max, ℤ, pos, n
 use Rattle.std.specs.Prelude.{Bool, true, false, Option, Some, None}
 use Rattle.std.specs.Int.{int_gap}
 use Rattle.tp_value.specs.declared.limits.TheConstants.{MAX_CALL_DEPTH}
-use Rattle.tp_value.specs.declared.Place.{Place}
 use Rattle.tp_value.specs.declared.Stop.{Stop}
 use Rattle.tp_value.specs.declared.Stop.TheVariants.{Done, Left, Trap, NoFuel}
 use Rattle.tp_value.specs.declared.Table.{Table}
@@ -22,8 +21,7 @@ use Rattle.loop_meaning.specs.declared.value.Answer.{Answer}
 use Rattle.loop_meaning.specs.declared.value.Answer.TheVariants.{Number, Traps}
 use Rattle.loop_meaning.specs.State.{declare, State, Note, Chance, Ran, after, tick}
 use Rattle.loop_meaning.specs.Expressions.{eval}
-use Rattle.loop_meaning.specs.Statements.{block, turns, iteration, too_wide, Setting, run, run_all}
-use Rattle.loop_meaning.specs.Statements.{run_list}
+use Rattle.loop_meaning.specs.Statements.{block, iteration, too_wide, Setting, run, run_all}
 use Rattle.loop_meaning.specs.Calls.{bound, call_at, setting}
 use Rattle.loop_meaning.specs.Meaning.{make_tables, input_cells, first_state}
 
