@@ -1,6 +1,6 @@
 -- What the first task of a run of a code holds is one list, and so the run comes to one report.
-use Rattle.std.proofs.Common.{◌≡◌, ℤ, Bool, true, false, List, [], ◌∷◌, Some, refl, sym, ap}
-use Rattle.std.proofs.Common.{◌∙◌, unwrap_or}
+use Rattle.std.proofs.Common.{◌≡◌, ℤ, Bool, true, false, List, [], ◌∷◌, refl, sym, ap}
+use Rattle.std.proofs.Common.{◌∙◌}
 use Rattle.slices.specs.Holding.{Holding, cell_at}
 use Rattle.slices.proofs.Maps.{same_cells}
 use Rattle.tp_value.specs.declared.values.Table.{Table}
@@ -13,6 +13,7 @@ use Rattle.tpal_verify.specs.Exec.{exec}
 use Rattle.tpal_tool.specs.CodeInputs.{AreCodeHeld, IsInputOf, IsUnmade}
 use Rattle.tpal_tool.specs.ExecOwed.{ComesTo}
 use Rattle.tpal_tool.specs.Words.{ExecOptions}
+use Rattle.tpal_tool.proofs.Endings.{some_same}
 
 -- one table is held whole in one way
 input_once : (g h : Holding) (t : Table) → IsInputOf g t → IsInputOf h t → g ≡ h
@@ -40,12 +41,8 @@ held_once (Input name ∷ ts) given (g ∷ gs) (h ∷ hs) mine other =
     λ i. input_once g h (table_of given name) mine.0 other.0 i ∷ held_once ts given gs hs mine.1 other.1 i
 held_once (Made ∷ ts) given (g ∷ gs) (h ∷ hs) mine other = λ i. unmade_once g h mine.0 other.0 i ∷ held_once ts given gs hs mine.1 other.1 i
 
-some_only : {A : Type 0} → (x y : A) → Some x ≡ Some y → x ≡ y
-some_only x y e = ap (λ o. unwrap_or o x) e
-
 pub report_once : (code : Listing) (inputs : List Table) (options : ExecOptions) (report other : ExecReport) → ComesTo code inputs options report → ComesTo code inputs options other → report ≡ other
 report_once code inputs options report other mine its =
-    some_only report other
-    (sym mine.told
+    some_same (sym mine.told
     ∙ ap (λ held. exec options.steps code options.beat options.forks held options.fuel) (held_once code.tables inputs mine.holdings its.holdings mine.are_held its.are_held)
     ∙ its.told)
