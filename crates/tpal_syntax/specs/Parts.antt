@@ -14,7 +14,7 @@ use Rattle.tpal_syntax.specs.declared.instructions.Instr.TheVariants.{PrmSplit, 
 use Rattle.tpal_syntax.specs.declared.instructions.Instr.TheVariants.{Fetch, Put, Rows, Cols, Make}
 use Rattle.tpal_syntax.specs.declared.instructions.Instr.TheVariants.{Tick, Trap, Print, Emit}
 use Rattle.tpal_syntax.specs.declared.instructions.Term.{Term}
-use Rattle.tpal_syntax.specs.declared.instructions.Term.TheVariants.{Jump, Halt, Join}
+use Rattle.tpal_syntax.specs.declared.instructions.Term.TheVariants.{Jump, Halt, Join, Leave}
 use Rattle.tpal_syntax.specs.declared.notes.CarryAt.{CarryAt}
 use Rattle.tpal_syntax.specs.declared.notes.CarryAt.TheVariants as carry
 
@@ -98,6 +98,7 @@ abbrev pub is_term : ℕ → Term → Bool
 is_term blocks (Jump value) = is_value blocks value
 is_term blocks Halt = true
 is_term blocks (Join r) = is_register r
+is_term blocks (Leave rec value) = is_register rec && is_register value
 
 -- an item of a carry list, where tables are below this number
 abbrev pub is_carry : ℕ → CarryAt → Bool

@@ -16,7 +16,10 @@ use Rattle.tpal_syntax.specs.declared.notes.CutKind.{CutKind}
 use Rattle.tpal_syntax.specs.declared.notes.CutKind.TheVariants as cut
 use Rattle.tpal_syntax.specs.declared.notes.CarryAt.{CarryAt}
 use Rattle.tpal_syntax.specs.declared.notes.CarryAt.TheVariants as carry
+use Rattle.tpal_syntax.specs.declared.versions.Version.{Version}
+use Rattle.tpal_syntax.specs.declared.versions.Version.TheVariants.{One, Two}
 use Rattle.tpal_syntax.specs.Parts.{is_letter, is_word_byte}
+use Rattle.tpal_syntax.specs.Text.{first_line}
 
 -- what a reading of some kind answers to a text
 abbrev pub Reading : Type 0 → Type 0
@@ -219,3 +222,14 @@ unfoldable pub kind_at : Reading CutKind
 kind_at ts =
     branch (after (codes "loop; carry ") ts) (λ us. Some (cut.Loop, us))
     (branch (after (codes "call; carry ") ts) (λ us. Some (cut.Call, us)) None)
+
+-- ---- versions
+
+abbrev pub parted_by : List ℕ → Option (List ℕ) → Version × List ℕ
+parted_by text None = (One, text)
+parted_by text (Some rest) = (Two, rest)
+
+-- the version of a text and the lines behind its first line: a text whose first line is that of
+-- version 2 is of this version, and every other text is of version 1, where all lines are meant
+abbrev pub parted : List ℕ → Version × List ℕ
+parted text = parted_by text (after (first_line Two) text)

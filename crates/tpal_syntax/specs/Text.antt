@@ -1,7 +1,8 @@
--- The one text of a code. Labels are written by the names of their blocks.
-use Rattle.std.specs.Prelude.{◌≡◌, ℕ, ◌+◌, Bool, true, false, List, [], ◌∷◌, ◌++◌, slice_index_or}
-use Rattle.std.specs.Prelude.{codes}
-use Rattle.std.specs.List.{flat_map, join_by}
+-- The texts of a code: one of version 2, and one of version 1 where no block of it is left. Labels
+-- are written by the names of their blocks.
+use Rattle.std.specs.Prelude.{◌≡◌, ◌⊎◌, ℕ, ◌+◌, Bool, true, false, List, [], ◌∷◌, ◌++◌, IsTrue}
+use Rattle.std.specs.Prelude.{slice_index_or, codes}
+use Rattle.std.specs.List.{flat_map, join_by, list_all}
 use Rattle.std.specs.Fmt.{decimal, signed_decimal}
 use Rattle.tp_value.specs.declared.values.Place.{Place}
 use Rattle.tp_value.specs.declared.values.TrapKind.{TrapKind}
@@ -18,7 +19,7 @@ use Rattle.tpal_syntax.specs.declared.instructions.Instr.TheVariants.{PrmSplit, 
 use Rattle.tpal_syntax.specs.declared.instructions.Instr.TheVariants.{Fetch, Put, Rows, Cols, Make}
 use Rattle.tpal_syntax.specs.declared.instructions.Instr.TheVariants.{Tick, Trap, Print, Emit}
 use Rattle.tpal_syntax.specs.declared.instructions.Term.{Term}
-use Rattle.tpal_syntax.specs.declared.instructions.Term.TheVariants.{Jump, Halt, Join}
+use Rattle.tpal_syntax.specs.declared.instructions.Term.TheVariants.{Jump, Halt, Join, Leave}
 use Rattle.tpal_syntax.specs.declared.notes.CutKind.{CutKind}
 use Rattle.tpal_syntax.specs.declared.notes.CutKind.TheVariants as cut
 use Rattle.tpal_syntax.specs.declared.notes.CarryAt.{CarryAt}
@@ -29,6 +30,8 @@ use Rattle.tpal_syntax.specs.declared.notes.Target.{Target}
 use Rattle.tpal_syntax.specs.declared.blocks.Block.{Block}
 use Rattle.tpal_syntax.specs.declared.blocks.CodeTable.{CodeTable}
 use Rattle.tpal_syntax.specs.declared.blocks.CodeTable.TheVariants.{Input, Made}
+use Rattle.tpal_syntax.specs.declared.versions.Version.{Version}
+use Rattle.tpal_syntax.specs.declared.versions.Version.TheVariants.{One, Two}
 use Rattle.tpal_syntax.specs.Conditions.{IsCode, block_names}
 
 -- one text after another, grouped to the right
@@ -129,6 +132,16 @@ abbrev pub term_text : List (List ℕ) → Term → List ℕ
 term_text names (Jump value) = codes "jump " +++ value_text names value
 term_text names Halt = codes "halt"
 term_text names (Join r) = codes "join " +++ register_text r
+term_text names (Leave rec value) =
+    codes "leave " +++ register_text rec +++ codes ", " +++ register_text value
+
+-- the ends that stand in texts of a version: `leave` stands in version 2 alone
+abbrev pub stands_in : Version → Term → Bool
+stands_in One (Jump value) = true
+stands_in One Halt = true
+stands_in One (Join r) = true
+stands_in One (Leave rec value) = false
+stands_in Two term = true
 
 -- ---- notes
 
@@ -179,21 +192,53 @@ abbrev pub tables_text : ℕ → List CodeTable → List ℕ
 tables_text n [] = []
 tables_text n (table ∷ tables) = line (table_line n table) +++ tables_text (n + 1) tables
 
--- the first line of a block
-abbrev pub header_text : List (List ℕ) → List ℕ → Note → List ℕ
-header_text names name note = name +++ codes ": " +++ note_text names note
+-- a block's number behind its name, in version 2
+abbrev pub number_text : Version → ℕ → List ℕ
+number_text One n = []
+number_text Two n = codes " #" +++ decimal n
 
-abbrev pub block_text : List (List ℕ) → Block → List ℕ
-block_text names block =
-    line (header_text names block.name block.note)
+-- the first line of the block of this number
+abbrev pub header_text : Version → List (List ℕ) → ℕ → List ℕ → Note → List ℕ
+header_text v names n name note =
+    name +++ number_text v n +++ codes ": " +++ note_text names note
+
+-- the block of this number
+abbrev pub block_text : Version → List (List ℕ) → ℕ → Block → List ℕ
+block_text v names n block =
+    line (header_text v names n block.name block.note)
     +++ flat_map (λ instr. line (codes "  " +++ instr_text names instr)) block.body
     +++ line (codes "  " +++ term_text names block.term)
 
--- the tables, and then the blocks
-abbrev pub text_of : List CodeTable → List Block → List ℕ
-text_of tables blocks = tables_text 0 tables +++ flat_map (block_text (block_names blocks)) blocks
+-- the blocks from this number on
+abbrev pub blocks_text : Version → List (List ℕ) → ℕ → List Block → List ℕ
+blocks_text v names n [] = []
+blocks_text v names n (block ∷ blocks) =
+    block_text v names n block +++ blocks_text v names (n + 1) blocks
 
--- a text is that of a code
-pub record CodeText (text : List ℕ) (tables : List CodeTable) (blocks : List Block) : Type 0 where
+-- the first line of a text, with the byte that ends it, in version 2
+abbrev pub first_line : Version → List ℕ
+first_line One = []
+first_line Two = line (codes "tpal 2")
+
+-- the tables, and then the blocks
+abbrev pub lines_of : Version → List CodeTable → List Block → List ℕ
+lines_of v tables blocks = tables_text 0 tables +++ blocks_text v (block_names blocks) 0 blocks
+
+-- the first line, if any, and then the tables and the blocks
+abbrev pub text_of : Version → List CodeTable → List Block → List ℕ
+text_of v tables blocks = first_line v +++ lines_of v tables blocks
+
+-- the ends of all blocks stand in texts of a version
+abbrev pub all_stand_in : Version → List Block → Bool
+all_stand_in v blocks = list_all (λ b. stands_in v b.term) blocks
+
+-- a text is that of a code in a version
+pub record CodeTextIn (v : Version) (text : List ℕ) (tables : List CodeTable)
+    (blocks : List Block) : Type 0 where
   pub right : IsCode tables blocks
-  pub spelled : text ≡ text_of tables blocks
+  pub ends : IsTrue (all_stand_in v blocks)
+  pub spelled : text ≡ text_of v tables blocks
+
+-- a text is that of a code, in version 1 or 2
+abbrev pub CodeText : List ℕ → List CodeTable → List Block → Type 0
+CodeText text tables blocks = CodeTextIn One text tables blocks ⊎ CodeTextIn Two text tables blocks

@@ -168,4 +168,6 @@ pub enum Term {
     Halt,
     /// `join rA`: ends a side, or goes on behind the join where both sides have ended.
     Join(u8),
+    /// `leave rA, rB`: ends a side that is left with a number.
+    Leave { rec: u8, value: u8 },
 }

@@ -1,8 +1,9 @@
 //! The types of a code: words, instructions, blocks with their notes, whole codes, and the sites of
 //! loops and calls from which handlers and joins are made. It stands on `tp_value`.
 //! A `Code` meets all conditions on codes: `Code::new` is the only way to one. `specs/` says what
-//! these conditions are, and what the one text of a code is. A code has its instructions a second
-//! time as `ops`, which the machine reads. Start with `instructions` and `blocks`.
+//! these conditions are, and what the one text of a code is in each version. A code has its
+//! instructions a second time as `ops`, which the machine reads. Start with `instructions` and
+//! `blocks`.
 #![tactic(auto)]
 
 // The types of a code.
@@ -11,6 +12,7 @@ mod codes;
 mod instructions;
 mod notes;
 mod sites;
+mod versions;
 mod words;
 
 // Whether lists of tables and blocks are a code.
@@ -29,4 +31,5 @@ pub use notes::{CarryAt, CutKind, Note, Target};
 pub use ops::{Flat, Op, OpRange};
 pub use parts::{is_instr, is_term};
 pub use sites::{CallSite, LeafSite, LoopSite};
+pub use versions::Version;
 pub use words::Word;

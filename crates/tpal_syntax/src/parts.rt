@@ -138,6 +138,7 @@ pub fn is_term(blocks: u32, term: Term) -> bool
         Term::Jump(value) => is_value(blocks, value),
         Term::Halt => true,
         Term::Join(r) => is_register(r),
+        Term::Leave { rec, value } => is_register(rec) && is_register(value),
     }
 }
 
