@@ -13,7 +13,7 @@ use Rattle.tpal_syntax.specs.declared.instructions.Instr.TheVariants.{PrmSplit, 
 use Rattle.tpal_syntax.specs.declared.instructions.Instr.TheVariants.{Fetch, Put, Rows, Cols, Make}
 use Rattle.tpal_syntax.specs.declared.instructions.Instr.TheVariants.{Tick, Trap, Print, Emit}
 use Rattle.tpal_syntax.specs.declared.instructions.Term.{Term}
-use Rattle.tpal_syntax.specs.declared.instructions.Term.TheVariants.{Jump, Halt, Join}
+use Rattle.tpal_syntax.specs.declared.instructions.Term.TheVariants.{Jump, Halt, Join, Leave}
 use Rattle.tpal_syntax.specs.Parts.{is_register, is_offset, is_size, is_place, is_value, is_instr}
 use Rattle.tpal_syntax.specs.Parts.{is_term}
 use Rattle.tpal_syntax.specs.Text.{cell_text, place_text, alu_text, value_text, instr_text}
@@ -200,9 +200,15 @@ pub term_comes : (f : List ℕ → ℕ) (names : List (List ℕ)) (blocks : ℕ)
 term_comes f names blocks (Jump value) more words ok = rw (value_comes f names blocks value (10 ∷ more) words ok refl) refl
 term_comes f names blocks Halt more words ok = refl
 term_comes f names blocks (Join r) more words ok = rw (register_comes r (10 ∷ more) ok refl) refl
+term_comes f names blocks (Leave rec value) more words ok =
+    rw (
+      register_mid rec (codes ", r" ++ decimal value) (10 ∷ more) (and_left (is_register rec) (is_register value) ok) refl,
+      register_comes value (10 ∷ more) (and_right (is_register rec) (is_register value) ok) refl,
+    ) refl
 
 -- an end is no instruction
 pub term_is_no_instr : (f : List ℕ → ℕ) (names : List (List ℕ)) (t : Term) (more : List ℕ) → instr_at f (term_text names t ++ more) ≡ None
 term_is_no_instr f names (Jump value) more = refl
 term_is_no_instr f names Halt more = refl
 term_is_no_instr f names (Join r) more = refl
+term_is_no_instr f names (Leave rec value) more = refl

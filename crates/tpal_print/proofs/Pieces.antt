@@ -96,7 +96,7 @@ pub and_right : (a b : Bool) → (a && b) ≡ true → b ≡ true
 and_right true b e = e
 and_right false b e = absurd cc
 
-stops_word : (b x : Bool) → not b ≡ true → b ≡ false
+pub stops_word : (b x : Bool) → not b ≡ true → b ≡ false
 stops_word true x e = absurd cc
 stops_word false x e = refl
 

@@ -11,13 +11,15 @@ use Rattle.tpal_syntax.specs.declared.instructions.Instr.TheVariants.{PrmSplit, 
 use Rattle.tpal_syntax.specs.declared.instructions.Instr.TheVariants.{Fetch, Put, Rows, Cols, Make}
 use Rattle.tpal_syntax.specs.declared.instructions.Instr.TheVariants.{Tick, Trap, Print, Emit}
 use Rattle.tpal_syntax.specs.declared.instructions.Term.{Term}
-use Rattle.tpal_syntax.specs.declared.instructions.Term.TheVariants.{Jump, Halt, Join}
+use Rattle.tpal_syntax.specs.declared.instructions.Term.TheVariants.{Jump, Halt, Join, Leave}
 use Rattle.tpal_syntax.specs.declared.notes.Note.{Note}
 use Rattle.tpal_syntax.specs.declared.notes.Note.TheVariants as note
 use Rattle.tpal_syntax.specs.declared.notes.Target.{Target}
 use Rattle.tpal_syntax.specs.declared.blocks.Block.{Block}
 use Rattle.tpal_syntax.specs.declared.blocks.CodeTable.{CodeTable}
 use Rattle.tpal_syntax.specs.declared.blocks.CodeTable.TheVariants.{Input, Made}
+use Rattle.tpal_syntax.specs.declared.versions.Version.{Version}
+use Rattle.tpal_syntax.specs.declared.versions.Version.TheVariants.{One, Two}
 use Rattle.tpal_syntax.specs.Readers.{Reading, ◌>>=◌, after, branch, many, number_at, word_at}
 use Rattle.tpal_syntax.specs.Readers.{register_at, table_at, label_at, cell_at, place_at, value_at}
 use Rattle.tpal_syntax.specs.Readers.{trap_at, source_at, renames_at, carries_at, policy_at}
@@ -98,7 +100,10 @@ abbrev pub term_at : (List ℕ → ℕ) → Reading Term
 term_at f ts =
     branch (after (codes "jump ") ts) (λ us. value_at f us >>= λ v. Some (Jump v.0, v.1))
     (branch (after (codes "halt") ts) (λ us. Some (Halt, us))
-    (branch (after (codes "join ") ts) (λ us. register_at us >>= λ r. Some (Join r.0, r.1)) None))
+    (branch (after (codes "join ") ts) (λ us. register_at us >>= λ r. Some (Join r.0, r.1))
+    (branch (after (codes "leave ") ts) (λ us.
+    register_at us >>= λ r.
+    after (codes ", ") r.1 >>= λ vs. register_at vs >>= λ q. Some (Leave r.0 q.0, q.1)) None)))
 
 abbrev pub target_at : (List ℕ → ℕ) → ℕ → Reading Target
 target_at f n ts =
@@ -128,10 +133,16 @@ term_line_at f ts =
     after (codes "  ") ts >>= λ us.
     term_at f us >>= λ t. after (10 ∷ []) t.1 >>= λ vs. Some (t.0, vs)
 
-abbrev pub block_at : (List ℕ → ℕ) → ℕ → Reading Block
-block_at f n ts =
+-- what stands behind a block's number, which is not compared
+unfoldable pub behind_number : Version → List ℕ → Option (List ℕ)
+behind_number One ts = Some ts
+behind_number Two ts = after (codes " #") ts >>= λ us. number_at 65535 us >>= λ n. Some n.1
+
+abbrev pub block_at : Version → (List ℕ → ℕ) → ℕ → Reading Block
+block_at v f n ts =
     word_at ts >>= λ w.
-    after (codes ": ") w.1 >>= λ us.
+    behind_number v w.1 >>= λ ms.
+    after (codes ": ") ms >>= λ us.
     note_at f n us >>= λ x.
     after (10 ∷ []) x.1 >>= λ vs.
     many n (instr_line_at f) vs >>= λ is. term_line_at f is.1 >>= λ t.
@@ -144,8 +155,10 @@ table_line_at ts = after (codes "table t") ts >>= λ us. number_at 15 us >>= λ 
     (after (codes " input ") n.1 >>= λ vs.
     word_at vs >>= λ w. after (10 ∷ []) w.1 >>= λ ws. Some (Input w.0, ws))
 
-abbrev pub code_at : (List ℕ → ℕ) → ℕ → List ℕ → Option (List CodeTable × List Block)
-code_at f n ts = many n table_line_at ts >>= λ t. many n (block_at f n) t.1 >>= λ b. Some (t.0, b.0)
+-- the lines of a text, behind its first line
+abbrev pub code_at : Version → (List ℕ → ℕ) → ℕ → List ℕ → Option (List CodeTable × List Block)
+code_at v f n ts =
+    many n table_line_at ts >>= λ t. many n (block_at v f n) t.1 >>= λ b. Some (t.0, b.0)
 
 -- ---- labels that are given anew
 
@@ -184,6 +197,7 @@ abbrev pub relabel_term : (ℕ → ℕ) → Term → Term
 relabel_term h (Jump value) = Jump (relabel_value h value)
 relabel_term h Halt = Halt
 relabel_term h (Join r) = Join r
+relabel_term h (Leave rec value) = Leave rec value
 
 abbrev pub relabel_note : (ℕ → ℕ) → Note → Note
 relabel_note h note.Plain = note.Plain

@@ -1,5 +1,5 @@
 -- No two codes have one text.
-use Rattle.std.proofs.Common.{◌≡◌, ℕ, zero, suc, ◌+◌, ◌<◌, ◌≤◌, Bool, true, false, cond, eqb, leb}
+use Rattle.std.proofs.Common.{◌≡◌, ◌⊎◌, inl, inr, ℕ, zero, suc, ◌+◌, ◌<◌, ◌≤◌, Bool, true, false, cond, eqb, leb}
 use Rattle.std.proofs.Common.{ltb, ◌&&◌, ◌||◌, List, [], ◌∷◌, ◌++◌, length, map, Option, Some, None}
 use Rattle.std.proofs.Common.{get_or, refl, sym, ap, ◌∙◌, append_assoc, arith}
 use Rattle.std.specs.Prelude.{codes}
@@ -21,23 +21,25 @@ use Rattle.tpal_syntax.specs.declared.instructions.Instr.TheVariants.{PrmSplit, 
 use Rattle.tpal_syntax.specs.declared.instructions.Instr.TheVariants.{Fetch, Put, Rows, Cols, Make}
 use Rattle.tpal_syntax.specs.declared.instructions.Instr.TheVariants.{Tick, Trap, Print, Emit}
 use Rattle.tpal_syntax.specs.declared.instructions.Term.{Term}
-use Rattle.tpal_syntax.specs.declared.instructions.Term.TheVariants.{Jump, Halt, Join}
+use Rattle.tpal_syntax.specs.declared.instructions.Term.TheVariants.{Jump, Halt, Join, Leave}
 use Rattle.tpal_syntax.specs.declared.blocks.Block.{Block}
 use Rattle.tpal_syntax.specs.declared.blocks.CodeTable.{CodeTable}
 use Rattle.tpal_syntax.specs.declared.blocks.CodeTable.TheVariants.{Input, Made}
+use Rattle.tpal_syntax.specs.declared.versions.Version.{Version}
+use Rattle.tpal_syntax.specs.declared.versions.Version.TheVariants.{One, Two}
 use Rattle.tpal_syntax.specs.Parts.{is_word, is_word_byte, is_letter, is_register, is_offset}
 use Rattle.tpal_syntax.specs.Parts.{is_size, is_value, is_instr, is_term}
 use Rattle.tpal_syntax.specs.Conditions.{IsNote, IsBlock, IsCode, AreDistinct, block_names}
 use Rattle.tpal_syntax.specs.Conditions.{input_names}
-use Rattle.tpal_syntax.specs.Text.{CodeText, line, note_text, block_text, table_line, tables_text}
-use Rattle.tpal_syntax.specs.Text.{text_of}
-use Rattle.tpal_syntax.specs.Readers.{◌>>=◌, after, word_at, many, with_more}
+use Rattle.tpal_syntax.specs.Text.{CodeText, CodeTextIn, line, note_text, number_text, table_line}
+use Rattle.tpal_syntax.specs.Text.{tables_text, blocks_text, first_line, lines_of, text_of}
+use Rattle.tpal_syntax.specs.Readers.{◌>>=◌, after, word_at, many, with_more, parted, parted_by}
 use Rattle.tpal_print.proofs.Reading.{block_at, table_line_at, code_at, relabel_value, relabel}
 use Rattle.tpal_print.proofs.Reading.{relabel_term, relabel_note, relabel_block}
-use Rattle.tpal_print.proofs.Pieces.{Words, and_left, and_right, below, number_comes, word_comes}
-use Rattle.tpal_print.proofs.Notes.{Comes, many_come}
+use Rattle.tpal_print.proofs.Pieces.{Words, stops, stops_word, and_left, and_right, below}
+use Rattle.tpal_print.proofs.Pieces.{number_comes, word_comes}
 use Rattle.tpal_print.proofs.Whole.{ShortNote, ShortBlock, handler_below, instr_line, term_line}
-use Rattle.tpal_print.proofs.Whole.{regroup, block_comes}
+use Rattle.tpal_print.proofs.Whole.{name_stops, regroup, block_comes}
 
 -- ---- tables
 
@@ -68,21 +70,23 @@ tables_come (suc n) k (t ∷ ts) rest few fits ok none =
     ∙ ap (λ r. r >>= λ us. Some (t ∷ us.0, us.1)) (tables_come n (k + 1) ts rest (omega arith) (omega arith) (other_words t ts ok) none)
 
 -- a name has no space in it
-no_table : (ls ms n more : List ℕ) → list_all is_word_byte ls ≡ true → list_all is_word_byte n ≡ true → after (ls ++ (32 ∷ ms)) (n ++ (58 ∷ more)) ≡ None
-no_table [] ms [] more wl wn = refl
-no_table [] ms (b ∷ n) more wl wn = go (eqb b 32) (λ e. absurd (false≢true (ap is_word_byte (sym (eqb-true b 32 e)) ∙ and_left (is_word_byte b) (list_all is_word_byte n) wn)))
+no_space : (ls ms n tail : List ℕ) → list_all is_word_byte ls ≡ true → list_all is_word_byte n ≡ true → stops tail ≡ true → after (32 ∷ ms) tail ≡ None → after (ls ++ (32 ∷ ms)) (n ++ tail) ≡ None
+no_space [] ms [] tail wl wn s none = none
+no_space [] ms (b ∷ n) tail wl wn s none = go (eqb b 32) (λ e. absurd (false≢true (ap is_word_byte (sym (eqb-true b 32 e)) ∙ and_left (is_word_byte b) (list_all is_word_byte n) wn)))
   where
-    go : (x : Bool) → (x ≡ true → ⊥) → cond x (after ms (n ++ (58 ∷ more))) None ≡ None
+    go : (x : Bool) → (x ≡ true → ⊥) → cond x (after ms (n ++ tail)) None ≡ None
     go true never = absurd (never refl)
     go false never = refl
-no_table (l ∷ ls) ms [] more wl wn = go (eqb 58 l) (λ e. absurd (false≢true (ap is_word_byte (eqb-true 58 l e) ∙ and_left (is_word_byte l) (list_all is_word_byte ls) wl)))
+no_space (l ∷ ls) ms [] [] wl wn s none = refl
+no_space (l ∷ ls) ms [] (t ∷ tail) wl wn s none =
+    go (eqb t l) (λ e. absurd (false≢true (sym (stops_word (is_word_byte t) true s) ∙ ap is_word_byte (eqb-true t l e) ∙ and_left (is_word_byte l) (list_all is_word_byte ls) wl)))
   where
-    go : (x : Bool) → (x ≡ true → ⊥) → cond x (after (ls ++ (32 ∷ ms)) more) None ≡ None
+    go : (x : Bool) → (x ≡ true → ⊥) → cond x (after (ls ++ (32 ∷ ms)) tail) None ≡ None
     go true never = absurd (never refl)
     go false never = refl
-no_table (l ∷ ls) ms (b ∷ n) more wl wn = go (eqb b l) (no_table ls ms n more (and_right (is_word_byte l) (list_all is_word_byte ls) wl) (and_right (is_word_byte b) (list_all is_word_byte n) wn))
+no_space (l ∷ ls) ms (b ∷ n) tail wl wn s none = go (eqb b l) (no_space ls ms n tail (and_right (is_word_byte l) (list_all is_word_byte ls) wl) (and_right (is_word_byte b) (list_all is_word_byte n) wn) s none)
   where
-    go : (x : Bool) → after (ls ++ (32 ∷ ms)) (n ++ (58 ∷ more)) ≡ None → cond x (after (ls ++ (32 ∷ ms)) (n ++ (58 ∷ more))) None ≡ None
+    go : (x : Bool) → after (ls ++ (32 ∷ ms)) (n ++ tail) ≡ None → cond x (after (ls ++ (32 ∷ ms)) (n ++ tail)) None ≡ None
     go true e = e
     go false e = refl
 
@@ -129,6 +133,7 @@ pub relabel_term_same : (h : ℕ → ℕ) (blocks : ℕ) (t : Term) → ((l : �
 relabel_term_same h blocks (Jump value) same ok = ap (λ (v : Value). Jump v) (relabel_value_same h blocks value same ok)
 relabel_term_same h blocks Halt same ok = refl
 relabel_term_same h blocks (Join r) same ok = refl
+relabel_term_same h blocks (Leave rec value) same ok = refl
 
 relabel_note_same : (h : ℕ → ℕ) (tables : List CodeTable) (blocks : List Block) (x : Note) → ((l : ℕ) → ltb l (length blocks) ≡ true → h l ≡ l) → IsNote tables blocks x → relabel_note h x ≡ x
 relabel_note_same h tables blocks note.Plain same ok = refl
@@ -177,21 +182,20 @@ length-names (b ∷ blocks) = ap suc (length-names blocks)
 
 -- ---- whole texts
 
--- the lists of each block are no longer than n
-short_blocks : (f : List ℕ → ℕ) (names : List (List ℕ)) (tables : List CodeTable) (all blocks : List Block) (n : ℕ) → Words names (length all) → length tables ≤ 16 → AllByRecursion (IsBlock tables all) blocks → AllByRecursion (ShortBlock n) blocks
-    → AllByRecursion (Comes (block_at f n) (block_text names) (relabel_block (λ l. f (get_or names l []))) (λ _. Unit {0})) blocks
-short_blocks f names tables all [] n words few ok short = tt
-short_blocks f names tables all (b ∷ blocks) n words few ok short = (
-  record {
-    comes = λ rest p. block_comes f names tables all n b rest words few ok.0 short.0;
-    keeps = λ rest p. tt;
-  },
-  short_blocks f names tables all blocks n words few ok.1 short.1,
-)
-
-no_block : (f : List ℕ → ℕ) (n : ℕ) → block_at f n [] ≡ None
+no_block : (v : Version) (f : List ℕ → ℕ) (n : ℕ) → block_at v f n [] ≡ None
 unfolding word_at
-no_block f n = refl
+no_block v f n = refl
+
+-- the blocks from a number on, where the lists of each are no longer than n
+blocks_come : (v : Version) (f : List ℕ → ℕ) (names : List (List ℕ)) (tables : List CodeTable) (all : List Block) (n m k : ℕ) (blocks : List Block) → Words names (length all) → length tables ≤ 16 → k + length blocks ≤ 65536 → length blocks ≤ m → AllByRecursion (IsBlock tables all) blocks → AllByRecursion (ShortBlock n) blocks
+    → many m (block_at v f n) (blocks_text v names k blocks) ≡ Some (map (relabel_block (λ l. f (get_or names l []))) blocks, [])
+blocks_come v f names tables all n zero k [] words few low fits ok short = refl
+blocks_come v f names tables all n (suc m) k [] words few low fits ok short = ap (with_more [] (many m (block_at v f n))) (no_block v f n)
+blocks_come v f names tables all n zero k (b ∷ blocks) words few low fits ok short = absurd (omega arith)
+blocks_come v f names tables all n (suc m) k (b ∷ blocks) words few low fits ok short =
+    let back = blocks_text v names (k + 1) blocks in
+    ap (with_more (blocks_text v names k (b ∷ blocks)) (many m (block_at v f n))) (block_comes v f names tables all n k b back words few (omega arith) ok.0 short.0)
+    ∙ ap (λ r. r >>= λ xs. Some (relabel_block (λ l. f (get_or names l [])) b ∷ xs.0, xs.1)) (blocks_come v f names tables all n m (k + 1) blocks words few (omega arith) (omega arith) ok.1 short.1)
 
 pub word_rest : (name : List ℕ) → is_word name ≡ true → list_all is_word_byte name ≡ true
 word_rest [] ok = refl
@@ -199,29 +203,65 @@ word_rest (b ∷ name) ok =
     ap (λ (x : Bool). (x || (leb 48 b && leb b 57)) && list_all is_word_byte name) (and_left (is_letter b) (list_all is_word_byte name) ok)
     ∙ and_right (is_letter b) (list_all is_word_byte name) ok
 
-blocks_are_no_table : (names : List (List ℕ)) (tables : List CodeTable) (all blocks : List Block) → AllByRecursion (IsBlock tables all) blocks → table_line_at (flat_map (block_text names) blocks) ≡ None
-blocks_are_no_table names tables all [] ok = refl
-blocks_are_no_table names tables all (b ∷ blocks) ok =
+-- no header begins as the line of a table does
+blocks_are_no_table : (v : Version) (names : List (List ℕ)) (tables : List CodeTable) (all : List Block) (k : ℕ) (blocks : List Block) → AllByRecursion (IsBlock tables all) blocks → table_line_at (blocks_text v names k blocks) ≡ None
+blocks_are_no_table v names tables all k [] ok = refl
+blocks_are_no_table v names tables all k (b ∷ blocks) ok =
     let x = note_text names b.note in
     let is = flat_map (instr_line names) b.body in
     let t = term_line names b.term in
-    let rest = flat_map (block_text names) blocks in
-    ap table_line_at (regroup b.name x is t rest)
-    ∙ rw (no_table (codes "table") (codes "t") b.name (32 ∷ (x ++ (10 ∷ (is ++ (t ++ rest))))) refl (word_rest b.name ok.0.name)) refl
+    let rest = blocks_text v names (k + 1) blocks in
+    let behind = 32 ∷ (x ++ (10 ∷ (is ++ (t ++ rest)))) in
+    ap table_line_at (regroup b.name (number_text v k) x is t rest)
+    ∙ rw (no_space (codes "table") (codes "t") b.name (number_text v k ++ (58 ∷ behind)) refl (word_rest b.name ok.0.name) (name_stops v k behind) (no_t v behind)) refl
+  where
+    no_t : (v : Version) (behind : List ℕ) → after (32 ∷ codes "t") (number_text v k ++ (58 ∷ behind)) ≡ None
+    no_t One behind = refl
+    no_t Two behind = refl
 
--- a code is read from its text, with the labels that f gives
-code_comes : (f : List ℕ → ℕ) (n : ℕ) (tables : List CodeTable) (blocks : List Block) → IsCode tables blocks → 16 ≤ n → length blocks ≤ n → AllByRecursion (ShortBlock n) blocks
-    → code_at f n (text_of tables blocks) ≡ Some (tables, map (relabel_block (λ l. f (get_or (block_names blocks) l []))) blocks)
-code_comes f n tables blocks code room fits short =
+-- a code is read from its lines, with the labels that f gives
+code_comes : (v : Version) (f : List ℕ → ℕ) (n : ℕ) (tables : List CodeTable) (blocks : List Block) → IsCode tables blocks → 16 ≤ n → length blocks ≤ n → AllByRecursion (ShortBlock n) blocks
+    → code_at v f n (lines_of v tables blocks) ≡ Some (tables, map (relabel_block (λ l. f (get_or (block_names blocks) l []))) blocks)
+code_comes v f n tables blocks code room fits short =
     let names = block_names blocks in
     let words = words_of tables blocks blocks code.each_block in
-    let text = flat_map (block_text names) blocks in
+    let text = blocks_text v names 0 blocks in
     let first : many n table_line_at (tables_text 0 tables ++ text) ≡ Some (tables, text) =
-    tables_come n 0 tables text (omega (arith, code.few_tables)) (omega (arith, code.few_tables)) code.inputs.words (blocks_are_no_table names tables blocks blocks code.each_block) in
-    let second : many n (block_at f n) text ≡ Some (map (relabel_block (λ l. f (get_or names l []))) blocks, []) =
-    ap (many n (block_at f n)) (sym (append-nil text))
-    ∙ many_come (block_at f n) (block_text names) (relabel_block (λ l. f (get_or names l []))) (λ _. Unit {0}) n blocks [] (short_blocks f names tables blocks blocks n words code.few_tables code.each_block short) tt (no_block f n) fits in
+    tables_come n 0 tables text (omega (arith, code.few_tables)) (omega (arith, code.few_tables)) code.inputs.words (blocks_are_no_table v names tables blocks 0 blocks code.each_block) in
+    let second : many n (block_at v f n) text ≡ Some (map (relabel_block (λ l. f (get_or names l []))) blocks, []) =
+    blocks_come v f names tables blocks n n 0 blocks words code.few_tables (omega (arith, code.few_blocks)) fits code.each_block short in
     rw (first, second) refl
+
+-- ---- versions
+
+-- no text of version 1 has the first line of version 2
+no_first_line : (tables : List CodeTable) (blocks : List Block) → IsCode tables blocks → after (first_line Two) (lines_of One tables blocks) ≡ None
+no_first_line (Made ∷ tables) blocks code = refl
+no_first_line (Input name ∷ tables) blocks code = refl
+no_first_line [] [] code = absurd (omega (arith, code.some_block))
+no_first_line [] (b ∷ blocks) code =
+    let names = block_names (b ∷ blocks) in
+    let x = note_text names b.note in
+    let is = flat_map (instr_line names) b.body in
+    let t = term_line names b.term in
+    let rest = blocks_text One names 1 blocks in
+    ap (after (first_line Two)) (regroup b.name [] x is t rest)
+    ∙ no_space (codes "tpal") (codes "2" ++ (10 ∷ [])) b.name (58 ∷ 32 ∷ (x ++ (10 ∷ (is ++ (t ++ rest))))) refl (word_rest b.name code.each_block.0.name) refl refl
+
+-- the version and the lines of a code's text
+pub parted_comes : (v : Version) (tables : List CodeTable) (blocks : List Block) → IsCode tables blocks → parted (text_of v tables blocks) ≡ (v, lines_of v tables blocks)
+parted_comes One tables blocks code = ap (parted_by (lines_of One tables blocks)) (no_first_line tables blocks code)
+parted_comes Two tables blocks code = refl
+
+is_one : Version → Bool
+is_one One = true
+is_one Two = false
+
+-- a text is of one version
+pub one_version : (text : List ℕ) (tables others : List CodeTable) (blocks more_blocks : List Block) → CodeTextIn One text tables blocks → CodeTextIn Two text others more_blocks → ⊥
+unfolding is_one
+one_version text tables others blocks more_blocks one two =
+    false≢true (ap (λ p. is_one p.0) (sym (parted_comes Two others more_blocks two.right) ∙ ap parted (sym two.spelled ∙ one.spelled) ∙ parted_comes One tables blocks one.right))
 
 -- ---- one code
 
@@ -274,17 +314,21 @@ own_labels names tables blocks code e =
 abbrev read_as : List CodeTable → List Block → Option (List CodeTable × List Block)
 read_as tables blocks = Some (tables, blocks)
 
-module _ (text : List ℕ) (tables others : List CodeTable) (blocks more_blocks : List Block) (one : CodeText text tables blocks) (two : CodeText text others more_blocks) where
+module _ (v : Version) (text : List ℕ) (tables others : List CodeTable) (blocks more_blocks : List Block) (one : CodeTextIn v text tables blocks) (two : CodeTextIn v text others more_blocks) where
   fuel : ℕ
   fuel = 16 + size blocks + size more_blocks
 
-  -- both are read from the one text
+  -- both have the same lines
+  same_lines : lines_of v tables blocks ≡ lines_of v others more_blocks
+  same_lines = ap (λ p. p.1) (sym (parted_comes v tables blocks one.right) ∙ ap parted (sym one.spelled ∙ two.spelled) ∙ parted_comes v others more_blocks two.right)
+
+  -- both are read from them
   both : (f : List ℕ → ℕ) → read_as tables (map (relabel_block (λ l. f (get_or (block_names blocks) l []))) blocks) ≡ read_as others (map (relabel_block (λ l. f (get_or (block_names more_blocks) l []))) more_blocks)
   unfolding fuel
   both f =
-      sym (code_comes f fuel tables blocks one.right (omega arith) (omega (arith, length-size blocks)) (short_from fuel blocks (omega arith)))
-      ∙ ap (code_at f fuel) (sym one.spelled ∙ two.spelled)
-      ∙ code_comes f fuel others more_blocks two.right (omega arith) (omega (arith, length-size more_blocks)) (short_from fuel more_blocks (omega arith))
+      sym (code_comes v f fuel tables blocks one.right (omega arith) (omega (arith, length-size blocks)) (short_from fuel blocks (omega arith)))
+      ∙ ap (code_at v f fuel) same_lines
+      ∙ code_comes v f fuel others more_blocks two.right (omega arith) (omega (arith, length-size more_blocks)) (short_from fuel more_blocks (omega arith))
 
   pub same_tables : tables ≡ others
   unfolding tables_in
@@ -300,3 +344,10 @@ module _ (text : List ℕ) (tables others : List CodeTable) (blocks more_blocks 
       sym (own_labels (block_names blocks) tables blocks one.right refl)
       ∙ ap blocks_in (both (place_of (block_names blocks)))
       ∙ own_labels (block_names blocks) others more_blocks two.right same_names
+
+-- a text has one code, whatever the version
+pub same_code : (text : List ℕ) (tables others : List CodeTable) (blocks more : List Block) → CodeText text tables blocks → CodeText text others more → (tables ≡ others) × (blocks ≡ more)
+same_code text tables others blocks more (inl one) (inl two) = (same_tables One text tables others blocks more one two, same_blocks One text tables others blocks more one two)
+same_code text tables others blocks more (inr one) (inr two) = (same_tables Two text tables others blocks more one two, same_blocks Two text tables others blocks more one two)
+same_code text tables others blocks more (inl one) (inr two) = absurd (one_version text tables others blocks more one two)
+same_code text tables others blocks more (inr one) (inl two) = absurd (one_version text others tables more blocks two one)

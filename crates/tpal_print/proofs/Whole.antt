@@ -13,14 +13,18 @@ use Rattle.tpal_syntax.specs.declared.instructions.Instr.{Instr}
 use Rattle.tpal_syntax.specs.declared.instructions.Term.{Term}
 use Rattle.tpal_syntax.specs.declared.blocks.Block.{Block}
 use Rattle.tpal_syntax.specs.declared.blocks.CodeTable.{CodeTable}
+use Rattle.tpal_syntax.specs.declared.versions.Version.{Version}
+use Rattle.tpal_syntax.specs.declared.versions.Version.TheVariants.{One, Two}
 use Rattle.tpal_syntax.specs.Parts.{is_instr, is_term}
 use Rattle.tpal_syntax.specs.Conditions.{IsTarget, IsNote, IsBlock, IsHandler}
 use Rattle.tpal_syntax.specs.Text.{◌+++◌, line, policy_text, kind_text, rename_text, carries_text}
-use Rattle.tpal_syntax.specs.Text.{target_text, note_text, instr_text, term_text, block_text}
+use Rattle.tpal_syntax.specs.Text.{target_text, note_text, instr_text, term_text, number_text}
+use Rattle.tpal_syntax.specs.Text.{block_text, stands_in}
 use Rattle.tpal_syntax.specs.Readers.{word_at, many, policy_at, renames_at, kind_at}
-use Rattle.tpal_print.proofs.Reading.{note_at, instr_line_at, term_line_at, block_at, relabel}
-use Rattle.tpal_print.proofs.Reading.{relabel_term, relabel_note, relabel_block}
-use Rattle.tpal_print.proofs.Pieces.{Words, and_left, and_right, below, word_comes}
+use Rattle.tpal_print.proofs.Reading.{note_at, instr_line_at, term_line_at, behind_number, block_at}
+use Rattle.tpal_print.proofs.Reading.{relabel, relabel_term, relabel_note, relabel_block}
+use Rattle.tpal_print.proofs.Pieces.{Words, stops, and_left, and_right, below, number_comes}
+use Rattle.tpal_print.proofs.Pieces.{word_comes}
 use Rattle.tpal_print.proofs.Lines.{instr_comes, term_comes, term_is_no_instr}
 use Rattle.tpal_print.proofs.Notes.{Comes, many_come, renames_come, renamed_registers, carries_come}
 
@@ -99,27 +103,45 @@ term_line_comes f names blocks t rest words ok = rw (append_assoc (term_text nam
 term_line_ends : (f : List ℕ → ℕ) (names : List (List ℕ)) (t : Term) (rest : List ℕ) → instr_line_at f (term_line names t ++ rest) ≡ None
 term_line_ends f names t rest = rw (append_assoc (term_text names t) (10 ∷ []) rest, term_is_no_instr f names t (10 ∷ rest)) refl
 
-pub regroup : (n x is t rest : List ℕ) → (((n ++ (58 ∷ 32 ∷ x)) ++ (10 ∷ [])) ++ (is ++ t)) ++ rest ≡ n ++ (58 ∷ 32 ∷ (x ++ (10 ∷ (is ++ (t ++ rest)))))
-regroup n x is t rest = simp append_assoc
+-- behind a name stands no further byte of a word
+pub name_stops : (v : Version) (k : ℕ) (more : List ℕ) → stops (number_text v k ++ (58 ∷ more)) ≡ true
+name_stops One k more = refl
+name_stops Two k more = refl
+
+-- a block's number is read over
+number_passed : (v : Version) (k : ℕ) (more : List ℕ) → k ≤ 65535 → behind_number v (number_text v k ++ (58 ∷ more)) ≡ Some (58 ∷ more)
+unfolding behind_number
+number_passed One k more le = refl
+number_passed Two k more le = rw (number_comes 65535 k (58 ∷ more) le (omega arith) refl) refl
+
+pub regroup : (n m x is t rest : List ℕ) → (((n ++ (m ++ (58 ∷ 32 ∷ x))) ++ (10 ∷ [])) ++ (is ++ t)) ++ rest ≡ n ++ (m ++ (58 ∷ 32 ∷ (x ++ (10 ∷ (is ++ (t ++ rest))))))
+regroup n m x is t rest = simp append_assoc
 
 -- the lists of a block are no longer than n
 pub record ShortBlock (n : ℕ) (b : Block) : Type 0 where
   pub body : length b.body ≤ n
   pub note : ShortNote n b.note
 
-pub block_comes : (f : List ℕ → ℕ) (names : List (List ℕ)) (tables : List CodeTable) (blocks : List Block) (n : ℕ) (b : Block) (rest : List ℕ) → Words names (length blocks) → length tables ≤ 16 → IsBlock tables blocks b → ShortBlock n b
-    → block_at f n (block_text names b ++ rest) ≡ Some (relabel_block (λ l. f (get_or names l [])) b, rest)
-block_comes f names tables blocks n b rest words few ok short =
+pub block_comes : (v : Version) (f : List ℕ → ℕ) (names : List (List ℕ)) (tables : List CodeTable) (blocks : List Block) (n k : ℕ) (b : Block) (rest : List ℕ) → Words names (length blocks) → length tables ≤ 16 → k ≤ 65535 → IsBlock tables blocks b → ShortBlock n b
+    → block_at v f n (block_text v names k b ++ rest) ≡ Some (relabel_block (λ l. f (get_or names l [])) b, rest)
+block_comes v f names tables blocks n k b rest words few le ok short =
+    let m = number_text v k in
     let h = λ (l : ℕ). f (get_or names l []) in
     let x = note_text names b.note in
     let is = flat_map (instr_line names) b.body in
     let t = term_line names b.term in
     let lines : many n (instr_line_at f) (is ++ (t ++ rest)) ≡ Some (map (relabel h) b.body, t ++ rest) =
     many_come (instr_line_at f) (instr_line names) (relabel h) Any_rest n b.body (t ++ rest) (instr_lines f names (length tables) (length blocks) b.body words few ok.body) tt (term_line_ends f names b.term rest) short.body in
-    ap (block_at f n) (regroup b.name x is t rest)
+    ap (block_at v f n) (regroup b.name m x is t rest)
     ∙ rw (
-      word_comes b.name (58 ∷ 32 ∷ (x ++ (10 ∷ (is ++ (t ++ rest))))) ok.name refl,
+      word_comes b.name (m ++ (58 ∷ 32 ∷ (x ++ (10 ∷ (is ++ (t ++ rest)))))) ok.name (name_stops v k (32 ∷ (x ++ (10 ∷ (is ++ (t ++ rest)))))),
+      number_passed v k (32 ∷ (x ++ (10 ∷ (is ++ (t ++ rest))))) le,
       note_comes f names tables blocks n b.note (is ++ (t ++ rest)) words few ok.note short.note,
       lines,
       term_line_comes f names (length blocks) b.term rest words ok.term,
     ) refl
+
+-- each end stands in texts of version 2
+pub all_stand : (blocks : List Block) → list_all (λ (b : Block). stands_in Two b.term) blocks ≡ true
+all_stand [] = refl
+all_stand (b ∷ blocks) = all_stand blocks

@@ -1,4 +1,4 @@
-// Notes, the first lines of blocks, and the lines of tables, each appended to a text.
+// Notes, the first lines of texts and of blocks, and the lines of tables, each appended to a text.
 
 ghost use Rattle.std.specs.Prelude.{◌≡◌, ◌++◌, OnOk, codes};
 ghost use Rattle.std.specs.List.{flat_map, join_by};
@@ -6,11 +6,12 @@ ghost use Rattle.std.specs.Fmt.{decimal};
 ghost use Rattle.tpal_syntax.specs.Conditions.{block_names};
 ghost use Rattle.tpal_syntax.specs.Text.{◌+++◌, line, label_text, rename_text, carry_text};
 ghost use Rattle.tpal_syntax.specs.Text.{carries_text, policy_text, kind_text, target_text};
-ghost use Rattle.tpal_syntax.specs.Text.{note_text, header_text, table_line};
+ghost use Rattle.tpal_syntax.specs.Text.{note_text, number_text, header_text, table_line};
+ghost use Rattle.tpal_syntax.specs.Text.{first_line};
 
 use crate::parts::{push_bytes, push_label, push_number, push_register, push_table};
 use tp_value::NoMemory;
-use tpal_syntax::{Block, CarryAt, CodeTable, CutKind, Note, Target};
+use tpal_syntax::{Block, CarryAt, CodeTable, CutKind, Note, Target, Version};
 
 fn push_rename(out: &mut Vec<u8>, rename: (u8, u8)) -> Result<(), NoMemory>
     ensures { OnOk result (out.new.items ≡ out.old.items ++ rename_text rename) }
@@ -164,21 +165,51 @@ fn push_note(out: &mut Vec<u8>, blocks: &[Block], note: &Note) -> Result<(), NoM
     }
 }
 
-/// Appends the first line of a block.
+fn push_block_number(out: &mut Vec<u8>, version: Version, number: u64) -> Result<(), NoMemory>
+    ensures { OnOk result (out.new.items ≡ out.old.items ++ number_text version number) }
+{
+    match version {
+        Version::One => Ok(()),
+        Version::Two => {
+            push_bytes(out, b" #")?;
+            push_number(out, number)?;
+            Ok(())
+        }
+    }
+}
+
+/// Appends the first line of the block of this number.
 pub fn push_header(
     out: &mut Vec<u8>,
+    version: Version,
     blocks: &[Block],
-    name: &[u8],
-    note: &Note,
+    number: u64,
+    block: &Block,
 ) -> Result<(), NoMemory>
     ensures { OnOk result (out.new.items ≡ out.old.items
-        ++ line (header_text (block_names blocks.now) name.now note.now)) }
+        ++ line (header_text version (block_names blocks.now) number block.now.name
+        block.now.note)) }
 {
-    push_bytes(out, name)?;
+    push_bytes(out, block.name.items())?;
+    push_block_number(out, version, number)?;
     push_bytes(out, b": ")?;
-    push_note(out, blocks, note)?;
+    push_note(out, blocks, &block.note)?;
     out.push(b'\n')?;
     Ok(())
+}
+
+/// Appends the first line of a text, where the version has one.
+pub fn push_first_line(out: &mut Vec<u8>, version: Version) -> Result<(), NoMemory>
+    ensures { OnOk result (out.new.items ≡ out.old.items ++ first_line version) }
+{
+    match version {
+        Version::One => Ok(()),
+        Version::Two => {
+            push_bytes(out, b"tpal 2")?;
+            out.push(b'\n')?;
+            Ok(())
+        }
+    }
 }
 
 fn push_input(out: &mut Vec<u8>, number: u64, name: &[u8]) -> Result<(), NoMemory>

@@ -80,7 +80,19 @@ pub fn push_term(out: &mut Vec<u8>, blocks: &[Block], term: Term) -> Result<(), 
         Term::Jump(value) => push_jump(out, blocks, value),
         Term::Halt => push_bytes(out, b"halt"),
         Term::Join(r) => push_of_register(out, b"join ", r),
+        Term::Leave { rec, value } => push_leave(out, rec, value),
     }
+}
+
+fn push_leave(out: &mut Vec<u8>, rec: u8, value: u8) -> Result<(), NoMemory>
+    ensures { OnOk result (out.new.items ≡ out.old.items ++ (codes "leave " +++ register_text rec
+        +++ codes ", " +++ register_text value)) }
+{
+    push_bytes(out, b"leave ")?;
+    push_register(out, rec)?;
+    push_bytes(out, b", ")?;
+    push_register(out, value)?;
+    Ok(())
 }
 
 fn push_jump(out: &mut Vec<u8>, blocks: &[Block], value: Value) -> Result<(), NoMemory>

@@ -1,6 +1,6 @@
 // A code that has each instruction, note, renaming and carry once, beside its text written by hand.
 
-use crate::print_code;
+use crate::{print_code, print_code_1};
 use std::alloc::Global;
 use std::test::Fail;
 use tp_value::{Items, NoMemory, Place, TrapKind};
@@ -216,13 +216,12 @@ fn whole(alloc: Global) -> Result<Option<Code>, NoMemory> {
 #[test]
 fn each_form_is_printed(rt: HostRuntime) -> Result<(), Fail> {
     let code = whole(rt.alloc())?.ok_or("a code")?;
-    let text = print_code(rt.alloc(), &code)?;
+    let text = print_code_1(rt.alloc(), &code)?.ok_or("a text")?;
     assert_eq!(rt; text.as_slice(), TEXT);
     Ok(())
 }
 
-#[test]
-fn a_short_code_is_printed(rt: HostRuntime) -> Result<(), Fail> {
+fn short(alloc: Global, term: Term) -> Result<Option<Code>, NoMemory> {
     let body = [
         Instr::Move {
             to: 0,
@@ -236,12 +235,64 @@ fn a_short_code_is_printed(rt: HostRuntime) -> Result<(), Fail> {
         },
         Instr::Print(0),
     ];
-    let body = Vec::from_slice(rt.alloc(), &body)?;
-    let mut blocks = Vec::new(rt.alloc());
-    blocks.push(block(rt.alloc(), b"main", Note::Plain, body, Term::Halt)?)?;
-    let code = Code::new(rt.alloc(), Vec::new(rt.alloc()), blocks)?.ok_or("a code")?;
-    let text = print_code(rt.alloc(), &code)?;
-    let wanted: &[u8] = b"main: plain\n  r0 := 2\n  r0 := r0 add 3\n  print r0\n  halt\n";
-    assert_eq!(rt; text.as_slice(), wanted);
+    let body = Vec::from_slice(alloc, &body)?;
+    let mut blocks = Vec::new(alloc);
+    blocks.push(block(
+        alloc,
+        b"main",
+        Note::Plain,
+        body,
+        Term::Jump(Value::Label(1)),
+    )?)?;
+    blocks.push(block(alloc, b"end", Note::Plain, Vec::new(alloc), term)?)?;
+    Code::new(alloc, Vec::new(alloc), blocks)
+}
+
+const SHORT_1: &[u8] = b"main: plain
+  r0 := 2
+  r0 := r0 add 3
+  print r0
+  jump @end
+end: plain
+  halt
+";
+
+const SHORT_2: &[u8] = b"tpal 2
+main #0: plain
+  r0 := 2
+  r0 := r0 add 3
+  print r0
+  jump @end
+end #1: plain
+  halt
+";
+
+const LEFT: &[u8] = b"tpal 2
+main #0: plain
+  r0 := 2
+  r0 := r0 add 3
+  print r0
+  jump @end
+end #1: plain
+  leave r24, r0
+";
+
+#[test]
+fn a_short_code_is_printed(rt: HostRuntime) -> Result<(), Fail> {
+    let code = short(rt.alloc(), Term::Halt)?.ok_or("a code")?;
+    let one = print_code_1(rt.alloc(), &code)?.ok_or("a text")?;
+    let two = print_code(rt.alloc(), &code)?;
+    assert_eq!(rt; one.as_slice(), SHORT_1);
+    assert_eq!(rt; two.as_slice(), SHORT_2);
+    Ok(())
+}
+
+#[test]
+fn a_code_with_leave_has_no_text_of_version_1(rt: HostRuntime) -> Result<(), Fail> {
+    let code = short(rt.alloc(), Term::Leave { rec: 24, value: 0 })?.ok_or("a code")?;
+    let one = print_code_1(rt.alloc(), &code)?;
+    let two = print_code(rt.alloc(), &code)?;
+    assert!(rt; one.is_none());
+    assert_eq!(rt; two.as_slice(), LEFT);
     Ok(())
 }
