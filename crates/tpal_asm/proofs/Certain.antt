@@ -12,6 +12,7 @@ use Rattle.tpal_syntax.specs.declared.notes.Note.TheVariants as note
 use Rattle.tpal_syntax.specs.declared.blocks.Block.{Block}
 use Rattle.tpal_syntax.specs.declared.blocks.CodeTable.{CodeTable}
 use Rattle.tpal_syntax.specs.declared.blocks.CodeTable.TheVariants.{Input, Made}
+use Rattle.tpal_syntax.specs.declared.versions.Version.{Version}
 use Rattle.tpal_syntax.specs.Parts.{is_word, is_instr, is_term}
 use Rattle.tpal_syntax.specs.Conditions.{AreDistinct}
 use Rattle.tpal_syntax.specs.Text.{instr_text, term_text, header_text, table_line}
@@ -68,7 +69,7 @@ table_front : (n : ℕ) (table : CodeTable) → (us : List ℕ) × (table_line n
 table_front n (Input name) = ((decimal n ++ (codes " input " ++ name)) ++ (10 ∷ []), refl)
 table_front n Made = ((decimal n ++ codes " made") ++ (10 ∷ []), refl)
 
-module _ (hs : List Head) (distinct : AreDistinct (names_of hs)) (words : list_all is_word (names_of hs) ≡ true) where
+module _ (v : Version) (hs : List Head) (distinct : AreDistinct (names_of hs)) (words : list_all is_word (names_of hs) ≡ true) where
   own : Stays (λ l. place_of hs (get_or (names_of hs) l [])) (length (names_of hs))
   own l lt = place-own hs l distinct (omega (arith, ltb-true l (length (names_of hs)) lt, length-names hs))
 
@@ -101,38 +102,38 @@ module _ (hs : List Head) (distinct : AreDistinct (names_of hs)) (words : list_a
       clash : {A : Type 0} {a : A} → None ≡ Some a → ⊥
       clash e = cc
 
-  header_reads : (tables : ℕ) (name : List ℕ) (x : Note) → tables ≤ 16 → is_word name ≡ true → IsNoteOf hs (names_of hs) tables x → ended (header_rest (place_of hs) (header_text (names_of hs) name x ++ (10 ∷ []))) ≡ Some (name, x)
-  header_reads tables name x few word of =
+  header_reads : (tables n : ℕ) (name : List ℕ) (x : Note) → tables ≤ 16 → n ≤ 65536 → is_word name ≡ true → IsNoteOf hs (names_of hs) tables x → ended (header_rest v (place_of hs) (header_text v (names_of hs) n name x ++ (10 ∷ []))) ≡ Some (name, x)
+  header_reads tables n name x few room word of =
       let names = names_of hs in
       let g : ℕ → ℕ = λ l. place_of hs (get_or names l []) in
-      header_comes (place_of hs) names name x words word (note_of_form hs names tables x few of) ∙ ap (λ (y : Note). Some (name, y)) (note_stays g hs names tables x own of)
+      header_comes v (place_of hs) names n name x (omega (arith, room)) words word (note_of_form hs names tables x few of) ∙ ap (λ (y : Note). Some (name, y)) (note_stays g hs names tables x own of)
 
   one_table : (n : ℕ) (t u : CodeTable) → n ≤ 16 → IsNamed t → IsNamed u → table_line n t ≡ table_line n u → t ≡ u
   one_table n t u few nt nu e =
       let a = table_front n t in
       second_of n n t u (sym (table_comes n t few nt a.0 (sym a.1)) ∙ table_comes n u few nu a.0 (sym a.1 ∙ ap (λ (x : List ℕ). x ++ (10 ∷ [])) e))
 
-  no_table : (n : ℕ) (t : CodeTable) (name : List ℕ) (x : Note) → is_word name ≡ true → header_text (names_of hs) name x ≡ table_line n t → ⊥
-  no_table n t name x word e = let a = table_front n t in no_header (names_of hs) name a.0 x word (ap (λ (y : List ℕ). y ++ (10 ∷ [])) e ∙ a.1)
+  no_table : (n m : ℕ) (t : CodeTable) (name : List ℕ) (x : Note) → is_word name ≡ true → header_text v (names_of hs) m name x ≡ table_line n t → ⊥
+  no_table n m t name x word e = let a = table_front n t in no_header v (names_of hs) m name a.0 x word (ap (λ (y : List ℕ). y ++ (10 ∷ [])) e ∙ a.1)
 
-  outside_once : (tables : List CodeTable) (blocks : List Block) (bytes : List ℕ) (a b : Draft) → length tables ≤ 16 → Says hs (names_of hs) (Outside tables blocks) bytes a → Says hs (names_of hs) (Outside tables blocks) bytes b → a ≡ b
-  outside_once tables blocks bytes a b few one two = elim (outside_says one) [
+  outside_once : (tables : List CodeTable) (blocks : List Block) (bytes : List ℕ) (a b : Draft) → length tables ≤ 16 → length blocks ≤ 65536 → Says v hs (names_of hs) (Outside tables blocks) bytes a → Says v hs (names_of hs) (Outside tables blocks) bytes b → a ≡ b
+  outside_once tables blocks bytes a b few room one two = elim (outside_says one) [
     | inl h ↦ elim (outside_says two) [
       | inl k ↦
           let same = one_table (length tables) h.0 k.0 few (named_of tables h.0 h.1) (named_of tables k.0 k.1) (sym h.2 ∙ k.2) in
           h.3 ∙ ap (λ (t : CodeTable). Outside (tables ++ t ∷ []) []) same ∙ sym k.3
-      | inr k ↦ absurd (no_table (length tables) h.0 k.0 k.1 k.2 (sym k.4 ∙ h.2))
+      | inr k ↦ absurd (no_table (length tables) (length blocks) h.0 k.0 k.1 k.2 (sym k.4 ∙ h.2))
     ]
     | inr h ↦ elim (outside_says two) [
-      | inl k ↦ absurd (no_table (length tables) k.0 h.0 h.1 h.2 (sym h.4 ∙ k.2))
+      | inl k ↦ absurd (no_table (length tables) (length blocks) k.0 h.0 h.1 h.2 (sym h.4 ∙ k.2))
       | inr k ↦
-          let both = sym (header_reads (length tables) h.0 h.1 few h.2 h.3) ∙ ap (λ (y : List ℕ). ended (header_rest (place_of hs) (y ++ (10 ∷ [])))) (sym h.4 ∙ k.4) ∙ header_reads (length tables) k.0 k.1 few k.2 k.3 in
+          let both = sym (header_reads (length tables) (length blocks) h.0 h.1 few room h.2 h.3) ∙ ap (λ (y : List ℕ). ended (header_rest v (place_of hs) (y ++ (10 ∷ [])))) (sym h.4 ∙ k.4) ∙ header_reads (length tables) (length blocks) k.0 k.1 few room k.2 k.3 in
           h.5 ∙ ap (λ (n : List ℕ). Inside tables blocks n h.1 []) (first_of h.0 k.0 h.1 k.1 both) ∙ ap (λ (x : Note). Inside tables blocks k.0 x []) (second_of h.0 k.0 h.1 k.1 both) ∙ sym k.5
     ]
   ]
 
   inside_once : (tables : List CodeTable) (blocks : List Block) (name : List ℕ) (x : Note) (body : List Instr) (bytes : List ℕ) (a b : Draft) → length tables ≤ 16
-      → Says hs (names_of hs) (Inside tables blocks name x body) bytes a → Says hs (names_of hs) (Inside tables blocks name x body) bytes b → a ≡ b
+      → Says v hs (names_of hs) (Inside tables blocks name x body) bytes a → Says v hs (names_of hs) (Inside tables blocks name x body) bytes b → a ≡ b
   inside_once tables blocks name x body bytes a b few one two =
       let names = names_of hs in
       elim (inside_says one) [
@@ -150,6 +151,6 @@ module _ (hs : List Head) (distinct : AreDistinct (names_of hs)) (words : list_a
         ]
       ]
 
-  pub says-once : (draft : Draft) (bytes : List ℕ) (a b : Draft) → IsWithin draft → Says hs (names_of hs) draft bytes a → Says hs (names_of hs) draft bytes b → a ≡ b
-  says-once (Outside tables blocks) bytes a b within one two = outside_once tables blocks bytes a b within.0 one two
+  pub says-once : (draft : Draft) (bytes : List ℕ) (a b : Draft) → IsWithin draft → Says v hs (names_of hs) draft bytes a → Says v hs (names_of hs) draft bytes b → a ≡ b
+  says-once (Outside tables blocks) bytes a b within one two = outside_once tables blocks bytes a b within.0 within.1 one two
   says-once (Inside tables blocks name x body) bytes a b within one two = inside_once tables blocks name x body bytes a b within.0 one two

@@ -22,7 +22,7 @@ use Rattle.tpal_syntax.specs.declared.instructions.Instr.TheVariants.{PrmSplit, 
 use Rattle.tpal_syntax.specs.declared.instructions.Instr.TheVariants.{Fetch, Put, Rows, Cols, Make}
 use Rattle.tpal_syntax.specs.declared.instructions.Instr.TheVariants.{Tick, Trap, Print, Emit}
 use Rattle.tpal_syntax.specs.declared.instructions.Term.{Term}
-use Rattle.tpal_syntax.specs.declared.instructions.Term.TheVariants.{Jump, Halt, Join}
+use Rattle.tpal_syntax.specs.declared.instructions.Term.TheVariants.{Jump, Halt, Join, Leave}
 use Rattle.tpal_syntax.specs.declared.notes.CutKind.{CutKind}
 use Rattle.tpal_syntax.specs.declared.notes.CutKind.TheVariants as cut
 use Rattle.tpal_syntax.specs.declared.notes.CarryAt.{CarryAt}
@@ -32,9 +32,11 @@ use Rattle.tpal_syntax.specs.declared.notes.Note.TheVariants as note
 use Rattle.tpal_syntax.specs.declared.blocks.CodeTable.{CodeTable}
 use Rattle.tpal_syntax.specs.declared.blocks.CodeTable.TheVariants.{Input, Made}
 use Rattle.tpal_syntax.specs.Parts.{is_word_byte, is_word}
+use Rattle.tpal_syntax.specs.declared.versions.Version.{Version}
+use Rattle.tpal_syntax.specs.declared.versions.Version.TheVariants.{One, Two}
 use Rattle.tpal_syntax.specs.Text.{line, value_text, alu_text, trap_text, instr_text, term_text}
 use Rattle.tpal_syntax.specs.Text.{rename_text, carry_text, carries_text, policy_text, kind_text}
-use Rattle.tpal_syntax.specs.Text.{note_text, header_text, table_line}
+use Rattle.tpal_syntax.specs.Text.{note_text, number_text, header_text, table_line}
 use Rattle.tpal_print.proofs.Pieces.{and_left, and_right}
 use Rattle.tpal_print.proofs.Unique.{word_rest}
 use Rattle.tpal_asm.specs.Lines.{pieces}
@@ -161,6 +163,7 @@ module _ (names : List (List ℕ)) (words : list_all is_word names ≡ true) whe
   term-clean (Jump value) = value_clean value
   term-clean Halt = refl
   term-clean (Join r) = decimal-clean r
+  term-clean (Leave rec value) = search (clean-append, decimal-clean) depth 16
 
   policy_clean : (comm : Bool) → Clean (policy_text comm)
   policy_clean false = refl
@@ -196,8 +199,14 @@ module _ (names : List (List ℕ)) (words : list_all is_word names ≡ true) whe
       let renames = list_clean rename_text rename_clean t.renames in
       search (clean-append, renames, policy_clean, label_clean, kind_clean, carries_clean) depth 16
 
-  pub header-clean : (name : List ℕ) (x : Note) → is_word name ≡ true → Clean (header_text names name x)
-  header-clean name x word = clean-append name (codes ": " ++ note_text names x) (word-clean name word) (note_clean x)
+  number_clean : (v : Version) (n : ℕ) → Clean (number_text v n)
+  number_clean One n = refl
+  number_clean Two n = decimal-clean n
+
+  pub header-clean : (v : Version) (n : ℕ) (name : List ℕ) (x : Note) → is_word name ≡ true → Clean (header_text v names n name x)
+  header-clean v n name x word =
+      clean-append name (number_text v n ++ (codes ": " ++ note_text names x)) (word-clean name word)
+      (clean-append (number_text v n) (codes ": " ++ note_text names x) (number_clean v n) (note_clean x))
 
   pub table-clean : (n : ℕ) (tables : List CodeTable) (table : CodeTable) → IsNewTable tables table → Clean (table_line n table)
   table-clean n tables (Input name) new = clean-append (decimal n) (codes " input " ++ name) (decimal-clean n) (word-clean name new.0)
@@ -220,16 +229,16 @@ pieces_lines (x ∷ lines) all =
     ap pieces (flat_map-cons line x lines ∙ append_assoc x (10 ∷ []) (flat_map line lines))
     ∙ pieces_line x (flat_map line lines) all.0 ∙ ap (λ (ls : List (List ℕ)). x ∷ ls) (pieces_lines lines all.1)
 
-says_clean : {heads : List Head} {names : List (List ℕ)} {draft : Draft} {bytes : List ℕ} {next : Draft} → Says heads names draft bytes next → list_all is_word names ≡ true → Clean bytes
-says_clean {heads} {names} (a_table tables table new) words = table-clean names words (length tables) tables table new
-says_clean {heads} {names} (a_header tables blocks name x word of) words = header-clean names words name x word
-says_clean {heads} {names} (an_instr tables blocks name x body i ok) words = instr-clean names words i
-says_clean {heads} {names} (an_end tables blocks name x body t ok) words = term-clean names words t
+says_clean : {v : Version} {heads : List Head} {names : List (List ℕ)} {draft : Draft} {bytes : List ℕ} {next : Draft} → Says v heads names draft bytes next → list_all is_word names ≡ true → Clean bytes
+says_clean {v} {heads} {names} (a_table tables table new) words = table-clean names words (length tables) tables table new
+says_clean {v} {heads} {names} (a_header tables blocks name x word of) words = header-clean names words v (length blocks) name x word
+says_clean {v} {heads} {names} (an_instr tables blocks name x body i ok) words = instr-clean names words i
+says_clean {v} {heads} {names} (an_end tables blocks name x body t ok stands) words = term-clean names words t
 
-leads_clean : {heads : List Head} {draft : Draft} {lines : List (List ℕ)} {last : Draft} → Leads heads draft lines last → list_all is_word (names_of heads) ≡ true → AllByRecursion Clean lines
+leads_clean : {v : Version} {heads : List Head} {draft : Draft} {lines : List (List ℕ)} {last : Draft} → Leads v heads draft lines last → list_all is_word (names_of heads) ≡ true → AllByRecursion Clean lines
 leads_clean (stay draft) words = tt
 leads_clean (go_on draft next last bytes lines says named within rest) words = (says_clean says words, leads_clean rest words)
 
 -- lines that lead on are the pieces of their text
-pub leads-pieces : {heads : List Head} {draft : Draft} {lines : List (List ℕ)} {last : Draft} → Leads heads draft lines last → list_all is_word (names_of heads) ≡ true → pieces (flat_map line lines) ≡ lines ++ [] ∷ []
-leads-pieces {heads} {draft} {lines} leads words = pieces_lines lines (leads_clean leads words)
+pub leads-pieces : {v : Version} {heads : List Head} {draft : Draft} {lines : List (List ℕ)} {last : Draft} → Leads v heads draft lines last → list_all is_word (names_of heads) ≡ true → pieces (flat_map line lines) ≡ lines ++ [] ∷ []
+leads-pieces {v} {heads} {draft} {lines} leads words = pieces_lines lines (leads_clean leads words)

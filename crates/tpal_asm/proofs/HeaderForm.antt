@@ -11,13 +11,14 @@ use Rattle.tpal_syntax.specs.declared.notes.CarryAt.TheVariants as carry
 use Rattle.tpal_syntax.specs.declared.notes.Note.{Note}
 use Rattle.tpal_syntax.specs.declared.notes.Note.TheVariants as note
 use Rattle.tpal_syntax.specs.declared.notes.Target.{Target}
+use Rattle.tpal_syntax.specs.declared.versions.Version.{Version}
 use Rattle.tpal_syntax.specs.Parts.{is_register, is_carry}
 use Rattle.tpal_syntax.specs.Readers.{Reading, ◌>>=◌, after, branch, many, with_more, is_digit}
 use Rattle.tpal_syntax.specs.Readers.{no_digit, digits_at, number_at, word_at, register_at}
 use Rattle.tpal_syntax.specs.Readers.{table_at, rename_at, next_rename_at, renames_at, carry_at}
 use Rattle.tpal_syntax.specs.Readers.{next_carry_at, carries_at, policy_at, kind_at}
 use Rattle.tpal_asm.specs.Reading.{ended, cut_rest, target_rest, ready_rest, jtppt_rest, note_rest}
-use Rattle.tpal_asm.specs.Reading.{header_rest}
+use Rattle.tpal_asm.specs.Reading.{number_rest_of, header_rest}
 use Rattle.tpal_asm.specs.Labels.{place_of}
 use Rattle.tpal_asm.specs.Drafts.{IsNoteForm}
 use Rattle.tpal_asm.proofs.Sound.{bind, chosen, none_some, same, digit_case, zero_case, first_case}
@@ -38,7 +39,7 @@ digits-within limit n (t ∷ ts) m rest le e =
       | inr h ↦ omega (arith, h.0, le)
     ]
 
-number-within : (limit : ℕ) (ts : List ℕ) (m : ℕ) (rest : List ℕ) → number_at limit ts ≡ Some (m, rest) → m ≤ limit
+pub number-within : (limit : ℕ) (ts : List ℕ) (m : ℕ) (rest : List ℕ) → number_at limit ts ≡ Some (m, rest) → m ≤ limit
 unfolding number_at
 number-within limit [] m rest e = absurd cc
 number-within limit (t ∷ ts) m rest e =
@@ -180,12 +181,13 @@ note-form n ts r e =
       ]
     ]
 
-pub header-form : (line name : List ℕ) (x : Note) → ended (header_rest no_label line) ≡ Some (name, x) → IsNoteForm 1 x
+pub header-form : (v : Version) (line name : List ℕ) (x : Note) → ended (header_rest v no_label line) ≡ Some (name, x) → IsNoteForm 1 x
 unfolding header_rest
-header-form line name x read =
-    let e = ended_is (header_rest no_label line) (name, x) read in
+header-form v line name x read =
+    let e = ended_is (header_rest v no_label line) (name, x) read in
     let a = bind (word_at line) _ ((name, x), e.0) e.1 in
-    let b = bind (after (codes ": ") a.0.1) _ ((name, x), e.0) a.2 in
+    let m = bind (number_rest_of v a.0.1) _ ((name, x), e.0) a.2 in
+    let b = bind (after (codes ": ") m.0.1) _ ((name, x), e.0) m.2 in
     let d = bind (note_rest no_label (length b.0) b.0) _ ((name, x), e.0) b.2 in
     let eq : ((a.0.0, d.0.0), d.0.1) ≡ ((name, x), e.0) = same _ _ d.2 in
     let is : d.0.0 ≡ x = ap (λ (p : (List ℕ × Note) × List ℕ). p.0.1) eq in

@@ -1,6 +1,7 @@
 -- From a draft outside of blocks to the next by the first line of a block.
 use Rattle.std.proofs.Common.{◌≡◌, ℕ, zero, suc, ◌≤◌, ◌<◌, true, false, List, [], ◌∷◌, ◌++◌, length}
-use Rattle.std.proofs.Common.{Some, None, get_or, refl, sym, ap, subst, ◌∙◌, inl, inr, arith}
+use Rattle.std.proofs.Common.{Option, Some, None, get_or, refl, sym, ap, subst, ◌∙◌, inl, inr}
+use Rattle.std.proofs.Common.{arith}
 use Rattle.std.specs.Prelude.{codes}
 use Rattle.std.specs.List.{list_all}
 use Rattle.std.proofs.lemmas.Bool.{lt-ltb, ltb-true, false≢true}
@@ -9,6 +10,8 @@ use Rattle.tpal_syntax.specs.declared.notes.Note.TheVariants as note
 use Rattle.tpal_syntax.specs.declared.notes.Target.{Target}
 use Rattle.tpal_syntax.specs.declared.blocks.Block.{Block}
 use Rattle.tpal_syntax.specs.declared.blocks.CodeTable.{CodeTable}
+use Rattle.tpal_syntax.specs.declared.versions.Version.{Version}
+use Rattle.tpal_syntax.specs.declared.versions.Version.TheVariants.{One, Two}
 use Rattle.tpal_syntax.specs.Parts.{is_word}
 use Rattle.tpal_syntax.specs.Conditions.{IsTarget, block_names}
 use Rattle.tpal_syntax.specs.Text.{header_text}
@@ -19,11 +22,12 @@ use Rattle.tpal_asm.specs.Labels.{Head, names_of, place_of, is_ready_name}
 use Rattle.tpal_asm.specs.Drafts.{IsNoteOf, Draft, Outside, Inside, Says, a_header, IsNewName}
 use Rattle.tpal_asm.specs.Drafts.{IsWithin, is_among}
 use Rattle.tpal_asm.specs.Faults.{IsFormed, IsLabelled, IsRight}
-use Rattle.tpal_asm.specs.Steps.{NoteFits}
+use Rattle.tpal_asm.specs.Steps.{NoteFits, is_next, is_next_by, is_numbered}
 use Rattle.tpal_asm.proofs.Sound.{Stands}
 use Rattle.tpal_asm.proofs.NoteSaid.{is_label_below}
 use Rattle.tpal_asm.proofs.InsideFaults.{Finds, stands_by, under}
-use Rattle.tpal_asm.proofs.HeaderLine.{SaidHeader, header-said, header_comes}
+use Rattle.tpal_asm.proofs.HeaderLine.{own_number, renumbered, header_comes, header_numbered}
+use Rattle.tpal_asm.proofs.HeaderLine.{SaidHeader, header-said}
 use Rattle.tpal_asm.proofs.Outside.{outside_says, is_no_table, note_of_form}
 
 -- a join target whose label is another one
@@ -55,39 +59,55 @@ was_target g t heads names tables (note.Target u) e of = (u, one _ _ e, of)
     one : (a b : Target) → note.Target a ≡ note.Target b → a ≡ b
     one a b e = cc
 
-module _ (heads : List Head) (tables : List CodeTable) (blocks : List Block) (few : length tables ≤ 16) (most : ℕ)
+module _ (v : Version) (heads : List Head) (tables : List CodeTable) (blocks : List Block) (few : length tables ≤ 16) (room : length blocks ≤ 65536) (most : ℕ)
     (finds : Finds (place_of heads) (names_of heads) most) (line bytes : List ℕ) (line_is : line ≡ bytes ++ (10 ∷ [])) (no_table : after (codes "table t") line ≡ None) where
   f : List ℕ → ℕ
   f = place_of heads
 
   -- a first line that stands there is read
-  reads : (names : List (List ℕ)) (next : Draft) → list_all is_word names ≡ true → Says heads names (Outside tables blocks) bytes next
-      → (name : List ℕ) × (x : Note) × (ended (header_rest (place_of heads) line) ≡ Some (name, relabel_note (λ l. place_of heads (get_or names l [])) x)) × IsNoteOf heads names (length tables) x × (next ≡ Inside tables blocks name x [])
+  reads : (names : List (List ℕ)) (next : Draft) → list_all is_word names ≡ true → Says v heads names (Outside tables blocks) bytes next
+      → (name : List ℕ) × (x : Note) × (ended (header_rest v (place_of heads) line) ≡ Some (name, relabel_note (λ l. place_of heads (get_or names l [])) x)) × IsNoteOf heads names (length tables) x × (next ≡ Inside tables blocks name x [])
   reads names next words says = elim (outside_says says) [
     | inl h ↦ absurd (is_no_table line bytes (length tables) h.0 no_table line_is h.2)
     | inr h ↦ (
       h.0,
       h.1,
-      ap (λ y. ended (header_rest (place_of heads) y)) (line_is ∙ ap (λ (y : List ℕ). y ++ (10 ∷ [])) h.4) ∙ header_comes (place_of heads) names h.0 h.1 words h.2 (note_of_form heads names (length tables) h.1 few h.3),
+      ap (λ y. ended (header_rest v (place_of heads) y)) (line_is ∙ ap (λ (y : List ℕ). y ++ (10 ∷ [])) h.4) ∙ header_comes v (place_of heads) names (length blocks) h.0 h.1 (omega (arith, room)) words h.2 (note_of_form heads names (length tables) h.1 few h.3),
       h.3,
       h.5,
     )
   ]
 
-  pub header_unread : ended (header_rest (place_of heads) line) ≡ None → ¬ IsFormed heads (Outside tables blocks) bytes
+  -- a first line that stands there has the number of the blocks before it
+  numbers : (names : List (List ℕ)) (next : Draft) → Says v heads names (Outside tables blocks) bytes next → is_numbered v (length blocks) line ≡ true
+  numbers names next says = elim (outside_says says) [
+    | inl h ↦ absurd (is_no_table line bytes (length tables) h.0 no_table line_is h.2)
+    | inr h ↦
+        ap (is_numbered v (length blocks)) (line_is ∙ ap (λ (y : List ℕ). y ++ (10 ∷ [])) h.4)
+        ∙ ap (λ (o : Option ℕ). is_next_by v o (length blocks)) (header_numbered v names (length blocks) h.0 h.1 (omega (arith, room)) h.2)
+        ∙ own_number v (length blocks)
+  ]
+
+  pub header_misnumbered : is_numbered v (length blocks) line ≡ false → ¬ IsFormed v heads (Outside tables blocks) bytes
+  header_misnumbered other formed = false≢true (sym other ∙ numbers formed.names formed.next formed.says)
+
+  pub header_unread : ended (header_rest v (place_of heads) line) ≡ None → ¬ IsFormed v heads (Outside tables blocks) bytes
   header_unread none formed = clash (sym none ∙ (reads formed.names formed.next formed.words formed.says).2)
     where
       clash : {A : Type 0} {a : A} → None ≡ Some a → ⊥
       clash e = cc
 
-  -- ---- a name and a note that were read
+  -- ---- a name and a note that were read, with the number of the blocks before
 
-  module _ (name : List ℕ) (x : Note) (read : ended (header_rest (place_of heads) line) ≡ Some (name, x)) where
-    said : SaidHeader (place_of heads) bytes name x
-    said = header-said (place_of heads) bytes line name x line_is read
+  module _ (name : List ℕ) (x : Note) (read : ended (header_rest v (place_of heads) line) ≡ Some (name, x)) (numbered : is_numbered v (length blocks) line ≡ true) where
+    said : SaidHeader v (place_of heads) bytes line name x
+    said = header-said v (place_of heads) bytes line name x line_is read
+
+    next_number : is_next v said.number (length blocks) ≡ true
+    next_number = sym (ap (λ (o : Option ℕ). is_next_by v o (length blocks)) said.numbered) ∙ numbered
 
     -- whatever the line says is this name and, with the labels given anew, this note
-    only : (names : List (List ℕ)) (next : Draft) → list_all is_word names ≡ true → Says heads names (Outside tables blocks) bytes next
+    only : (names : List (List ℕ)) (next : Draft) → list_all is_word names ≡ true → Says v heads names (Outside tables blocks) bytes next
         → (y : Note) × (x ≡ relabel_note (λ l. place_of heads (get_or names l [])) y) × IsNoteOf heads names (length tables) y × (next ≡ Inside tables blocks name y [])
     only names next words says =
         let r = reads names next words says in
@@ -102,10 +122,10 @@ module _ (heads : List Head) (tables : List CodeTable) (blocks : List Block) (fe
     at_place m h names is stands = ap (is_ready_name heads) stands ∙ ap (λ (k : ℕ). (get_or heads k ([], false)).1) is
 
     -- under names where its label stands, the line says this
-    says_under : (names : List (List ℕ)) → Stands (place_of heads) names said.marked.name → IsNoteOf heads names (length tables) x → Says heads names (Outside tables blocks) bytes (Inside tables blocks name x [])
+    says_under : (names : List (List ℕ)) → Stands (place_of heads) names said.marked.name → IsNoteOf heads names (length tables) x → Says v heads names (Outside tables blocks) bytes (Inside tables blocks name x [])
     says_under names stands of =
-        let P : List ℕ → Type 0 = λ y. Says heads names (Outside tables blocks) y (Inside tables blocks name x []) in
-        subst P (sym (said.spelled names stands)) (a_header tables blocks name x said.word of)
+        let P : List ℕ → Type 0 = λ y. Says v heads names (Outside tables blocks) y (Inside tables blocks name x []) in
+        subst P (sym (said.spelled names stands ∙ renumbered v names said.number (length blocks) name x next_number)) (a_header tables blocks name x said.word of)
 
     -- a note that fits is one of the text
     fits_of : (y : Note) → x ≡ y → NoteFits heads (length tables) y → IsNoteOf heads (names_of heads) (length tables) y
@@ -121,12 +141,12 @@ module _ (heads : List Head) (tables : List CodeTable) (blocks : List Block) (fe
     below_of (note.Ready h) of = lt-ltb h (length (names_of heads)) of.0
     below_of (note.Target t) of = lt-ltb t.comb (length (names_of heads)) of.comb_is_block
 
-    pub header_right : NoteFits heads (length tables) x → Says heads (names_of heads) (Outside tables blocks) bytes (Inside tables blocks name x [])
+    pub header_right : NoteFits heads (length tables) x → Says v heads (names_of heads) (Outside tables blocks) bytes (Inside tables blocks name x [])
     header_right fits =
         let of = fits_of x refl fits in
         says_under (names_of heads) (stands_by (place_of heads) (names_of heads) most said.marked.name finds (said.marked.within (length (names_of heads)) (below_of x of))) of
 
-    pub header_formed : NoteFits heads (length tables) x → IsFormed heads (Outside tables blocks) bytes
+    pub header_formed : NoteFits heads (length tables) x → IsFormed v heads (Outside tables blocks) bytes
     header_formed fits = record { names = names_of heads; next = Inside tables blocks name x []; words = finds.words; says = header_right fits }
 
     -- ---- repeated names, and too many blocks
@@ -134,30 +154,30 @@ module _ (heads : List Head) (tables : List CodeTable) (blocks : List Block) (fe
     next_name : (next : Draft) → (y : Note) × (next ≡ Inside tables blocks name y []) → IsNewName next → is_among name (block_names blocks) ≡ false
     next_name next h new = let P : Draft → Type 0 = λ s. IsNewName s in subst P h.1 new
 
-    pub header_repeated : is_among name (block_names blocks) ≡ true → ¬ IsLabelled heads (Outside tables blocks) bytes
+    pub header_repeated : is_among name (block_names blocks) ≡ true → ¬ IsLabelled v heads (Outside tables blocks) bytes
     header_repeated again labelled =
         let o = only (names_of heads) labelled.next finds.words labelled.says in
         false≢true (sym (next_name labelled.next (o.0, o.3) labelled.new) ∙ again)
 
-    pub header_many : 65536 ≤ length blocks → ¬ IsRight heads (Outside tables blocks) bytes
+    pub header_many : 65536 ≤ length blocks → ¬ IsRight v heads (Outside tables blocks) bytes
     header_many many right =
         let o = only (names_of heads) right.next finds.words right.says in
         let P : Draft → Type 0 = λ s. IsWithin s in
         let w : IsWithin (Inside tables blocks name o.0 []) = subst P o.3 right.within in
         omega (arith, w.1)
 
-    pub header_labelled : NoteFits heads (length tables) x → is_among name (block_names blocks) ≡ false → IsLabelled heads (Outside tables blocks) bytes
+    pub header_labelled : NoteFits heads (length tables) x → is_among name (block_names blocks) ≡ false → IsLabelled v heads (Outside tables blocks) bytes
     header_labelled fits new = record { next = Inside tables blocks name x []; says = header_right fits; new = new }
 
     -- ---- what is unfit of the note
 
-    pub ready_unformed : (h : ℕ) → x ≡ note.Ready h → (get_or heads h ([], false)).1 ≡ true → ¬ IsFormed heads (Outside tables blocks) bytes
+    pub ready_unformed : (h : ℕ) → x ≡ note.Ready h → (get_or heads h ([], false)).1 ≡ true → ¬ IsFormed v heads (Outside tables blocks) bytes
     ready_unformed h is ready formed =
         let o = only formed.names formed.next formed.words formed.says in
         let w = was_ready (λ l. place_of heads (get_or formed.names l [])) h heads formed.names (length tables) o.0 (sym is ∙ o.1) o.2 in
         false≢true (sym w.3 ∙ ap (λ (k : ℕ). (get_or heads k ([], false)).1) (sym w.1) ∙ ready)
 
-    pub target_unformed : (t : Target) → x ≡ note.Target t → ¬ IsTarget (length tables) most t → ¬ IsFormed heads (Outside tables blocks) bytes
+    pub target_unformed : (t : Target) → x ≡ note.Target t → ¬ IsTarget (length tables) most t → ¬ IsFormed v heads (Outside tables blocks) bytes
     target_unformed t is bad formed =
         let o = only formed.names formed.next formed.words formed.says in
         let g : ℕ → ℕ = λ l. place_of heads (get_or formed.names l []) in
@@ -165,21 +185,21 @@ module _ (heads : List Head) (tables : List CodeTable) (blocks : List Block) (fe
         let P : Target → Type 0 = λ u. IsTarget (length tables) most u in
         bad (subst P (sym w.1) (target_again (length tables) (length formed.names) most (g w.0.comb) w.0 w.2 (ltb-true (g w.0.comb) most (finds.low (get_or formed.names w.0.comb [])))))
 
-    pub ready_unlabelled : (h : ℕ) → x ≡ note.Ready h → length (names_of heads) ≤ h → ¬ IsLabelled heads (Outside tables blocks) bytes
+    pub ready_unlabelled : (h : ℕ) → x ≡ note.Ready h → length (names_of heads) ≤ h → ¬ IsLabelled v heads (Outside tables blocks) bytes
     ready_unlabelled h is far labelled =
         let o = only (names_of heads) labelled.next finds.words labelled.says in
         let w = was_ready (λ l. place_of heads (get_or (names_of heads) l [])) h heads (names_of heads) (length tables) o.0 (sym is ∙ o.1) o.2 in
         let low = ltb-true (place_of heads (get_or (names_of heads) w.0 [])) (length (names_of heads)) (finds.known w.0 (lt-ltb w.0 (length (names_of heads)) w.2)) in
         omega (arith, w.1, low)
 
-    pub target_unlabelled : (t : Target) → x ≡ note.Target t → length (names_of heads) ≤ t.comb → ¬ IsLabelled heads (Outside tables blocks) bytes
+    pub target_unlabelled : (t : Target) → x ≡ note.Target t → length (names_of heads) ≤ t.comb → ¬ IsLabelled v heads (Outside tables blocks) bytes
     target_unlabelled t is far labelled =
         let o = only (names_of heads) labelled.next finds.words labelled.says in
         let w = was_target (λ l. place_of heads (get_or (names_of heads) l [])) t heads (names_of heads) (length tables) o.0 (sym is ∙ o.1) o.2 in
         let low = ltb-true (place_of heads (get_or (names_of heads) w.0.comb [])) (length (names_of heads)) (finds.known w.0.comb (lt-ltb w.0.comb (length (names_of heads)) w.2.comb_is_block)) in
         omega (arith, ap (λ (u : Target). u.comb) w.1, low)
 
-    pub target_formed : (t : Target) → x ≡ note.Target t → IsTarget (length tables) most t → IsFormed heads (Outside tables blocks) bytes
+    pub target_formed : (t : Target) → x ≡ note.Target t → IsTarget (length tables) most t → IsFormed v heads (Outside tables blocks) bytes
     target_formed t is ok =
         let u = under (place_of heads) (names_of heads) most said.marked.name finds said.marked.word in
         let P : ℕ → Type 0 = λ n. IsTarget (length tables) n t in
@@ -189,9 +209,9 @@ module _ (heads : List Head) (tables : List CodeTable) (blocks : List Block) (fe
     -- a handler that is read is the place of its name, whatever the names
     own_place : (names : List (List ℕ)) (h : ℕ) → x ≡ note.Ready h → list_all is_word names ≡ true → h < length names → Stands (place_of heads) names said.marked.name → place_of heads (get_or names h []) ≡ h
     own_place names h is words lt stands =
-        let text : bytes ≡ header_text names name (note.Ready h) = said.spelled names stands ∙ ap (header_text names name) is in
-        let again : ended (header_rest (place_of heads) line) ≡ Some (name, note.Ready (place_of heads (get_or names h []))) =
-        ap (λ y. ended (header_rest (place_of heads) y)) (line_is ∙ ap (λ (y : List ℕ). y ++ (10 ∷ [])) text) ∙ header_comes (place_of heads) names name (note.Ready h) words said.word lt in
+        let text : bytes ≡ header_text v names said.number name (note.Ready h) = said.spelled names stands ∙ ap (header_text v names said.number name) is in
+        let again : ended (header_rest v (place_of heads) line) ≡ Some (name, note.Ready (place_of heads (get_or names h []))) =
+        ap (λ y. ended (header_rest v (place_of heads) y)) (line_is ∙ ap (λ (y : List ℕ). y ++ (10 ∷ [])) text) ∙ header_comes v (place_of heads) names said.number name (note.Ready h) said.low words said.word lt in
         one _ _ (ap (λ (p : List ℕ × Note). p.1) (pair _ _ (sym again ∙ read)) ∙ is)
       where
         pair : (a b : List ℕ × Note) → Some a ≡ Some b → a ≡ b
@@ -200,7 +220,7 @@ module _ (heads : List Head) (tables : List CodeTable) (blocks : List Block) (fe
         one : (a b : ℕ) → note.Ready a ≡ note.Ready b → a ≡ b
         one a b e = cc
 
-    pub ready_formed : (h : ℕ) → x ≡ note.Ready h → length (names_of heads) ≤ h → IsFormed heads (Outside tables blocks) bytes
+    pub ready_formed : (h : ℕ) → x ≡ note.Ready h → length (names_of heads) ≤ h → IsFormed v heads (Outside tables blocks) bytes
     ready_formed h is far =
         let u = under (place_of heads) (names_of heads) most said.marked.name finds said.marked.word in
         let m = said.handler h is in

@@ -1,7 +1,7 @@
 -- The names of the blocks of lines, one line after another.
 use Rattle.std.proofs.Common.{◌≡◌, ℕ, Bool, true, false, cond, ◌&&◌, List, [], ◌∷◌, ◌++◌, length}
 use Rattle.std.proofs.Common.{map, Option, Some, None, get_or, refl, sym, ap, subst, ◌∙◌}
-use Rattle.std.proofs.Common.{append_assoc, append-nil}
+use Rattle.std.proofs.Common.{append_assoc, append-nil, arith}
 use Rattle.std.specs.Prelude.{codes}
 use Rattle.std.specs.List.{list_all}
 use Rattle.std.proofs.lemmas.List.{map-append}
@@ -11,6 +11,7 @@ use Rattle.tpal_syntax.specs.declared.blocks.Block.{Block}
 use Rattle.tpal_syntax.specs.declared.blocks.CodeTable.{CodeTable}
 use Rattle.tpal_syntax.specs.declared.blocks.CodeTable.TheVariants.{Input, Made}
 use Rattle.std.specs.Fmt.{decimal}
+use Rattle.tpal_syntax.specs.declared.versions.Version.{Version}
 use Rattle.tpal_syntax.specs.Parts.{is_word}
 use Rattle.tpal_syntax.specs.Conditions.{is_ready, block_names}
 use Rattle.tpal_syntax.specs.Text.{header_text, table_line, instr_text, term_text}
@@ -34,11 +35,11 @@ head_seen None = None
 head_seen (Some read) = Some (read.0, is_ready read.1)
 
 -- what the line is read as, where all labels are 0
-abbrev pub read_line : List ℕ → Option (List ℕ × Note)
-read_line bytes = ended (header_rest (place_of []) (bytes ++ (10 ∷ [])))
+abbrev pub read_line : Version → List ℕ → Option (List ℕ × Note)
+read_line v bytes = ended (header_rest v (place_of []) (bytes ++ (10 ∷ [])))
 
-abbrev pub read_head : List ℕ → Option Head
-read_head bytes = head_seen (read_line bytes)
+abbrev pub read_head : Version → List ℕ → Option Head
+read_head v bytes = head_seen (read_line v bytes)
 
 ready_again : (g : ℕ → ℕ) (x : Note) → is_ready (relabel_note g x) ≡ is_ready x
 ready_again g note.Plain = refl
@@ -49,11 +50,11 @@ pair_is : {A : Type 0} {B : Type 0} (p : A × B) (b : B) → p.1 ≡ b → (p.0,
 pair_is p b e = ap (λ c. (p.0, c)) (sym e)
 
 -- each head is read
-pub head-read : (bytes : List ℕ) (head : Head) → IsHead bytes head → read_head bytes ≡ Some head
-head-read bytes head is =
+pub head-read : (v : Version) (bytes : List ℕ) (head : Head) → IsHead v bytes head → read_head v bytes ≡ Some head
+head-read v bytes head is =
     let g : ℕ → ℕ = λ l. place_of [] (get_or is.names l []) in
-    let come = header_comes (place_of []) is.names head.0 is.note is.words is.word is.form in
-    ap read_head is.spelled ∙ ap head_seen come
+    let come = header_comes v (place_of []) is.names is.number head.0 is.note is.low is.words is.word is.form in
+    ap (read_head v) is.spelled ∙ ap head_seen come
     ∙ ap (λ (b : Bool). Some (head.0, b)) (ready_again g is.note)
     ∙ ap (λ (p : Head). Some p) (pair_is head (is_ready is.note) is.readiness)
 
@@ -66,39 +67,41 @@ one_name : (name : Option (List ℕ)) → OnName (λ n. is_word n ≡ true) name
 one_name None ok = record { word = codes "a"; is = refl; stands = tt }
 one_name (Some n) ok = record { word = n; is = ok; stands = refl }
 
-said_head : (bytes name : List ℕ) (x : Note) → read_line bytes ≡ Some (name, x) → IsHead bytes (name, is_ready x)
-said_head bytes name x read =
-    let s = header-said (place_of []) bytes (bytes ++ (10 ∷ [])) name x refl read in
+said_head : (v : Version) (bytes name : List ℕ) (x : Note) → read_line v bytes ≡ Some (name, x) → IsHead v bytes (name, is_ready x)
+said_head v bytes name x read =
+    let s = header-said v (place_of []) bytes (bytes ++ (10 ∷ [])) name x refl read in
     let o = one_name s.marked.name s.marked.word in
     record {
       names = o.word ∷ [];
+      number = s.number;
       note = x;
       words = ap (λ (b : Bool). b && true) o.is;
       word = s.word;
-      form = header-form (bytes ++ (10 ∷ [])) name x read;
+      low = s.low;
+      form = header-form v (bytes ++ (10 ∷ [])) name x read;
       spelled = s.spelled (o.word ∷ []) o.stands;
       readiness = refl;
     }
 
 -- what is read is a head
-pub read-head : (bytes : List ℕ) (head : Head) → read_head bytes ≡ Some head → IsHead bytes head
-read-head bytes head e = go (read_line bytes) refl e
+pub read-head : (v : Version) (bytes : List ℕ) (head : Head) → read_head v bytes ≡ Some head → IsHead v bytes head
+read-head v bytes head e = go (read_line v bytes) refl e
   where
-    go : (o : Option (List ℕ × Note)) → read_line bytes ≡ o → head_seen o ≡ Some head → IsHead bytes head
+    go : (o : Option (List ℕ × Note)) → read_line v bytes ≡ o → head_seen o ≡ Some head → IsHead v bytes head
     go None q e = absurd cc
     go (Some read) q e =
         let is : (read.0, is_ready read.1) ≡ head = inner (read.0, is_ready read.1) head e in
-        subst (IsHead bytes) is (said_head bytes read.0 read.1 q)
+        subst (IsHead v bytes) is (said_head v bytes read.0 read.1 q)
       where
         inner : (a b : Head) → Some a ≡ Some b → a ≡ b
         inner a b e = cc
 
-pub read-none : (bytes : List ℕ) → ((head : Head) → ¬ IsHead bytes head) → read_head bytes ≡ None
-read-none bytes never = go (read_head bytes) refl
+pub read-none : (v : Version) (bytes : List ℕ) → ((head : Head) → ¬ IsHead v bytes head) → read_head v bytes ≡ None
+read-none v bytes never = go (read_head v bytes) refl
   where
-    go : (o : Option Head) → read_head bytes ≡ o → o ≡ None
+    go : (o : Option Head) → read_head v bytes ≡ o → o ≡ None
     go None e = refl
-    go (Some head) e = absurd (never head (read-head bytes head e))
+    go (Some head) e = absurd (never head (read-head v bytes head e))
 
 -- ---- the heads of lines
 
@@ -106,9 +109,9 @@ abbrev pub with_read : List Head → Option Head → List Head
 with_read hs None = hs
 with_read hs (Some head) = with_head hs head
 
-abbrev pub heads_after : List Head → List (List ℕ) → List Head
-heads_after hs [] = hs
-heads_after hs (bytes ∷ lines) = heads_after (with_read hs (read_head bytes)) lines
+abbrev pub heads_after : Version → List Head → List (List ℕ) → List Head
+heads_after v hs [] = hs
+heads_after v hs (bytes ∷ lines) = heads_after v (with_read hs (read_head v bytes)) lines
 
 new_one : (hs : List Head) (head : Head) → is_among head.0 (names_of hs) ≡ false → with_head hs head ≡ hs ++ head ∷ []
 new_one hs head e = ap (λ (b : Bool). cond b hs (hs ++ head ∷ [])) e
@@ -116,34 +119,34 @@ new_one hs head e = ap (λ (b : Bool). cond b hs (hs ++ head ∷ [])) e
 known_one : (hs : List Head) (head : Head) → is_among head.0 (names_of hs) ≡ true → with_head hs head ≡ hs
 known_one hs head e = ap (λ (b : Bool). cond b hs (hs ++ head ∷ [])) e
 
-pub heads-are : {hs : List Head} {lines : List (List ℕ)} {last : List Head} → AreHeads hs lines last → last ≡ heads_after hs lines
-heads-are (no_line heads) = refl
-heads-are (new_head heads last head bytes lines is new rest) =
-    heads-are rest ∙ ap (λ (hs : List Head). heads_after hs lines) (sym (ap (with_read heads) (head-read bytes head is) ∙ new_one heads head new))
-heads-are (known_head heads last head bytes lines is known rest) =
-    heads-are rest ∙ ap (λ (hs : List Head). heads_after hs lines) (sym (ap (with_read heads) (head-read bytes head is) ∙ known_one heads head known))
-heads-are (no_head heads last bytes lines never rest) =
-    heads-are rest ∙ ap (λ (hs : List Head). heads_after hs lines) (sym (ap (with_read heads) (read-none bytes never)))
+pub heads-are : {v : Version} {hs : List Head} {lines : List (List ℕ)} {last : List Head} → AreHeads v hs lines last → last ≡ heads_after v hs lines
+heads-are {v} (no_line heads) = refl
+heads-are {v} (new_head heads last head bytes lines is new rest) =
+    heads-are rest ∙ ap (λ (hs : List Head). heads_after v hs lines) (sym (ap (with_read heads) (head-read v bytes head is) ∙ new_one heads head new))
+heads-are {v} (known_head heads last head bytes lines is known rest) =
+    heads-are rest ∙ ap (λ (hs : List Head). heads_after v hs lines) (sym (ap (with_read heads) (head-read v bytes head is) ∙ known_one heads head known))
+heads-are {v} (no_head heads last bytes lines never rest) =
+    heads-are rest ∙ ap (λ (hs : List Head). heads_after v hs lines) (sym (ap (with_read heads) (read-none v bytes never)))
 
-one_more : (hs : List Head) (bytes : List ℕ) (lines : List (List ℕ)) (head : Head) (b : Bool) (last : List Head) → IsHead bytes head → is_among head.0 (names_of hs) ≡ b
-    → AreHeads (cond b hs (hs ++ head ∷ [])) lines last → AreHeads hs (bytes ∷ lines) last
-one_more hs bytes lines head true last is e rest = known_head hs last head bytes lines is e rest
-one_more hs bytes lines head false last is e rest = new_head hs last head bytes lines is e rest
+one_more : (v : Version) (hs : List Head) (bytes : List ℕ) (lines : List (List ℕ)) (head : Head) (b : Bool) (last : List Head) → IsHead v bytes head → is_among head.0 (names_of hs) ≡ b
+    → AreHeads v (cond b hs (hs ++ head ∷ [])) lines last → AreHeads v hs (bytes ∷ lines) last
+one_more v hs bytes lines head true last is e rest = known_head hs last head bytes lines is e rest
+one_more v hs bytes lines head false last is e rest = new_head hs last head bytes lines is e rest
 
-step_head : (hs : List Head) (bytes : List ℕ) (lines : List (List ℕ)) (o : Option Head) (last : List Head) → read_head bytes ≡ o → AreHeads (with_read hs o) lines last → AreHeads hs (bytes ∷ lines) last
-step_head hs bytes lines None last e rest = no_head hs last bytes lines (λ head is. clash head (sym e ∙ head-read bytes head is)) rest
+step_head : (v : Version) (hs : List Head) (bytes : List ℕ) (lines : List (List ℕ)) (o : Option Head) (last : List Head) → read_head v bytes ≡ o → AreHeads v (with_read hs o) lines last → AreHeads v hs (bytes ∷ lines) last
+step_head v hs bytes lines None last e rest = no_head hs last bytes lines (λ head is. clash head (sym e ∙ head-read v bytes head is)) rest
   where
     clash : (head : Head) → None ≡ Some head → ⊥
     clash head e = cc
-step_head hs bytes lines (Some head) last e rest = one_more hs bytes lines head (is_among head.0 (names_of hs)) last (read-head bytes head e) refl rest
+step_head v hs bytes lines (Some head) last e rest = one_more v hs bytes lines head (is_among head.0 (names_of hs)) last (read-head v bytes head e) refl rest
 
-pub are-heads : (hs : List Head) (lines : List (List ℕ)) → AreHeads hs lines (heads_after hs lines)
-are-heads hs [] = no_line hs
-are-heads hs (bytes ∷ lines) = step_head hs bytes lines (read_head bytes) (heads_after hs (bytes ∷ lines)) refl (are-heads (with_read hs (read_head bytes)) lines)
+pub are-heads : (v : Version) (hs : List Head) (lines : List (List ℕ)) → AreHeads v hs lines (heads_after v hs lines)
+are-heads v hs [] = no_line hs
+are-heads v hs (bytes ∷ lines) = step_head v hs bytes lines (read_head v bytes) (heads_after v hs (bytes ∷ lines)) refl (are-heads v (with_read hs (read_head v bytes)) lines)
 
-pub heads-append : (hs : List Head) (xs ys : List (List ℕ)) → heads_after hs (xs ++ ys) ≡ heads_after (heads_after hs xs) ys
-heads-append hs [] ys = refl
-heads-append hs (x ∷ xs) ys = heads-append (with_read hs (read_head x)) xs ys
+pub heads-append : (v : Version) (hs : List Head) (xs ys : List (List ℕ)) → heads_after v hs (xs ++ ys) ≡ heads_after v (heads_after v hs xs) ys
+heads-append v hs [] ys = refl
+heads-append v hs (x ∷ xs) ys = heads-append v (with_read hs (read_head v x)) xs ys
 
 -- the names that were known come first
 more_by : (hs : List Head) (o : Option Head) → (more : List Head) × (with_read hs o ≡ hs ++ more)
@@ -154,11 +157,11 @@ more_by hs (Some head) = go (is_among head.0 (names_of hs))
     go true = ([], sym (append-nil hs))
     go false = (head ∷ [], refl)
 
-pub heads-front : (hs : List Head) (lines : List (List ℕ)) → (more : List Head) × (heads_after hs lines ≡ hs ++ more)
-heads-front hs [] = ([], sym (append-nil hs))
-heads-front hs (bytes ∷ lines) =
-    let one = more_by hs (read_head bytes) in
-    let rest = heads-front (with_read hs (read_head bytes)) lines in
+pub heads-front : (v : Version) (hs : List Head) (lines : List (List ℕ)) → (more : List Head) × (heads_after v hs lines ≡ hs ++ more)
+heads-front v hs [] = ([], sym (append-nil hs))
+heads-front v hs (bytes ∷ lines) =
+    let one = more_by hs (read_head v bytes) in
+    let rest = heads-front v (with_read hs (read_head v bytes)) lines in
     (one.0 ++ rest.0, rest.1 ∙ ap (λ (xs : List Head). xs ++ rest.0) one.1 ∙ append_assoc hs one.0 rest.0)
 
 -- ---- the heads of drafts
@@ -174,34 +177,34 @@ pub names-heads : (blocks : List Block) → names_of (map block_head blocks) ≡
 names-heads [] = refl
 names-heads (b ∷ blocks) = ap (λ (ns : List (List ℕ)). b.name ∷ ns) (names-heads blocks)
 
-no_table_head : (n : ℕ) (table : CodeTable) (head : Head) → ¬ IsHead (table_line n table) head
-no_table_head n (Input name) head is =
-    no_header is.names head.0 ((decimal n ++ (codes " input " ++ name)) ++ (10 ∷ [])) is.note is.word (ap (λ (y : List ℕ). y ++ (10 ∷ [])) (sym is.spelled))
-no_table_head n Made head is =
-    no_header is.names head.0 ((decimal n ++ codes " made") ++ (10 ∷ [])) is.note is.word (ap (λ (y : List ℕ). y ++ (10 ∷ [])) (sym is.spelled))
+no_table_head : (v : Version) (n : ℕ) (table : CodeTable) (head : Head) → ¬ IsHead v (table_line n table) head
+no_table_head v n (Input name) head is =
+    no_header v is.names is.number head.0 ((decimal n ++ (codes " input " ++ name)) ++ (10 ∷ [])) is.note is.word (ap (λ (y : List ℕ). y ++ (10 ∷ [])) (sym is.spelled))
+no_table_head v n Made head is =
+    no_header v is.names is.number head.0 ((decimal n ++ codes " made") ++ (10 ∷ [])) is.note is.word (ap (λ (y : List ℕ). y ++ (10 ∷ [])) (sym is.spelled))
 
-spaces_none : (text : List ℕ) → read_head (codes "  " ++ text) ≡ None
+spaces_none : (v : Version) (text : List ℕ) → read_head v (codes "  " ++ text) ≡ None
 unfolding header_rest word_at
-spaces_none text = refl
+spaces_none v text = refl
 
 -- what a line says is what is read of it
-pub says-heads : {hs : List Head} {names : List (List ℕ)} {draft : Draft} {bytes : List ℕ} {next : Draft} → Says hs names draft bytes next → list_all is_word names ≡ true → IsNewName next → IsWithin next
-    → with_read (stage_heads draft) (read_head bytes) ≡ stage_heads next
-says-heads {hs} {names} (a_table tables table new) words named within = ap (with_read []) (read-none (table_line (length tables) table) (no_table_head (length tables) table))
-says-heads {hs} {names} (a_header tables blocks name x word of) words named within =
-    let is : IsHead (header_text names name x) (name, is_ready x) = record { names = names; note = x; words = words; word = word; form = note_of_form hs names (length tables) x within.0 of; spelled = refl; readiness = refl } in
+pub says-heads : {v : Version} {hs : List Head} {names : List (List ℕ)} {draft : Draft} {bytes : List ℕ} {next : Draft} → Says v hs names draft bytes next → list_all is_word names ≡ true → IsNewName next → IsWithin next
+    → with_read (stage_heads draft) (read_head v bytes) ≡ stage_heads next
+says-heads {v} {hs} {names} (a_table tables table new) words named within = ap (with_read []) (read-none v (table_line (length tables) table) (no_table_head v (length tables) table))
+says-heads {v} {hs} {names} (a_header tables blocks name x word of) words named within =
+    let is : IsHead v (header_text v names (length blocks) name x) (name, is_ready x) = record { names = names; number = length blocks; note = x; words = words; word = word; low = omega (arith, within.1); form = note_of_form hs names (length tables) x within.0 of; spelled = refl; readiness = refl } in
     let new : is_among name (names_of (map block_head blocks)) ≡ false = ap (is_among name) (names-heads blocks) ∙ named in
-    ap (with_read (map block_head blocks)) (head-read (header_text names name x) (name, is_ready x) is) ∙ new_one (map block_head blocks) (name, is_ready x) new
-says-heads {hs} {names} (an_instr tables blocks name x body i ok) words named within =
-    ap (with_read (map block_head blocks ++ (name, is_ready x) ∷ [])) (spaces_none (instr_text names i))
-says-heads {hs} {names} (an_end tables blocks name x body t ok) words named within =
-    ap (with_read (map block_head blocks ++ (name, is_ready x) ∷ [])) (spaces_none (term_text names t))
+    ap (with_read (map block_head blocks)) (head-read v (header_text v names (length blocks) name x) (name, is_ready x) is) ∙ new_one (map block_head blocks) (name, is_ready x) new
+says-heads {v} {hs} {names} (an_instr tables blocks name x body i ok) words named within =
+    ap (with_read (map block_head blocks ++ (name, is_ready x) ∷ [])) (spaces_none v (instr_text names i))
+says-heads {v} {hs} {names} (an_end tables blocks name x body t ok stands) words named within =
+    ap (with_read (map block_head blocks ++ (name, is_ready x) ∷ [])) (spaces_none v (term_text names t))
     ∙ sym (map-append block_head blocks (record { name = name; note = x; body = body; term = t } ∷ []))
 
-pub leads-heads : {hs : List Head} {draft : Draft} {lines : List (List ℕ)} {last : Draft} → Leads hs draft lines last → list_all is_word (names_of hs) ≡ true → heads_after (stage_heads draft) lines ≡ stage_heads last
-leads-heads (stay draft) words = refl
-leads-heads (go_on draft next last bytes lines says named within rest) words =
-    ap (λ (hs : List Head). heads_after hs lines) (says-heads says words named within) ∙ leads-heads rest words
+pub leads-heads : {v : Version} {hs : List Head} {draft : Draft} {lines : List (List ℕ)} {last : Draft} → Leads v hs draft lines last → list_all is_word (names_of hs) ≡ true → heads_after v (stage_heads draft) lines ≡ stage_heads last
+leads-heads {v} (stay draft) words = refl
+leads-heads {v} (go_on draft next last bytes lines says named within rest) words =
+    ap (λ (hs : List Head). heads_after v hs lines) (says-heads says words named within) ∙ leads-heads rest words
 
 -- ---- the whole blocks are the first ones of the text
 
@@ -217,11 +220,11 @@ names_front (Outside tables blocks) = ([], names-heads blocks ∙ sym (append-ni
 names_front (Inside tables blocks name x body) =
     (name ∷ [], names_append (map block_head blocks) ((name, is_ready x) ∷ []) ∙ ap (λ (ns : List (List ℕ)). ns ++ name ∷ []) (names-heads blocks))
 
-pub blocks-front : (hs : List Head) (draft : Draft) (before behind : List (List ℕ)) → AreHeads [] (before ++ behind) hs → Leads hs (Outside [] []) before draft → list_all is_word (names_of hs) ≡ true
+pub blocks-front : (v : Version) (hs : List Head) (draft : Draft) (before behind : List (List ℕ)) → AreHeads v [] (before ++ behind) hs → Leads v hs (Outside [] []) before draft → list_all is_word (names_of hs) ≡ true
     → (more : List (List ℕ)) × (names_of hs ≡ block_names (blocks_of draft) ++ more)
-blocks-front hs draft before behind are leads words =
-    let all : hs ≡ heads_after (stage_heads draft) behind = heads-are are ∙ heads-append [] before behind ∙ ap (λ (xs : List Head). heads_after xs behind) (leads-heads leads words) in
-    let rest = heads-front (stage_heads draft) behind in
+blocks-front v hs draft before behind are leads words =
+    let all : hs ≡ heads_after v (stage_heads draft) behind = heads-are are ∙ heads-append v [] before behind ∙ ap (λ (xs : List Head). heads_after v xs behind) (leads-heads leads words) in
+    let rest = heads-front v (stage_heads draft) behind in
     let front = names_front draft in (
       front.0 ++ names_of rest.0,
       ap names_of (all ∙ rest.1) ∙ names_append (stage_heads draft) rest.0 ∙ ap (λ (ns : List (List ℕ)). ns ++ names_of rest.0) front.1 ∙ append_assoc (block_names (blocks_of draft)) front.0 (names_of rest.0),

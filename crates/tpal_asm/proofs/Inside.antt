@@ -1,6 +1,7 @@
 -- Lines of a block that has begun.
 use Rattle.std.proofs.Common.{◌≡◌, ◌⊎◌, ℕ, zero, suc, ◌<◌, Bool, true, false, ltb, ◌&&◌, List, []}
-use Rattle.std.proofs.Common.{◌∷◌, ◌++◌, length, refl, ap, ◌∙◌, inl, inr, length-append, arith}
+use Rattle.std.proofs.Common.{◌∷◌, ◌++◌, length, Some, get_or, refl, ap, ◌∙◌, inl, inr}
+use Rattle.std.proofs.Common.{length-append, arith}
 use Rattle.std.specs.Prelude.{codes}
 use Rattle.std.specs.List.{list_all}
 use Rattle.std.proofs.lemmas.Bool.{lt-ltb, ltb-true}
@@ -14,21 +15,25 @@ use Rattle.tpal_syntax.specs.declared.instructions.Instr.TheVariants.{PrmSplit, 
 use Rattle.tpal_syntax.specs.declared.instructions.Instr.TheVariants.{Fetch, Put, Rows, Cols, Make}
 use Rattle.tpal_syntax.specs.declared.instructions.Instr.TheVariants.{Tick, Trap, Print, Emit}
 use Rattle.tpal_syntax.specs.declared.instructions.Term.{Term}
-use Rattle.tpal_syntax.specs.declared.instructions.Term.TheVariants.{Jump, Halt, Join}
+use Rattle.tpal_syntax.specs.declared.instructions.Term.TheVariants.{Jump, Halt, Join, Leave}
 use Rattle.tpal_syntax.specs.declared.notes.Note.{Note}
 use Rattle.tpal_syntax.specs.declared.blocks.Block.{Block}
 use Rattle.tpal_syntax.specs.declared.blocks.CodeTable.{CodeTable}
 use Rattle.tpal_syntax.specs.Parts.{is_word, is_register, is_offset, is_size, is_value, is_instr}
 use Rattle.tpal_syntax.specs.Parts.{is_term}
-use Rattle.tpal_syntax.specs.Text.{instr_text, term_text}
+use Rattle.tpal_syntax.specs.declared.versions.Version.{Version}
+use Rattle.tpal_syntax.specs.declared.versions.Version.TheVariants.{One, Two}
+use Rattle.tpal_syntax.specs.Text.{instr_text, term_text, stands_in}
 use Rattle.tpal_print.proofs.Reading.{instr_at, term_at, relabel, relabel_value, relabel_term}
 use Rattle.tpal_print.proofs.Pieces.{Words, and_left, and_right}
+use Rattle.tpal_print.proofs.Lines.{term_comes}
 use Rattle.tpal_asm.specs.Reading.{if_jump_rest, store_rest, salloc_rest, sfree_rest, prmpush_rest}
 use Rattle.tpal_asm.specs.Reading.{prmpop_rest, prmempty_rest, prmsplit_rest, fork_rest, put_rest}
 use Rattle.tpal_asm.specs.Reading.{make_rest, trap_rest, print_rest, emit_rest, load_rest}
 use Rattle.tpal_asm.specs.Reading.{jralloc_rest, fetch_rest, rows_rest, cols_rest, move_rest}
 use Rattle.tpal_asm.specs.Reading.{assigned_rest, changed_rest, stack_rest, table_rest, other_rest}
-use Rattle.tpal_asm.specs.Reading.{instr_rest, jump_rest, join_rest, term_rest}
+use Rattle.tpal_asm.specs.Reading.{instr_rest, jump_rest, join_rest, leave_rest, left_rest}
+use Rattle.tpal_asm.specs.Reading.{term_rest}
 use Rattle.tpal_asm.specs.Labels.{Head}
 use Rattle.tpal_asm.specs.Drafts.{Draft, Inside, Says, an_instr, an_end, Outside}
 
@@ -37,9 +42,23 @@ pub instr-same : (f : List ℕ → ℕ) (ts : List ℕ) → instr_rest f ts ≡ 
 unfolding instr_rest changed_rest assigned_rest move_rest stack_rest other_rest table_rest if_jump_rest store_rest salloc_rest sfree_rest prmpush_rest prmpop_rest prmempty_rest prmsplit_rest fork_rest put_rest make_rest trap_rest print_rest emit_rest load_rest jralloc_rest fetch_rest rows_rest cols_rest
 instr-same f ts = refl
 
-pub term-same : (f : List ℕ → ℕ) (ts : List ℕ) → term_rest f ts ≡ term_at f ts
-unfolding term_rest jump_rest join_rest
+term-same : (f : List ℕ → ℕ) (ts : List ℕ) → term_rest Two f ts ≡ term_at f ts
+unfolding term_rest jump_rest join_rest left_rest leave_rest
 term-same f ts = refl
+
+two_comes : (f : List ℕ → ℕ) (names : List (List ℕ)) (blocks : ℕ) (t : Term) (more : List ℕ) → Words names blocks → is_term blocks t ≡ true
+    → term_rest Two f (term_text names t ++ (10 ∷ more)) ≡ Some (relabel_term (λ l. f (get_or names l [])) t, 10 ∷ more)
+two_comes f names blocks t more words ok = term-same f (term_text names t ++ (10 ∷ more)) ∙ term_comes f names blocks t more words ok
+
+-- an end that stands in texts of the version is read from its line
+pub term-comes : (v : Version) (f : List ℕ → ℕ) (names : List (List ℕ)) (blocks : ℕ) (t : Term) (more : List ℕ) → Words names blocks → is_term blocks t ≡ true → stands_in v t ≡ true
+    → term_rest v f (term_text names t ++ (10 ∷ more)) ≡ Some (relabel_term (λ l. f (get_or names l [])) t, 10 ∷ more)
+unfolding term_rest
+term-comes Two f names blocks t more words ok stands = two_comes f names blocks t more words ok
+term-comes One f names blocks (Jump value) more words ok stands = two_comes f names blocks (Jump value) more words ok
+term-comes One f names blocks Halt more words ok stands = two_comes f names blocks Halt more words ok
+term-comes One f names blocks (Join r) more words ok stands = two_comes f names blocks (Join r) more words ok
+term-comes One f names blocks (Leave rec value) more words ok stands = absurd cc
 
 -- ---- ends of lines
 
@@ -99,6 +118,7 @@ pub term_again : (h : ℕ → ℕ) (blocks most : ℕ) → ((l : ℕ) → ltb l 
 term_again h blocks most below (Jump value) ok = value_again h blocks most below value ok
 term_again h blocks most below Halt ok = refl
 term_again h blocks most below (Join r) ok = ok
+term_again h blocks most below (Leave rec value) ok = ok
 
 -- ---- names
 
@@ -111,9 +131,9 @@ words-all (n ∷ names) ok (suc l) lt =
 
 -- ---- what a line inside a block says, and the next draft
 
-pub inside_says : {heads : List Head} {names : List (List ℕ)} {tables : List CodeTable} {blocks : List Block} {name : List ℕ} {x : Note} {body : List Instr} {bytes : List ℕ} {next : Draft}
-    → Says heads names (Inside tables blocks name x body) bytes next
+pub inside_says : {v : Version} {heads : List Head} {names : List (List ℕ)} {tables : List CodeTable} {blocks : List Block} {name : List ℕ} {x : Note} {body : List Instr} {bytes : List ℕ} {next : Draft}
+    → Says v heads names (Inside tables blocks name x body) bytes next
     → ((i : Instr) × (is_instr (length tables) (length names) i ≡ true) × (bytes ≡ codes "  " ++ instr_text names i) × (next ≡ Inside tables blocks name x (body ++ i ∷ [])))
-    ⊎ ((t : Term) × (is_term (length names) t ≡ true) × (bytes ≡ codes "  " ++ term_text names t) × (next ≡ Outside tables (blocks ++ record { name = name; note = x; body = body; term = t } ∷ [])))
+    ⊎ ((t : Term) × (is_term (length names) t ≡ true) × (bytes ≡ codes "  " ++ term_text names t) × (next ≡ Outside tables (blocks ++ record { name = name; note = x; body = body; term = t } ∷ [])) × (stands_in v t ≡ true))
 inside_says (an_instr tables blocks name x body i ok) = inl (i, ok, refl, refl)
-inside_says (an_end tables blocks name x body t ok) = inr (t, ok, refl, refl)
+inside_says (an_end tables blocks name x body t ok stands) = inr (t, ok, refl, refl, stands)

@@ -11,16 +11,17 @@ use Rattle.tpal_syntax.specs.declared.notes.Note.{Note}
 use Rattle.tpal_syntax.specs.declared.blocks.Block.{Block}
 use Rattle.tpal_syntax.specs.declared.blocks.CodeTable.{CodeTable}
 use Rattle.tpal_syntax.specs.Parts.{is_word, is_instr, is_term}
-use Rattle.tpal_syntax.specs.Text.{instr_text, term_text}
+use Rattle.tpal_syntax.specs.declared.versions.Version.{Version}
+use Rattle.tpal_syntax.specs.Text.{instr_text, term_text, stands_in}
 use Rattle.tpal_print.proofs.Reading.{relabel, relabel_term}
-use Rattle.tpal_print.proofs.Lines.{instr_comes, term_comes, term_is_no_instr}
+use Rattle.tpal_print.proofs.Lines.{instr_comes, term_is_no_instr}
 use Rattle.tpal_asm.specs.Reading.{ended, instr_rest, term_rest}
 use Rattle.tpal_asm.specs.Labels.{Head, names_of}
 use Rattle.tpal_asm.specs.Drafts.{Draft, Outside, Inside, Says, an_instr, an_end}
 use Rattle.tpal_asm.specs.Faults.{IsFormed, IsLabelled}
 use Rattle.tpal_asm.proofs.Sound.{OnName, Stands}
-use Rattle.tpal_asm.proofs.Said.{SaidInstr, SaidTerm, instr-said, term-said}
-use Rattle.tpal_asm.proofs.Inside.{instr-same, term-same, end_is, instr_again, term_again}
+use Rattle.tpal_asm.proofs.Said.{SaidInstr, SaidTerm, instr-said, term-said, term-stands}
+use Rattle.tpal_asm.proofs.Inside.{instr-same, term-comes, end_is, instr_again, term_again}
 use Rattle.tpal_asm.proofs.Inside.{words-all, inside_says}
 
 -- Each name's label is below `most`. Where it is below the number of names it is the name's own, and each of the names has one.
@@ -82,7 +83,7 @@ under f names most (Some n) finds word =
 
 -- ---- a line that begins with two spaces
 
-module _ (heads : List Head) (tables : List CodeTable) (blocks : List Block) (name : List ℕ) (x : Note) (body : List Instr) (f : List ℕ → ℕ) (most : ℕ)
+module _ (v : Version) (heads : List Head) (tables : List CodeTable) (blocks : List Block) (name : List ℕ) (x : Note) (body : List Instr) (f : List ℕ → ℕ) (most : ℕ)
     (finds : Finds f (names_of heads) most) (few : length tables ≤ 16) (us bytes : List ℕ) (line : bytes ++ (10 ∷ []) ≡ 32 ∷ 32 ∷ us) where
   -- what stands behind the spaces
   behind_spaces : (text : List ℕ) → bytes ≡ codes "  " ++ text → us ≡ text ++ (10 ∷ [])
@@ -98,11 +99,11 @@ module _ (heads : List Head) (tables : List CodeTable) (blocks : List Block) (na
       ap (λ (y : List ℕ). ended (instr_rest f y)) (behind_spaces (instr_text names i) e)
       ∙ ap ended (instr-same f (instr_text names i ++ (10 ∷ [])) ∙ instr_comes f names (length tables) (length names) i [] (words-all names words) few ok)
 
-  reads_term : (names : List (List ℕ)) (t : Term) → list_all is_word names ≡ true → is_term (length names) t ≡ true → bytes ≡ codes "  " ++ term_text names t
-      → ended (term_rest f us) ≡ Some (relabel_term (λ l. f (get_or names l [])) t)
-  reads_term names t words ok e =
-      ap (λ (y : List ℕ). ended (term_rest f y)) (behind_spaces (term_text names t) e)
-      ∙ ap ended (term-same f (term_text names t ++ (10 ∷ [])) ∙ term_comes f names (length names) t [] (words-all names words) ok)
+  reads_term : (names : List (List ℕ)) (t : Term) → list_all is_word names ≡ true → is_term (length names) t ≡ true → stands_in v t ≡ true → bytes ≡ codes "  " ++ term_text names t
+      → ended (term_rest v f us) ≡ Some (relabel_term (λ l. f (get_or names l [])) t)
+  reads_term names t words ok stands e =
+      ap (λ (y : List ℕ). ended (term_rest v f y)) (behind_spaces (term_text names t) e)
+      ∙ ap ended (term-comes v f names (length names) t [] (words-all names words) ok stands)
 
   -- an end that stands there is read as no instruction
   reads_no_instr : (names : List (List ℕ)) (t : Term) → bytes ≡ codes "  " ++ term_text names t → ended (instr_rest f us) ≡ None
@@ -110,10 +111,10 @@ module _ (heads : List Head) (tables : List CodeTable) (blocks : List Block) (na
       ap (λ (y : List ℕ). ended (instr_rest f y)) (behind_spaces (term_text names t) e)
       ∙ ap ended (instr-same f (term_text names t ++ (10 ∷ [])) ∙ term_is_no_instr f names t (10 ∷ []))
 
-  pub neither : ended (instr_rest f us) ≡ None → ended (term_rest f us) ≡ None → ¬ IsFormed heads (Inside tables blocks name x body) bytes
+  pub neither : ended (instr_rest f us) ≡ None → ended (term_rest v f us) ≡ None → ¬ IsFormed v heads (Inside tables blocks name x body) bytes
   neither no_instr no_term formed = elim (inside_says formed.says) [
     | inl h ↦ clash (sym no_instr ∙ reads_instr formed.names h.0 formed.words h.1 h.2)
-    | inr h ↦ clash (sym no_term ∙ reads_term formed.names h.0 formed.words h.1 h.2)
+    | inr h ↦ clash (sym no_term ∙ reads_term formed.names h.0 formed.words h.1 h.4 h.2)
   ]
     where
       clash : {A : Type 0} {a : A} → None ≡ Some a → ⊥
@@ -134,10 +135,10 @@ module _ (heads : List Head) (tables : List CodeTable) (blocks : List Block) (na
     pub instr_right : is_instr (length tables) (length (names_of heads)) i ≡ true → bytes ≡ codes "  " ++ instr_text (names_of heads) i
     instr_right ok = spelled_under (names_of heads) (stands_by f (names_of heads) most said.name finds (said.within (length (names_of heads)) ok))
 
-    pub instr_formed : is_instr (length tables) most i ≡ true → IsFormed heads (Inside tables blocks name x body) bytes
+    pub instr_formed : is_instr (length tables) most i ≡ true → IsFormed v heads (Inside tables blocks name x body) bytes
     instr_formed ok =
         let u = under f (names_of heads) most said.name finds said.word in
-        let P : List ℕ → Type 0 = λ y. Says heads u.names (Inside tables blocks name x body) y (Inside tables blocks name x (body ++ i ∷ [])) in
+        let P : List ℕ → Type 0 = λ y. Says v heads u.names (Inside tables blocks name x body) y (Inside tables blocks name x (body ++ i ∷ [])) in
         record {
           names = u.names;
           next = Inside tables blocks name x (body ++ i ∷ []);
@@ -151,7 +152,7 @@ module _ (heads : List Head) (tables : List CodeTable) (blocks : List Block) (na
         one : (a b : Instr) → Some a ≡ Some b → a ≡ b
         one a b e = cc
 
-    pub instr_unformed : is_instr (length tables) most i ≡ false → ¬ IsFormed heads (Inside tables blocks name x body) bytes
+    pub instr_unformed : is_instr (length tables) most i ≡ false → ¬ IsFormed v heads (Inside tables blocks name x body) bytes
     instr_unformed bad formed = elim (inside_says formed.says) [
       | inl h ↦
           (let ok = instr_again (λ l. f (get_or formed.names l [])) (length tables) (length formed.names) most (λ l lt. finds.low (get_or formed.names l [])) h.0 h.1 in
@@ -163,7 +164,7 @@ module _ (heads : List Head) (tables : List CodeTable) (blocks : List Block) (na
         clash : None ≡ Some i → ⊥
         clash e = cc
 
-    pub instr_unlabelled : is_instr (length tables) (length (names_of heads)) i ≡ false → ¬ IsLabelled heads (Inside tables blocks name x body) bytes
+    pub instr_unlabelled : is_instr (length tables) (length (names_of heads)) i ≡ false → ¬ IsLabelled v heads (Inside tables blocks name x body) bytes
     instr_unlabelled bad labelled = elim (inside_says labelled.says) [
       | inl h ↦
           (let ok = instr_again (λ l. f (get_or (names_of heads) l [])) (length tables) (length (names_of heads)) (length (names_of heads)) finds.known h.0 h.1 in
@@ -177,12 +178,15 @@ module _ (heads : List Head) (tables : List CodeTable) (blocks : List Block) (na
 
   -- ---- an end
 
-  module _ (t : Term) (no_instr : ended (instr_rest f us) ≡ None) (read : ended (term_rest f us) ≡ Some t) where
-    term_end : (r : List ℕ) × (term_rest f us ≡ Some (t, r)) × (length r ≡ 1)
-    term_end = ended_is (term_rest f us) t read
+  module _ (t : Term) (no_instr : ended (instr_rest f us) ≡ None) (read : ended (term_rest v f us) ≡ Some t) where
+    term_end : (r : List ℕ) × (term_rest v f us ≡ Some (t, r)) × (length r ≡ 1)
+    term_end = ended_is (term_rest v f us) t read
 
     term_is : SaidTerm f us (t, term_end.0)
-    term_is = term-said f us (t, term_end.0) term_end.1
+    term_is = term-said v f us (t, term_end.0) term_end.1
+
+    pub term_stands : stands_in v t ≡ true
+    term_stands = term-stands v f us (t, term_end.0) term_end.1
 
     term_under : (names : List (List ℕ)) → Stands f names term_is.name → bytes ≡ codes "  " ++ term_text names t
     term_under names stands = end_is bytes (codes "  " ++ term_text names t) term_end.0 (line ∙ ap (λ (y : List ℕ). 32 ∷ 32 ∷ y) (term_is.spelled names stands)) term_end.2
@@ -190,19 +194,19 @@ module _ (heads : List Head) (tables : List CodeTable) (blocks : List Block) (na
     pub term_right : is_term (length (names_of heads)) t ≡ true → bytes ≡ codes "  " ++ term_text (names_of heads) t
     term_right ok = term_under (names_of heads) (stands_by f (names_of heads) most term_is.name finds (term_is.within (length (names_of heads)) ok))
 
-    pub term_formed : is_term most t ≡ true → IsFormed heads (Inside tables blocks name x body) bytes
+    pub term_formed : is_term most t ≡ true → IsFormed v heads (Inside tables blocks name x body) bytes
     term_formed ok =
         let u = under f (names_of heads) most term_is.name finds term_is.word in
         let next : Draft = Outside tables (blocks ++ record { name = name; note = x; body = body; term = t } ∷ []) in
-        let P : List ℕ → Type 0 = λ y. Says heads u.names (Inside tables blocks name x body) y next in
+        let P : List ℕ → Type 0 = λ y. Says v heads u.names (Inside tables blocks name x body) y next in
         record {
           names = u.names;
           next = next;
           words = u.words;
-          says = subst P (sym (term_under u.names u.stands)) (an_end tables blocks name x body t (ap (λ (m : ℕ). is_term m t) u.many ∙ ok));
+          says = subst P (sym (term_under u.names u.stands)) (an_end tables blocks name x body t (ap (λ (m : ℕ). is_term m t) u.many ∙ ok) term_stands);
         }
 
-    same_term : (j : Term) → ended (term_rest f us) ≡ Some j → j ≡ t
+    same_term : (j : Term) → ended (term_rest v f us) ≡ Some j → j ≡ t
     same_term j e = one j t (sym e ∙ read)
       where
         one : (a b : Term) → Some a ≡ Some b → a ≡ b
@@ -214,20 +218,20 @@ module _ (heads : List Head) (tables : List CodeTable) (blocks : List Block) (na
         clash : None ≡ Some i → ⊥
         clash e = cc
 
-    pub term_unformed : is_term most t ≡ false → ¬ IsFormed heads (Inside tables blocks name x body) bytes
+    pub term_unformed : is_term most t ≡ false → ¬ IsFormed v heads (Inside tables blocks name x body) bytes
     term_unformed bad formed = elim (inside_says formed.says) [
       | inl h ↦ no_instruction _ (reads_instr formed.names h.0 formed.words h.1 h.2)
       | inr h ↦
           (let ok = term_again (λ l. f (get_or formed.names l [])) (length formed.names) most (λ l lt. finds.low (get_or formed.names l [])) h.0 h.1 in
-          let is = same_term (relabel_term (λ l. f (get_or formed.names l [])) h.0) (reads_term formed.names h.0 formed.words h.1 h.2) in
+          let is = same_term (relabel_term (λ l. f (get_or formed.names l [])) h.0) (reads_term formed.names h.0 formed.words h.1 h.4 h.2) in
           false≢true (sym bad ∙ ap (is_term most) (sym is) ∙ ok))
     ]
 
-    pub term_unlabelled : is_term (length (names_of heads)) t ≡ false → ¬ IsLabelled heads (Inside tables blocks name x body) bytes
+    pub term_unlabelled : is_term (length (names_of heads)) t ≡ false → ¬ IsLabelled v heads (Inside tables blocks name x body) bytes
     term_unlabelled bad labelled = elim (inside_says labelled.says) [
       | inl h ↦ no_instruction _ (reads_instr (names_of heads) h.0 finds.words h.1 h.2)
       | inr h ↦
           (let ok = term_again (λ l. f (get_or (names_of heads) l [])) (length (names_of heads)) (length (names_of heads)) finds.known h.0 h.1 in
-          let is = same_term (relabel_term (λ l. f (get_or (names_of heads) l [])) h.0) (reads_term (names_of heads) h.0 finds.words h.1 h.2) in
+          let is = same_term (relabel_term (λ l. f (get_or (names_of heads) l [])) h.0) (reads_term (names_of heads) h.0 finds.words h.1 h.4 h.2) in
           false≢true (sym bad ∙ ap (is_term (length (names_of heads))) (sym is) ∙ ok))
     ]

@@ -17,16 +17,17 @@ use Rattle.tpal_syntax.specs.Parts.{is_word, is_register, is_carry}
 use Rattle.tpal_syntax.specs.Conditions.{is_renamed, block_names}
 use Rattle.tpal_syntax.specs.Text.{table_line, header_text}
 use Rattle.tpal_syntax.specs.Readers.{after}
+use Rattle.tpal_syntax.specs.declared.versions.Version.{Version}
 use Rattle.tpal_print.proofs.Pieces.{and_left, and_right}
 use Rattle.tpal_asm.specs.Labels.{Head, names_of, place_of}
 use Rattle.tpal_asm.specs.Drafts.{IsNoteForm, IsNoteOf, IsNewTable, Draft, Outside, Inside, Says}
 use Rattle.tpal_asm.specs.Drafts.{a_table, a_header, is_among}
 
 -- what a line outside of blocks says
-pub outside_says : {heads : List Head} {names : List (List ℕ)} {tables : List CodeTable} {blocks : List Block} {bytes : List ℕ} {next : Draft}
-    → Says heads names (Outside tables blocks) bytes next
+pub outside_says : {v : Version} {heads : List Head} {names : List (List ℕ)} {tables : List CodeTable} {blocks : List Block} {bytes : List ℕ} {next : Draft}
+    → Says v heads names (Outside tables blocks) bytes next
     → ((table : CodeTable) × IsNewTable tables table × (bytes ≡ table_line (length tables) table) × (next ≡ Outside (tables ++ table ∷ []) []) × (blocks ≡ []))
-    ⊎ ((name : List ℕ) × (x : Note) × (is_word name ≡ true) × IsNoteOf heads names (length tables) x × (bytes ≡ header_text names name x) × (next ≡ Inside tables blocks name x []))
+    ⊎ ((name : List ℕ) × (x : Note) × (is_word name ≡ true) × IsNoteOf heads names (length tables) x × (bytes ≡ header_text v names (length blocks) name x) × (next ≡ Inside tables blocks name x []))
 outside_says (a_table tables table new) = inl (table, new, refl, refl, refl)
 outside_says (a_header tables blocks name x word of) = inr (name, x, word, of, refl, refl)
 

@@ -17,11 +17,13 @@ use Rattle.tpal_syntax.specs.declared.instructions.Instr.TheVariants.{PrmSplit, 
 use Rattle.tpal_syntax.specs.declared.instructions.Instr.TheVariants.{Cols, Make, Tick, Trap, Print}
 use Rattle.tpal_syntax.specs.declared.instructions.Instr.TheVariants.{Emit}
 use Rattle.tpal_syntax.specs.declared.instructions.Term.{Term}
-use Rattle.tpal_syntax.specs.declared.instructions.Term.TheVariants.{Halt, Join}
+use Rattle.tpal_syntax.specs.declared.instructions.Term.TheVariants.{Jump, Halt, Join, Leave}
+use Rattle.tpal_syntax.specs.declared.versions.Version.{Version}
+use Rattle.tpal_syntax.specs.declared.versions.Version.TheVariants.{One, Two}
 use Rattle.tpal_syntax.specs.Parts.{is_word, is_register, is_offset, is_size, is_value, is_instr}
 use Rattle.tpal_syntax.specs.Parts.{is_term}
 use Rattle.tpal_syntax.specs.Text.{register_text, table_text, cell_text, place_text, alu_text}
-use Rattle.tpal_syntax.specs.Text.{trap_text, value_text, instr_text, term_text}
+use Rattle.tpal_syntax.specs.Text.{trap_text, value_text, instr_text, term_text, stands_in}
 use Rattle.tpal_syntax.specs.Readers.{◌>>=◌, after, branch, negative, number_at, word_at, label_at}
 use Rattle.tpal_syntax.specs.Readers.{cell_at, place_at, alu_at, trap_at, value_at}
 use Rattle.tpal_print.proofs.Pieces.{and_right}
@@ -34,7 +36,7 @@ use Rattle.tpal_asm.specs.Reading.{make_rest, trap_rest, print_rest, emit_rest, 
 use Rattle.tpal_asm.specs.Reading.{jralloc_rest, fetch_rest, rows_rest, cols_rest, name_rest}
 use Rattle.tpal_asm.specs.Reading.{calc_rest, source_rest, move_rest, assigned_rest, changed_rest}
 use Rattle.tpal_asm.specs.Reading.{stack_rest, table_rest, other_rest, instr_rest, jump_rest}
-use Rattle.tpal_asm.specs.Reading.{join_rest, term_rest}
+use Rattle.tpal_asm.specs.Reading.{join_rest, leave_rest, left_rest, term_rest}
 
 abbrev pub SaidValue : (List ℕ → ℕ) → List ℕ → Value × List ℕ → Type 0
 SaidValue f ts r = Named f (λ names. value_text names r.0) (λ blocks. is_value blocks r.0) ts r.1
@@ -624,10 +626,31 @@ unnamed_term f ts r e = record { name = None; word = tt; within = λ blocks ok. 
 none_term : (f : List ℕ → ℕ) (ts : List ℕ) (r : Term × List ℕ) → None ≡ Some r → SaidTerm f ts r
 none_term f ts r q = absurd cc
 
-pub term-said : (f : List ℕ → ℕ) (ts : List ℕ) (r : Term × List ℕ) → term_rest f ts ≡ Some r → SaidTerm f ts r
+leave-said : (f : List ℕ → ℕ) (us : List ℕ) (r : Term × List ℕ) → leave_rest us ≡ Some r → SaidTerm f (codes "leave " ++ us) r
+unfolding leave_rest
+leave-said f us r e =
+    let x0 = bind _ _ r e in
+    let q0 = register-sound us x0.0.0 x0.0.1 x0.1 in
+    let x1 = bind _ _ r x0.2 in
+    let q1 = after-sound (codes ", ") x0.0.1 x1.0 x1.1 in
+    let x2 = bind _ _ r x1.2 in
+    let q2 = register-sound x1.0 x2.0.0 x2.0.1 x2.1 in
+    subst (SaidTerm f (codes "leave " ++ us)) (same _ _ x2.2) (unnamed_term f (codes "leave " ++ us) (Leave x0.0.0 x2.0.0, x2.0.1) (λ names. ap (λ (x : List ℕ). codes "leave " ++ x) (q0 ∙ ap (λ (x : List ℕ). register_text x0.0.0 ++ x) (q1 ∙ ap (λ (x : List ℕ). codes ", " ++ x) q2)) ∙ join4 (codes "leave ") (register_text x0.0.0) (codes ", ") (register_text x2.0.0) x2.0.1))
+
+left-said : (v : Version) (f : List ℕ → ℕ) (ts : List ℕ) (r : Term × List ℕ) → left_rest v ts ≡ Some r → SaidTerm f ts r
+unfolding left_rest
+left-said One f ts r e = none_term f ts r e
+left-said Two f ts r e =
+    let P : List ℕ → Type 0 = λ us. SaidTerm f us r in
+    elim (chosen {A = Term × List ℕ} (after (codes "leave ") ts) leave_rest None r e) [
+      | inl h ↦ subst P (sym (after-sound (codes "leave ") ts h.0 h.1)) (leave-said f h.0 r h.2)
+      | inr e1 ↦ none_term f ts r e1
+    ]
+
+pub term-said : (v : Version) (f : List ℕ → ℕ) (ts : List ℕ) (r : Term × List ℕ) → term_rest v f ts ≡ Some r → SaidTerm f ts r
 unfolding term_rest jump_rest join_rest
-term-said f ts r e =
-    elim (chosen {A = Term × List ℕ} (after (codes "jump ") ts) (jump_rest f) (branch (after (codes "halt") ts) (λ us. Some (Halt, us)) (branch (after (codes "join ") ts) join_rest None)) r e) [
+term-said v f ts r e =
+    elim (chosen {A = Term × List ℕ} (after (codes "jump ") ts) (jump_rest f) (branch (after (codes "halt") ts) (λ us. Some (Halt, us)) (branch (after (codes "join ") ts) join_rest (left_rest v ts))) r e) [
       | inl h ↦ (let a = bind _ _ r h.2 in
           let w = value-said f h.0 a.0 a.1 in
           subst (SaidTerm f ts) (same _ _ a.2) record {
@@ -637,14 +660,52 @@ term-said f ts r e =
             spelled = λ names stands. after-sound (codes "jump ") ts h.0 h.1 ∙ ap (λ (x : List ℕ). codes "jump " ++ x) (w.spelled names stands);
           })
       | inr e1 ↦
-          elim (chosen {A = Term × List ℕ} (after (codes "halt") ts) (λ us. Some (Halt, us)) (branch (after (codes "join ") ts) join_rest None) r e1) [
+          elim (chosen {A = Term × List ℕ} (after (codes "halt") ts) (λ us. Some (Halt, us)) (branch (after (codes "join ") ts) join_rest (left_rest v ts)) r e1) [
             | inl h ↦ subst (SaidTerm f ts) (same _ _ h.2) (unnamed_term f ts (Halt, h.0) (λ names. after-sound (codes "halt") ts h.0 h.1))
             | inr e2 ↦
-                elim (chosen {A = Term × List ℕ} (after (codes "join ") ts) join_rest None r e2) [
+                elim (chosen {A = Term × List ℕ} (after (codes "join ") ts) join_rest (left_rest v ts) r e2) [
                   | inl h ↦ (let a = bind _ _ r h.2 in
                       subst (SaidTerm f ts) (same _ _ a.2) (unnamed_term f ts (Join a.0.0, a.0.1) (λ names. after-sound (codes "join ") ts h.0 h.1 ∙ ap (λ (x : List ℕ). codes "join " ++ x) (register-sound h.0 a.0.0 a.0.1 a.1))))
                   | inr e3 ↦
-                      none_term f ts r e3
+                      left-said v f ts r e3
                 ]
           ]
     ]
+
+-- ---- an end that is read stands in texts of the version
+
+abbrev Standing : Version → Term × List ℕ → Type 0
+Standing v r = stands_in v r.0 ≡ true
+
+left-stands : (v : Version) (ts : List ℕ) (r : Term × List ℕ) → left_rest v ts ≡ Some r → Standing v r
+unfolding left_rest
+left-stands One ts r e = absurd (none_some r e)
+left-stands Two ts r e = refl
+
+pub term-stands : (v : Version) (f : List ℕ → ℕ) (ts : List ℕ) (r : Term × List ℕ) → term_rest v f ts ≡ Some r → Standing v r
+unfolding term_rest jump_rest join_rest
+term-stands v f ts r e =
+    elim (chosen {A = Term × List ℕ} (after (codes "jump ") ts) (jump_rest f) (branch (after (codes "halt") ts) (λ us. Some (Halt, us)) (branch (after (codes "join ") ts) join_rest (left_rest v ts))) r e) [
+      | inl h ↦ (let a = bind {A = Value × List ℕ} _ _ r h.2 in subst (Standing v) (same _ _ a.2) (jump_stands v a.0.0))
+      | inr e1 ↦
+          elim (chosen {A = Term × List ℕ} (after (codes "halt") ts) (λ us. Some (Halt, us)) (branch (after (codes "join ") ts) join_rest (left_rest v ts)) r e1) [
+            | inl h ↦ subst (Standing v) (same _ _ h.2) (halt_stands v)
+            | inr e2 ↦
+                elim (chosen {A = Term × List ℕ} (after (codes "join ") ts) join_rest (left_rest v ts) r e2) [
+                  | inl h ↦ (let a = bind {A = ℕ × List ℕ} _ _ r h.2 in subst (Standing v) (same _ _ a.2) (join_stands v a.0.0))
+                  | inr e3 ↦ left-stands v ts r e3
+                ]
+          ]
+    ]
+  where
+    jump_stands : (v : Version) (x : Value) → stands_in v (Jump x) ≡ true
+    jump_stands One x = refl
+    jump_stands Two x = refl
+
+    halt_stands : (v : Version) → stands_in v Halt ≡ true
+    halt_stands One = refl
+    halt_stands Two = refl
+
+    join_stands : (v : Version) (r : ℕ) → stands_in v (Join r) ≡ true
+    join_stands One r = refl
+    join_stands Two r = refl

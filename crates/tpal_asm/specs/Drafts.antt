@@ -11,7 +11,9 @@ use Rattle.tpal_syntax.specs.declared.blocks.CodeTable.{CodeTable}
 use Rattle.tpal_syntax.specs.declared.blocks.CodeTable.TheVariants.{Input, Made}
 use Rattle.tpal_syntax.specs.Parts.{is_word, is_register, is_instr, is_term, is_carry}
 use Rattle.tpal_syntax.specs.Conditions.{IsTarget, is_ready, input_names, block_names}
-use Rattle.tpal_syntax.specs.Text.{◌+++◌, instr_text, term_text, header_text, table_line}
+use Rattle.tpal_syntax.specs.declared.versions.Version.{Version}
+use Rattle.tpal_syntax.specs.Text.{◌+++◌, instr_text, term_text, stands_in, header_text}
+use Rattle.tpal_syntax.specs.Text.{table_line}
 use Rattle.tpal_asm.specs.Labels.{Head, names_of, is_ready_name}
 
 -- ---- the names of the blocks
@@ -31,29 +33,31 @@ IsNoteForm labels (note.Target t) =
     IsTrue (list_all (λ p. is_register p.0 && is_register p.1) t.renames) × (t.comb < labels)
     × IsTrue (list_all (is_carry 16) t.carries)
 
--- the line is, as the grammar has it, the first line of a block of this name
-pub record IsHead (bytes : List ℕ) (head : Head) : Type 0 where
+-- the line is, as the grammar has it, the first line of a block of this name; whatever its number
+pub record IsHead (v : Version) (bytes : List ℕ) (head : Head) : Type 0 where
   pub names : List (List ℕ)
+  pub number : ℕ
   pub note : Note
   pub words : AreWords names
   pub word : IsTrue (is_word head.0)
+  pub low : number ≤ 9223372036854775807
   pub form : IsNoteForm (length names) note
-  pub spelled : bytes ≡ header_text names head.0 note
+  pub spelled : bytes ≡ header_text v names number head.0 note
   pub readiness : head.1 ≡ is_ready note
 
 -- The names of the blocks of lines in the order in which they first stand, behind those that are
 -- known before the lines.
-pub data AreHeads : List Head → List (List ℕ) → List Head → Type 0 where
-  no_line : (heads : List Head) → AreHeads heads [] heads
+pub data AreHeads (v : Version) : List Head → List (List ℕ) → List Head → Type 0 where
+  no_line : (heads : List Head) → AreHeads v heads [] heads
   new_head : (heads last : List Head) (head : Head) (bytes : List ℕ) (lines : List (List ℕ)) →
-      IsHead bytes head → is_among head.0 (names_of heads) ≡ false →
-      AreHeads (heads ++ head ∷ []) lines last → AreHeads heads (bytes ∷ lines) last
+      IsHead v bytes head → is_among head.0 (names_of heads) ≡ false →
+      AreHeads v (heads ++ head ∷ []) lines last → AreHeads v heads (bytes ∷ lines) last
   known_head : (heads last : List Head) (head : Head) (bytes : List ℕ) (lines : List (List ℕ)) →
-      IsHead bytes head → is_among head.0 (names_of heads) ≡ true → AreHeads heads lines last →
-      AreHeads heads (bytes ∷ lines) last
+      IsHead v bytes head → is_among head.0 (names_of heads) ≡ true → AreHeads v heads lines last →
+      AreHeads v heads (bytes ∷ lines) last
   no_head : (heads last : List Head) (bytes : List ℕ) (lines : List (List ℕ)) →
-      ((head : Head) → ¬ IsHead bytes head) → AreHeads heads lines last →
-      AreHeads heads (bytes ∷ lines) last
+      ((head : Head) → ¬ IsHead v bytes head) → AreHeads v heads lines last →
+      AreHeads v heads (bytes ∷ lines) last
 
 -- ---- drafts
 
@@ -76,24 +80,25 @@ IsNoteOf heads names tables (note.Ready handler) =
 IsNoteOf heads names tables (note.Target t) = IsTarget tables (length names) t
 
 -- What a line says behind a draft, and so the next draft. Labels stand for the given names; `heads`
--- are the blocks of the text.
-pub data Says (heads : List Head) (names : List (List ℕ)) : Draft → List ℕ → Draft → Type 0 where
+-- are the blocks of the text. A block's number is that of the blocks before it.
+pub data Says (v : Version) (heads : List Head) (names : List (List ℕ)) :
+    Draft → List ℕ → Draft → Type 0 where
   a_table : (tables : List CodeTable) (table : CodeTable) → IsNewTable tables table →
-      Says heads names (Outside tables []) (table_line (length tables) table)
+      Says v heads names (Outside tables []) (table_line (length tables) table)
       (Outside (tables ++ table ∷ []) [])
   a_header : (tables : List CodeTable) (blocks : List Block) (name : List ℕ) (x : Note) →
       IsTrue (is_word name) → IsNoteOf heads names (length tables) x →
-      Says heads names (Outside tables blocks) (header_text names name x)
+      Says v heads names (Outside tables blocks) (header_text v names (length blocks) name x)
       (Inside tables blocks name x [])
   an_instr : (tables : List CodeTable) (blocks : List Block) (name : List ℕ) (x : Note)
       (body : List Instr) (instr : Instr) →
       IsTrue (is_instr (length tables) (length names) instr) →
-      Says heads names (Inside tables blocks name x body) (codes "  " +++ instr_text names instr)
+      Says v heads names (Inside tables blocks name x body) (codes "  " +++ instr_text names instr)
       (Inside tables blocks name x (body ++ instr ∷ []))
   an_end : (tables : List CodeTable) (blocks : List Block) (name : List ℕ) (x : Note)
       (body : List Instr) (term : Term) →
-      IsTrue (is_term (length names) term) →
-      Says heads names (Inside tables blocks name x body) (codes "  " +++ term_text names term)
+      IsTrue (is_term (length names) term) → IsTrue (stands_in v term) →
+      Says v heads names (Inside tables blocks name x body) (codes "  " +++ term_text names term)
       (Outside tables (blocks ++ record { name = name; note = x; body = body; term = term } ∷ []))
 
 -- the block that has begun has a name of its own
@@ -107,11 +112,11 @@ IsWithin (Outside tables blocks) = (length tables ≤ 16) × (length blocks ≤ 
 IsWithin (Inside tables blocks name x body) = (length tables ≤ 16) × (length blocks < 65536)
 
 -- the lines lead from one draft to another, and each is right; `heads` are the blocks of the text
-pub data Leads (heads : List Head) : Draft → List (List ℕ) → Draft → Type 0 where
-  stay : (draft : Draft) → Leads heads draft [] draft
+pub data Leads (v : Version) (heads : List Head) : Draft → List (List ℕ) → Draft → Type 0 where
+  stay : (draft : Draft) → Leads v heads draft [] draft
   go_on : (draft next last : Draft) (bytes : List ℕ) (lines : List (List ℕ)) →
-      Says heads (names_of heads) draft bytes next → IsNewName next → IsWithin next →
-      Leads heads next lines last → Leads heads draft (bytes ∷ lines) last
+      Says v heads (names_of heads) draft bytes next → IsNewName next → IsWithin next →
+      Leads v heads next lines last → Leads v heads draft (bytes ∷ lines) last
 
 -- the draft before the first line
 abbrev pub first_draft : Draft

@@ -13,7 +13,7 @@ use Rattle.tpal_syntax.specs.declared.instructions.Instr.TheVariants.{PrmSplit, 
 use Rattle.tpal_syntax.specs.declared.instructions.Instr.TheVariants.{Fetch, Put, Rows, Cols, Make}
 use Rattle.tpal_syntax.specs.declared.instructions.Instr.TheVariants.{Tick, Trap, Print, Emit}
 use Rattle.tpal_syntax.specs.declared.instructions.Term.{Term}
-use Rattle.tpal_syntax.specs.declared.instructions.Term.TheVariants.{Jump, Halt, Join}
+use Rattle.tpal_syntax.specs.declared.instructions.Term.TheVariants.{Jump, Halt, Join, Leave}
 use Rattle.tpal_syntax.specs.declared.notes.CutKind.{CutKind}
 use Rattle.tpal_syntax.specs.declared.notes.CarryAt.{CarryAt}
 use Rattle.tpal_syntax.specs.declared.notes.CarryAt.TheVariants as carry
@@ -22,6 +22,8 @@ use Rattle.tpal_syntax.specs.declared.notes.Note.TheVariants as note
 use Rattle.tpal_syntax.specs.declared.notes.Target.{Target}
 use Rattle.tpal_syntax.specs.declared.blocks.CodeTable.{CodeTable}
 use Rattle.tpal_syntax.specs.declared.blocks.CodeTable.TheVariants.{Input, Made}
+use Rattle.tpal_syntax.specs.declared.versions.Version.{Version}
+use Rattle.tpal_syntax.specs.declared.versions.Version.TheVariants.{One, Two}
 use Rattle.tpal_syntax.specs.Readers.{renames_at, carries_at, policy_at, kind_at, ◌>>=◌, after}
 use Rattle.tpal_syntax.specs.Readers.{branch, negative, number_at, word_at, register_at, table_at}
 use Rattle.tpal_syntax.specs.Readers.{label_at, cell_at, place_at, value_at, alu_at, trap_at}
@@ -216,11 +218,21 @@ jump_rest f us = value_at f us >>= λ v. Some (Jump v.0, v.1)
 unfoldable pub join_rest : List ℕ → Option (Term × List ℕ)
 join_rest us = register_at us >>= λ r. Some (Join r.0, r.1)
 
-unfoldable pub term_rest : (List ℕ → ℕ) → List ℕ → Option (Term × List ℕ)
-term_rest f ts =
+unfoldable pub leave_rest : List ℕ → Option (Term × List ℕ)
+leave_rest us =
+    register_at us >>= λ r.
+    after (codes ", ") r.1 >>= λ vs. register_at vs >>= λ q. Some (Leave r.0 q.0, q.1)
+
+-- an end that stands in version 2 alone
+unfoldable pub left_rest : Version → List ℕ → Option (Term × List ℕ)
+left_rest One ts = None
+left_rest Two ts = branch (after (codes "leave ") ts) leave_rest None
+
+unfoldable pub term_rest : Version → (List ℕ → ℕ) → List ℕ → Option (Term × List ℕ)
+term_rest v f ts =
     branch (after (codes "jump ") ts) (jump_rest f)
     (branch (after (codes "halt") ts) (λ us. Some (Halt, us))
-    (branch (after (codes "join ") ts) join_rest None))
+    (branch (after (codes "join ") ts) join_rest (left_rest v ts)))
 
 -- ---- notes
 
@@ -274,11 +286,21 @@ note_rest f n ts =
 
 -- ---- whole lines
 
--- the first line of a block: a name and a note
-unfoldable pub header_rest : (List ℕ → ℕ) → List ℕ → Option ((List ℕ × Note) × List ℕ)
-header_rest f ts =
+-- the number of a block behind its name; 0 where the version has none
+unfoldable pub number_rest_of : Version → List ℕ → Option (ℕ × List ℕ)
+number_rest_of One ts = Some (0, ts)
+number_rest_of Two ts = after (codes " #") ts >>= number_at 9223372036854775807
+
+-- the first line of a block: a name and a note; its number is read over
+unfoldable pub header_rest : Version → (List ℕ → ℕ) → List ℕ → Option ((List ℕ × Note) × List ℕ)
+header_rest v f ts =
     word_at ts >>= λ w.
-    after (codes ": ") w.1 >>= λ us. note_rest f (length us) us >>= λ x. Some ((w.0, x.0), x.1)
+    number_rest_of v w.1 >>= λ n.
+    after (codes ": ") n.1 >>= λ us. note_rest f (length us) us >>= λ x. Some ((w.0, x.0), x.1)
+
+-- the number in the first line of a block
+unfoldable pub header_number : Version → List ℕ → Option ℕ
+header_number v ts = word_at ts >>= λ w. number_rest_of v w.1 >>= λ n. Some n.0
 
 -- behind the word `table t` the number of a table, and what it is; the number is at most 16
 unfoldable pub table_line_rest : List ℕ → Option ((ℕ × CodeTable) × List ℕ)

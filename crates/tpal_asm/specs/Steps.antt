@@ -1,6 +1,6 @@
 -- The assembler's own words for drafts and what is unfit.
 use Rattle.std.specs.Prelude.{◌≡◌, ℕ, ◌<◌, ◌≤◌, Bool, true, false, List, [], length, slice_index_or}
-use Rattle.std.specs.Prelude.{bytes_eq, Option, Some, None}
+use Rattle.std.specs.Prelude.{bytes_eq, ◌==◌, Option, Some, None}
 use Rattle.std.specs.Borrow.{Bor}
 use Rattle.tpal_syntax.specs.declared.notes.Note.{Note}
 use Rattle.tpal_syntax.specs.declared.notes.Note.TheVariants as note
@@ -10,11 +10,13 @@ use Rattle.tpal_asm.specs.Labels.{Head, names_of}
 use Rattle.tpal_syntax.specs.declared.blocks.Block.{Block}
 use Rattle.tpal_syntax.specs.declared.blocks.CodeTable.{CodeTable}
 use Rattle.tpal_syntax.specs.declared.blocks.CodeTable.TheVariants.{Input, Made}
+use Rattle.tpal_syntax.specs.declared.versions.Version.{Version}
+use Rattle.tpal_syntax.specs.declared.versions.Version.TheVariants.{One, Two}
 use Rattle.tpal_asm.specs.declared.fault.Wrong.{Wrong}
 use Rattle.tpal_asm.specs.declared.fault.Wrong.TheVariants as wrongs
 use Rattle.tpal_asm.specs.declared.drafts.Begun.{Begun}
 use Rattle.tpal_asm.specs.declared.drafts.Draft as code
-use Rattle.tpal_asm.specs.Reading.{ended, table_line_rest}
+use Rattle.tpal_asm.specs.Reading.{ended, table_line_rest, header_number}
 use Rattle.tpal_asm.specs.Drafts.{Draft, Outside, Inside, is_among}
 
 -- a draft, seen by its lists
@@ -60,9 +62,22 @@ NoteUnfit heads tables note.Plain wrong = ⊥
 NoteUnfit heads tables (note.Ready handler) wrong = HandlerUnfit heads handler wrong
 NoteUnfit heads tables (note.Target t) wrong = TargetUnfit heads tables t wrong
 
--- a name and a note that were read
-abbrev pub header_of : Bor (List ℕ) × Note → List ℕ × Note
-header_of read = (read.0.now, read.1)
+-- a name and a note that were read, with a number between them
+abbrev pub header_of : Bor (List ℕ) × ℕ × Note → List ℕ × Note
+header_of read = (read.0.now, read.2)
+
+-- a block's number is that of the blocks before it, where the version has numbers
+abbrev pub is_next : Version → ℕ → ℕ → Bool
+is_next One number blocks = true
+is_next Two number blocks = number == blocks
+
+-- the same of the number that is read of a line
+abbrev pub is_next_by : Version → Option ℕ → ℕ → Bool
+is_next_by v None blocks = false
+is_next_by v (Some number) blocks = is_next v number blocks
+
+abbrev pub is_numbered : Version → ℕ → List ℕ → Bool
+is_numbered v blocks line = is_next_by v (header_number v line) blocks
 
 -- a table that was read, by its number, and the rest
 abbrev pub made_of : Option (Bor (List ℕ)) → CodeTable

@@ -8,24 +8,24 @@ ghost use Rattle.tpal_asm.specs.declared.fault.AsmFault.{AsmFault as Fault};
 ghost use Rattle.tpal_asm.specs.declared.fault.AsmFault.TheVariants as faults;
 ghost use Rattle.tpal_syntax.specs.declared.blocks.Block.{Block};
 ghost use Rattle.tpal_syntax.specs.declared.blocks.CodeTable.{CodeTable};
-ghost use Rattle.tpal_asm.specs.Lines.{pieces};
+ghost use Rattle.tpal_asm.specs.Lines.{pieces, AreLines};
 ghost use Rattle.tpal_asm.specs.Labels.{heads};
 ghost use Rattle.tpal_asm.specs.Drafts.{AreHeads, Outside, IsWhole};
-ghost use Rattle.tpal_asm.specs.Faults.{FirstFault, OnFault};
+ghost use Rattle.tpal_asm.specs.Faults.{FirstFaultIn, FirstFault, OnFault};
 ghost use Rattle.tpal_asm.specs.Steps.{seen};
 
 use crate::drafts::Draft;
 use crate::fault::{AsmFault, at_line};
 use crate::labels::Labels;
-use crate::lines::next_line;
+use crate::lines::{first_number, lines_of, next_line, version_of};
 use crate::steps::{read_header, step};
 use std::alloc::Global;
 use tp_value::NoMemory;
-use tpal_syntax::{Code, Note};
+use tpal_syntax::{Code, Note, Version};
 
-/// The code of a text, or its first fault. Where a text has a code, that code is answered or memory
-/// was wanting; where it has a fault, that one is its only first fault, and is answered or memory
-/// was wanting.
+/// The code of a text of version 1 or 2, or its first fault. Where a text has a code, that code is
+/// answered or memory was wanting; where it has a fault, that one is its only first fault, and is
+/// answered or memory was wanting.
 pub fn assemble(alloc: Global, text: &[u8]) -> Result<Code, AsmFault>
     requires bound { length text.now ≤ 67108864 }
     ensures code { IfOk result (λ code. CodeText text.now code.tables code.blocks) }
@@ -39,22 +39,25 @@ pub fn assemble(alloc: Global, text: &[u8]) -> Result<Code, AsmFault>
     ensures first_fault { (first : Fault) → FirstFault text.now first →
         MatchResult result (λ code. ⊥) (λ fault. OnFault fault (fault ≡ first)) }
 {
-    let labels = read_labels(alloc, text)?;
-    read_code(alloc, &labels, text)
+    let version = version_of(text);
+    let lines = lines_of(text);
+    let labels = read_labels(alloc, version, lines)?;
+    read_code(alloc, &labels, lines)
 }
 
-// The names of the blocks of a text.
-fn read_labels(alloc: Global, text: &[u8]) -> Result<Labels<'_>, NoMemory>
+// The names of the blocks of the lines of a text of this version.
+fn read_labels(alloc: Global, version: Version, text: &[u8]) -> Result<Labels<'_>, NoMemory>
     requires bound { length text.now ≤ 67108864 }
-    ensures { IfOk result (λ labels.
+    ensures named { IfOk result (λ labels.
         (lines : List (List ℕ)) (last : List ℕ) → pieces text.now ≡ lines ++ last ∷ [] →
-        AreHeads [] lines (heads labels.places)) }
+        AreHeads version [] lines (heads labels.places)) }
+    ensures version { IfOk result (λ labels. labels.version ≡ version) }
 {
-    let none = Labels::new(alloc);
-    let mut labels = Labels::new(alloc);
+    let none = Labels::new(alloc, version);
+    let mut labels = Labels::new(alloc, version);
     let mut rest = text;
     while let Some((line, others)) = next_line(rest) {
-        if let Some((name, note)) = read_header(alloc, &none, line)? {
+        if let Some((name, _number, note)) = read_header(alloc, &none, line)? {
             labels.add(name, is_ready(&note))?;
         }
         rest = others;
@@ -72,20 +75,23 @@ fn is_ready(note: &Note) -> bool
     }
 }
 
+// The code of the lines of a text, or the first fault in them.
 fn read_code(alloc: Global, labels: &Labels, text: &[u8]) -> Result<Code, AsmFault>
     requires bound { length text.now ≤ 67108864 }
     requires named { (lines : List (List ℕ)) (last : List ℕ) →
         pieces text.now ≡ lines ++ last ∷ [] →
-        AreHeads [] lines (heads labels.now.places) }
-    ensures code { IfOk result (λ code. CodeText text.now code.tables code.blocks) }
-    ensures fault { IfErr result (λ fault. OnFault fault (FirstFault text.now fault)) }
+        AreHeads labels.now.version [] lines (heads labels.now.places) }
+    ensures code { IfOk result (λ code.
+        AreLines labels.now.version text.now code.tables code.blocks) }
+    ensures fault { IfErr result (λ fault.
+        OnFault fault (FirstFaultIn labels.now.version text.now fault)) }
 {
     let mut draft = Draft {
         tables: Vec::new(alloc),
         blocks: Vec::new(alloc),
         begun: None,
     };
-    let mut line = 1;
+    let mut line = first_number(labels.version);
     let mut rest = text;
     while let Some((first, others)) = next_line(rest) {
         match step(alloc, labels, draft, first) {

@@ -8,14 +8,14 @@ ghost use Rattle.tpal_asm.specs.Reading.{print_rest, emit_rest, load_rest, jrall
 ghost use Rattle.tpal_asm.specs.Reading.{fetch_rest, rows_rest, cols_rest, calc_rest, source_rest};
 ghost use Rattle.tpal_asm.specs.Reading.{move_rest, assigned_rest, changed_rest, stack_rest};
 ghost use Rattle.tpal_asm.specs.Reading.{table_rest, other_rest, instr_rest, jump_rest, join_rest};
-ghost use Rattle.tpal_asm.specs.Reading.{term_rest};
+ghost use Rattle.tpal_asm.specs.Reading.{leave_rest, left_rest, term_rest};
 ghost use Rattle.tpal_asm.specs.Labels.{place_of, heads};
 
 use crate::labels::Labels;
 use crate::parts::{
     alu, behind, cell, label, place, register, register_number, size, table, trap_kind, value,
 };
-use tpal_syntax::{Instr, Term, Value};
+use tpal_syntax::{Instr, Term, Value, Version};
 
 /// An instruction.
 #[tactic(auto, unfolding(crate::specs::Reading::instr_rest, crate::specs::Reading::stack_rest))]
@@ -408,7 +408,8 @@ fn cols(to: u8, text: &[u8]) -> Option<(Instr, &[u8])>
 /// The end of a block.
 #[tactic(auto, unfolding(crate::specs::Reading::term_rest))]
 pub fn term<'a>(labels: &Labels, text: &'a [u8]) -> Option<(Term, &'a [u8])>
-    ensures { Reads rest_of result (term_rest (place_of (heads labels.now.places)) text.now) }
+    ensures { Reads rest_of result
+        (term_rest labels.now.version (place_of (heads labels.now.places)) text.now) }
 {
     if let Some(rest) = behind(text, b"jump ") {
         return jump(labels, rest);
@@ -419,7 +420,27 @@ pub fn term<'a>(labels: &Labels, text: &'a [u8]) -> Option<(Term, &'a [u8])>
     if let Some(rest) = behind(text, b"join ") {
         return join(rest);
     }
-    None
+    left(labels.version, text)
+}
+
+#[tactic(auto, unfolding(crate::specs::Reading::left_rest))]
+fn left(version: Version, text: &[u8]) -> Option<(Term, &[u8])>
+    ensures { Reads rest_of result (left_rest version text.now) }
+{
+    match version {
+        Version::One => None,
+        Version::Two => leave(behind(text, b"leave ")?),
+    }
+}
+
+#[tactic(auto, unfolding(crate::specs::Reading::leave_rest))]
+fn leave(text: &[u8]) -> Option<(Term, &[u8])>
+    ensures { Reads rest_of result (leave_rest text.now) }
+{
+    let (rec, rest) = register(text)?;
+    let rest = behind(rest, b", ")?;
+    let (value, rest) = register(rest)?;
+    Some((Term::Leave { rec, value }, rest))
 }
 
 #[tactic(auto, unfolding(crate::specs::Reading::jump_rest))]

@@ -1,4 +1,4 @@
-// The names of the blocks of a text.
+// The names of the blocks of a text, and its version.
 
 ghost use Rattle.std.specs.Prelude.{◌≡◌, ◌<◌, ◌≤◌, [], true, OnOk, length, MatchOption};
 ghost use Rattle.std.specs.Prelude.{slice_index_or, false};
@@ -10,22 +10,26 @@ ghost use Rattle.tpal_asm.specs.Labels.{heads, names_of, place_of, with_head};
 use indexmap::IndexMap;
 use std::alloc::Global;
 use tp_value::NoMemory;
+use tpal_syntax::Version;
 
 /// The names of blocks in the order in which they first stand, each with whether its block is
-/// promotion-ready.
+/// promotion-ready; and the version of their text.
 #[derive(Drop)]
 pub struct Labels<'a> {
+    pub version: Version,
     pub places: IndexMap<&'a [u8], bool>,
     ghost few: { index_map_len places ≤ 67108864 },
     ghost words: { list_all is_word (names_of (heads places)) ≡ true },
 }
 
 impl<'a> Labels<'a> {
-    /// No names.
-    pub fn new(alloc: Global) -> Labels<'a>
-        ensures { heads result.places ≡ [] }
+    /// No names, of a text of this version.
+    pub fn new(alloc: Global, version: Version) -> Labels<'a>
+        ensures none { heads result.places ≡ [] }
+        ensures version { result.version ≡ version }
     {
         Labels {
+            version,
             places: IndexMap::new(alloc),
         }
     }
@@ -36,6 +40,7 @@ impl<'a> Labels<'a> {
         requires room { index_map_len self.old.places < 67108864 }
         ensures added { OnOk result (heads self.new.places
             ≡ with_head (heads self.old.places) (name.now, is_ready)) }
+        ensures version { self.new.version ≡ self.old.version }
     {
         if self.place(name) >= self.count() {
             self.places.insert(name, is_ready)?;

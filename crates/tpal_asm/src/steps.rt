@@ -7,14 +7,15 @@ ghost use Rattle.tpal_asm.specs.Reading.{ended, instr_rest, term_rest};
 ghost use Rattle.tpal_asm.specs.Labels.{heads, names_of, place_of};
 ghost use Rattle.tpal_asm.specs.Drafts.{Outside, Inside, Says, IsNewName, IsWithin, is_among};
 ghost use Rattle.tpal_asm.specs.Faults.{IsWrong, OnWrong};
-ghost use Rattle.std.specs.Prelude.{◌<◌, OnOk, Some, None, false, slice_index_or};
+ghost use Rattle.std.specs.Prelude.{◌<◌, OnOk, IfSome, Some, None, false, slice_index_or};
 ghost use Rattle.tpal_syntax.specs.Conditions.{block_names, input_names};
 ghost use Rattle.tpal_syntax.specs.declared.blocks.CodeTable.{CodeTable};
 ghost use Rattle.tpal_asm.specs.declared.fault.Wrong.TheVariants as wrongs;
 ghost use Rattle.tpal_syntax.specs.Readers.{after};
-ghost use Rattle.tpal_asm.specs.Reading.{Reads, header_rest, table_line_rest};
+ghost use Rattle.tpal_asm.specs.Reading.{Reads, rest_of, number_rest_of, header_rest};
+ghost use Rattle.tpal_asm.specs.Reading.{header_number, table_line_rest};
 ghost use Rattle.tpal_asm.specs.Steps.{seen, Unfit, HandlerUnfit, NoteFits, NoteUnfit, header_of};
-ghost use Rattle.tpal_asm.specs.Steps.{table_of, is_input_of, IsUnrepeated, TableUnfit};
+ghost use Rattle.tpal_asm.specs.Steps.{table_of, is_input_of, IsUnrepeated, TableUnfit, is_next};
 
 use crate::drafts::{Begun, Draft};
 use crate::fault::Wrong;
@@ -24,7 +25,7 @@ use crate::notes::note;
 use crate::parts::{behind, number, word};
 use std::alloc::Global;
 use tp_value::{Items, MAX_BLOCKS, MAX_TABLES, NoMemory};
-use tpal_syntax::{Block, CodeTable, Instr, Note, Term, is_instr, is_target, is_term};
+use tpal_syntax::{Block, CodeTable, Instr, Note, Term, Version, is_instr, is_target, is_term};
 
 /// Greater than every label.
 const ANY_LABEL: u32 = 4_294_967_295;
@@ -36,12 +37,12 @@ pub fn step(alloc: Global, labels: &Labels, draft: Draft, line: &[u8]) -> Result
     requires front { (more : List (List ℕ))
         × (names_of (heads labels.now.places) ≡ block_names draft.blocks.items ++ more) }
     ensures right { IfOk result (λ next. (bytes : List ℕ) → line.now ≡ bytes ++ 10 ∷ [] →
-        Says (heads labels.now.places) (names_of (heads labels.now.places)) (seen draft) bytes
-        (seen next)) }
+        Says labels.now.version (heads labels.now.places) (names_of (heads labels.now.places))
+        (seen draft) bytes (seen next)) }
     ensures new { IfOk result (λ next. IsNewName (seen next)) }
     ensures within { IfOk result (λ next. IsWithin (seen next)) }
     ensures wrong { IfErr result (λ w. OnWrong w ((bytes : List ℕ) → line.now ≡ bytes ++ 10 ∷ [] →
-        IsWrong (heads labels.now.places) (seen draft) bytes w)) }
+        IsWrong labels.now.version (heads labels.now.places) (seen draft) bytes w)) }
 {
     let Draft {
         tables,
@@ -66,13 +67,13 @@ fn inside(
     requires room { length blocks.items < 65536 }
     requires named { is_among begun.name (block_names blocks.items) ≡ false }
     ensures right { IfOk result (λ next. (bytes : List ℕ) → line.now ≡ bytes ++ 10 ∷ [] →
-        Says (heads labels.now.places) (names_of (heads labels.now.places))
+        Says labels.now.version (heads labels.now.places) (names_of (heads labels.now.places))
         (Inside tables.items blocks.items begun.name begun.note begun.body.items) bytes
         (seen next)) }
     ensures new { IfOk result (λ next. IsNewName (seen next)) }
     ensures within { IfOk result (λ next. IsWithin (seen next)) }
     ensures wrong { IfErr result (λ w. OnWrong w ((bytes : List ℕ) → line.now ≡ bytes ++ 10 ∷ [] →
-        IsWrong (heads labels.now.places)
+        IsWrong labels.now.version (heads labels.now.places)
         (Inside tables.items blocks.items begun.name begun.note begun.body.items) bytes w)) }
 {
     let Some(rest) = behind(line, b"  ") else {
@@ -102,7 +103,8 @@ fn whole_instr(labels: &Labels, text: &[u8]) -> Option<Instr>
 }
 
 fn whole_term(labels: &Labels, text: &[u8]) -> Option<Term>
-    ensures { result ≡ ended (term_rest (place_of (heads labels.now.places)) text.now) }
+    ensures { result
+        ≡ ended (term_rest labels.now.version (place_of (heads labels.now.places)) text.now) }
 {
     let (term, rest) = term(labels, text)?;
     if is_end(rest) { Some(term) } else { None }
@@ -188,15 +190,17 @@ fn outside(
     line: &[u8],
 ) -> Result<Draft, Wrong>
     requires few { length tables.items ≤ 16 }
+    requires room { length blocks.items ≤ 65536 }
     requires front { (more : List (List ℕ))
         × (names_of (heads labels.now.places) ≡ block_names blocks.items ++ more) }
     ensures right { IfOk result (λ next. (bytes : List ℕ) → line.now ≡ bytes ++ 10 ∷ [] →
-        Says (heads labels.now.places) (names_of (heads labels.now.places))
+        Says labels.now.version (heads labels.now.places) (names_of (heads labels.now.places))
         (Outside tables.items blocks.items) bytes (seen next)) }
     ensures new { IfOk result (λ next. IsNewName (seen next)) }
     ensures within { IfOk result (λ next. IsWithin (seen next)) }
     ensures wrong { IfErr result (λ w. OnWrong w ((bytes : List ℕ) → line.now ≡ bytes ++ 10 ∷ [] →
-        IsWrong (heads labels.now.places) (Outside tables.items blocks.items) bytes w)) }
+        IsWrong labels.now.version (heads labels.now.places) (Outside tables.items blocks.items)
+        bytes w)) }
 {
     match behind(line, b"table t") {
         Some(rest) => {
@@ -304,20 +308,25 @@ fn header(
     line: &[u8],
 ) -> Result<Draft, Wrong>
     requires few { length tables.items ≤ 16 }
+    requires room { length blocks.items ≤ 65536 }
     requires front { (more : List (List ℕ))
         × (names_of (heads labels.now.places) ≡ block_names blocks.items ++ more) }
     requires no_table { after (codes "table t") line.now ≡ None }
     ensures right { IfOk result (λ next. (bytes : List ℕ) → line.now ≡ bytes ++ 10 ∷ [] →
-        Says (heads labels.now.places) (names_of (heads labels.now.places))
+        Says labels.now.version (heads labels.now.places) (names_of (heads labels.now.places))
         (Outside tables.items blocks.items) bytes (seen next)) }
     ensures new { IfOk result (λ next. IsNewName (seen next)) }
     ensures within { IfOk result (λ next. IsWithin (seen next)) }
     ensures wrong { IfErr result (λ w. OnWrong w ((bytes : List ℕ) → line.now ≡ bytes ++ 10 ∷ [] →
-        IsWrong (heads labels.now.places) (Outside tables.items blocks.items) bytes w)) }
+        IsWrong labels.now.version (heads labels.now.places) (Outside tables.items blocks.items)
+        bytes w)) }
 {
-    let Some((name, note)) = read_header(alloc, labels, line)? else {
+    let Some((name, number, note)) = read_header(alloc, labels, line)? else {
         return Err(Wrong::Form);
     };
+    if !is_next(labels.version, number, blocks.len()) {
+        return Err(Wrong::Form);
+    }
     match check_note(labels, tables.len() as u8, &note) {
         Ok(()) => {}
         Err(wrong) => return Err(wrong),
@@ -339,18 +348,34 @@ fn header(
     })
 }
 
-/// The name and the note in the first line of a block.
-#[tactic(auto, unfolding(crate::specs::Reading::header_rest))]
+// Whether a block's number is that of the blocks before it, where the version has numbers.
+fn is_next(version: Version, number: u64, blocks: usize) -> bool
+    ensures { result ≡ is_next version number blocks }
+{
+    match version {
+        Version::One => true,
+        Version::Two => number == blocks as u64,
+    }
+}
+
+/// The name, the number and the note in the first line of a block; the number is 0 where the
+/// version has none.
+#[tactic(auto, unfolding(crate::specs::Reading::header_rest, crate::specs::Reading::header_number))]
 pub fn read_header<'a>(
     alloc: Global,
     labels: &Labels,
     line: &'a [u8],
-) -> Result<Option<(&'a [u8], Note)>, NoMemory>
-    ensures { IfOk result (λ read.
-        Reads header_of read (ended (header_rest (place_of (heads labels.now.places))
-        line.now))) }
+) -> Result<Option<(&'a [u8], u64, Note)>, NoMemory>
+    ensures read { IfOk result (λ read.
+        Reads header_of read (ended (header_rest labels.now.version
+        (place_of (heads labels.now.places)) line.now))) }
+    ensures numbered { IfOk result (λ read. IfSome read (λ header.
+        header_number labels.now.version line.now ≡ Some header.1)) }
 {
     let Some((name, rest)) = word(line) else {
+        return Ok(None);
+    };
+    let Some((number, rest)) = block_number(labels.version, rest) else {
         return Ok(None);
     };
     let Some(rest) = behind(rest, b": ") else {
@@ -360,11 +385,22 @@ pub fn read_header<'a>(
         None => Ok(None),
         Some((note, rest)) => {
             if is_end(rest) {
-                Ok(Some((name, note)))
+                Ok(Some((name, number, note)))
             } else {
                 Ok(None)
             }
         }
+    }
+}
+
+// The number of a block behind its name, and the rest; 0 where the version has none.
+#[tactic(auto, unfolding(crate::specs::Reading::number_rest_of))]
+fn block_number(version: Version, text: &[u8]) -> Option<(u64, &[u8])>
+    ensures { Reads rest_of result (number_rest_of version text.now) }
+{
+    match version {
+        Version::One => Some((0, text)),
+        Version::Two => number(behind(text, b" #")?, 9_223_372_036_854_775_807),
     }
 }
 

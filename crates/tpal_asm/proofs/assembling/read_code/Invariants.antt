@@ -5,7 +5,7 @@ use Rattle.tpal_asm.proofs.Loops.{Led}
 use Rattle.tpal_asm.proofs.assembling.read_code.Given as goal
 
 abbrev pub invariant-loop-first : goal.invariant-loop-first
-invariant-loop-first l = Led l.fn.text l.rest (heads l.labels.places) (seen l.draft) l.line
+invariant-loop-first l = Led l.labels.version l.fn.text l.rest (heads l.labels.places) (seen l.draft) l.line
 
 abbrev pub decreases-loop-first : goal.decreases-loop-first
 decreases-loop-first l = length l.rest

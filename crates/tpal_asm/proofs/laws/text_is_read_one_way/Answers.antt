@@ -1,4 +1,4 @@
-use Rattle.tpal_print.proofs.Unique.{same_tables, same_blocks}
+use Rattle.tpal_print.proofs.Unique.{same_code}
 use Rattle.tpal_asm.proofs.OneFault.{one-fault}
 use Rattle.tpal_asm.proofs.Complete.{code-no-fault}
 use Rattle.tpal_asm.proofs.EachText.{text-ends}
@@ -8,7 +8,7 @@ pub returns-clause-one_of_them : goal.returns-clause-one_of_them
 returns-clause-one_of_them c = text-ends
 
 pub returns-clause-one_code : goal.returns-clause-one_code
-returns-clause-one_code c = λ text tables others blocks more one two. (same_tables text tables others blocks more one two, same_blocks text tables others blocks more one two)
+returns-clause-one_code c = λ text tables others blocks more one two. same_code text tables others blocks more one two
 
 pub returns-clause-one_fault : goal.returns-clause-one_fault
 returns-clause-one_fault c = one-fault

@@ -11,11 +11,11 @@ invariant_of-self c =
       words = words_after c.insert.result c.args.name c.args.is_ready m.entries c.insert.new.self.entries c.args.self.now.words c.requires.word (omega (arith, c.place.ensures, c.count.ensures, c.if-place-count.true)) c.insert.ensures.entries c.insert.ensures.err;
     }
 
-pub returns-in_ok-insert : goal.returns-in_ok-insert
-returns-in_ok-insert c =
+pub returns-in_ok-insert-clause-added : goal.returns-in_ok-insert-clause-added
+returns-in_ok-insert-clause-added c =
     let m = c.args.self.now.places in
-    record { added = with_new c.args.name c.args.is_ready m.entries c.insert.new.self.entries (omega (arith, c.place.ensures, c.count.ensures, c.if-place-count.true)) c.in_ok-insert.ensures.entries }
+    with_new c.args.name c.args.is_ready m.entries c.insert.new.self.entries (omega (arith, c.place.ensures, c.count.ensures, c.if-place-count.true)) c.in_ok-insert.ensures.entries
 
-pub returns-else-place-count : goal.returns-else-place-count
-returns-else-place-count c =
-    record { added = with_known (heads c.args.self.now.places) c.args.name.now c.args.is_ready (omega (arith, c.place.ensures, c.count.ensures, c.if-place-count.false)) }
+pub returns-else-place-count-clause-added : goal.returns-else-place-count-clause-added
+returns-else-place-count-clause-added c =
+    with_known (heads c.args.self.now.places) c.args.name.now c.args.is_ready (omega (arith, c.place.ensures, c.count.ensures, c.if-place-count.false))
