@@ -6,6 +6,7 @@ use Rattle.std.specs.Prelude.{pos, slice_get, is_some, nat_eq, nat_le, not, ◌&
 use Rattle.std.specs.Ordering.{int_eq}
 use Rattle.beat_count.specs.Heartbeat.{is_diverted}
 use Rattle.stack_marks.specs.declared.mark.Mark.{Mark}
+use Rattle.tp_value.specs.declared.values.Stop.TheVariants as stops
 use Rattle.tp_value.specs.declared.values.Stop.TheVariants.{Done}
 use Rattle.tpal_syntax.specs.declared.blocks.Block.{Block}
 use Rattle.tpal_syntax.specs.declared.instructions.Instr.{Instr}
@@ -25,6 +26,7 @@ use Rattle.tpal_machine.specs.declared.ends.SideName.TheVariants.{Left, Right}
 use Rattle.tpal_machine.specs.declared.ends.Tie.{Tie}
 use Rattle.tpal_machine.specs.declared.faults.Fault.{Fault}
 use Rattle.tpal_machine.specs.declared.faults.Fault.TheVariants as fault
+use Rattle.tpal_machine.specs.Calculation.{on_number}
 use Rattle.tpal_machine.specs.Cut.{Forked, on_record, on_pending, fork_under}
 use Rattle.tpal_machine.specs.Cut as cutting
 use Rattle.tpal_machine.specs.Effect as effect
@@ -39,8 +41,8 @@ use Rattle.tpal_machine.specs.Serial as serial
 use Rattle.tpal_machine.specs.State.{State}
 use Rattle.tpal_machine.specs.Step.{Step, Goes, Beats, Ends, Asks, Forks, Stuck, Strays, at_block}
 use Rattle.tpal_machine.specs.Step.{entered_by, stepped, asked, halting, forked, if_jump, executed}
-use Rattle.tpal_machine.specs.Step.{jump, halt, is_end, join_end, joined, join, finished, advanced}
-use Rattle.tpal_machine.specs.Step.{step_at, step_in, step}
+use Rattle.tpal_machine.specs.Step.{jump, halt, is_end, join_end, joined, join, leave, finished}
+use Rattle.tpal_machine.specs.Step.{advanced, step_at, step_in, step}
 
 -- a step that is no beat
 abbrev IsPlain : Step → Type 0
@@ -108,6 +110,16 @@ module _ (Both : Step → Step → Type 0) (every : (one : Step) → IsPlain one
       by_end true = on_halt (effect.stops after.pending Done after)
       by_end false = every (Stuck fault.WrongRecord) tt
 
+  on_leave : (w number : Word) (after : State) → Both (leave code w number after) (leave code w number after)
+  on_leave (word.Int n) number after = every (Stuck fault.NotRec) tt
+  on_leave (word.Label l) number after = every (Stuck fault.NotRec) tt
+  on_leave (word.Rec k) number after = by_end (is_end after.goal k)
+    where
+      by_end : (b : Bool) → Both (cond b (halting code (on_number number (λ n. effect.stops after.pending (stops.Left n) after))) (Stuck fault.WrongRecord)) (cond b (halting code (on_number number (λ n. effect.stops after.pending (stops.Left n) after))) (Stuck fault.WrongRecord))
+      by_end true = on_halt (on_number number (λ n. effect.stops after.pending (stops.Left n) after))
+      by_end false = every (Stuck fault.WrongRecord) tt
+  on_leave word.Nil number after = every (Stuck fault.NotRec) tt
+
   on_halted : (g : Goal) (after : State) → Both (halt g code after) (halt g code after)
   on_halted goal.Root after = on_halt (effect.stops after.pending Done after)
   on_halted (goal.At rec side target) after = every (Stuck fault.NotRoot) tt
@@ -151,6 +163,7 @@ module _ (Both : Step → Step → Type 0) (every : (one : Step) → IsPlain one
   by_term (term.Jump v) after stack = by_label (operand after.registers v) after stack
   by_term term.Halt after stack = on_halted after.goal after
   by_term (term.Join r) after stack = by_record (register after.registers r) after stack
+  by_term (term.Leave r value) after stack = on_leave (register after.registers r) (register after.registers value) after
 
   by_instr : (i : Instr) (after : State) → after.stack ≡ state.stack → Both (executed code heartbeat true i after) (executed code heartbeat false i after)
   by_instr (instr.Move to v) after stack = every _ tt
@@ -259,6 +272,12 @@ joins_on (word.Label l) code heartbeat state = tt
 joins_on (word.Rec k) code heartbeat state = meets_on state.met code heartbeat k state
 joins_on word.Nil code heartbeat state = tt
 
+leaves_on : (w number : Word) (code : Listing) (state : State) → NoFork (leave code w number state)
+leaves_on (word.Int n) number code state = tt
+leaves_on (word.Label l) number code state = tt
+leaves_on (word.Rec k) number code state = either (is_end state.goal k) _ _ (halts_on code (on_number number (λ n. effect.stops state.pending (stops.Left n) state))) tt
+leaves_on word.Nil number code state = tt
+
 halt_on : (g : Goal) (code : Listing) (state : State) → NoFork (halt g code state)
 halt_on goal.Root code state = halts_on code (effect.stops state.pending Done state)
 halt_on (goal.At rec side target) code state = tt
@@ -267,6 +286,7 @@ term_on : (t : Term) (code : Listing) (heartbeat : ℕ) (state : State) → NoFo
 term_on (term.Jump v) code heartbeat state = jumps_on (operand state.registers v) code heartbeat state
 term_on term.Halt code heartbeat state = halt_on state.goal code state
 term_on (term.Join r) code heartbeat state = joins_on (register state.registers r) code heartbeat state
+term_on (term.Leave r value) code heartbeat state = leaves_on (register state.registers r) (register state.registers value) code state
 
 no_oldest : (o : Option Mark) (go : Mark → Result Forked Fault) → is_some o ≡ false → NoFork (forked (on_oldest o go))
 no_oldest None go none = tt

@@ -1,5 +1,5 @@
 -- The merge of two sides.
-use Rattle.std.specs.Prelude.{◌≡◌, ℕ, ◌+◌, ◌≤◌, pos, nat_eq, if◌then◌else◌, List, [], ◌∷◌, ◌++◌}
+use Rattle.std.specs.Prelude.{◌≡◌, ℕ, ℤ, ◌+◌, ◌≤◌, pos, nat_eq, if◌then◌else◌, List, [], ◌∷◌, ◌++◌}
 use Rattle.std.specs.Prelude.{map, None, Some, AllPairs, slice_get, slice_set}
 use Rattle.beat_count.specs.Heartbeat.{no_beat}
 use Rattle.beat_count.specs.Joining.{joined_stop, joined_ticks}
@@ -126,11 +126,34 @@ merged_task target rest left right ticks output = record {
   waiting = None;
 }
 
+-- the registers of a task that was left with a number: the base, and the number in register 29
+abbrev pub left_registers : ℕ → ℤ → List Word
+left_registers base number =
+    slice_set (slice_set no_words 31 (word.Int (pos base))) 29 (word.Int number)
+
+-- the task that goes on there where the two were left with a number: it holds what the rest holds
+abbrev pub left_task : Target → RestState → ℤ → ℕ → List ℕ → State
+left_task target rest number ticks output = record {
+  registers = left_registers rest.base number;
+  stack = rest.stack;
+  tables = rest.tables;
+  made = rest.made;
+  fuel = record { limit = rest.limit; ticks = ticks };
+  beat = no_beat;
+  output = output;
+  goal = rest.goal;
+  block = target.comb;
+  at = 0;
+  pending = None;
+  met = None;
+  waiting = None;
+}
+
 abbrev pub joined_by : Stop → ℕ → List ℕ → Target → RestState → Side → Side → Joined
 joined_by Done ticks output target rest left right =
     Goes (merged_task target rest left right ticks output)
 joined_by (Left number) ticks output target rest left right =
-    Ends (ended_together rest.goal (Left number) ticks output)
+    Goes (left_task target rest number ticks output)
 joined_by (Trap kind place) ticks output target rest left right =
     Ends (ended_together rest.goal (Trap kind place) ticks output)
 joined_by NoFuel ticks output target rest left right =

@@ -12,7 +12,8 @@ ghost use Rattle.tpal_machine.specs.Reading.{block_at};
 ghost use Rattle.tpal_machine.specs.Seen.{state_of, Keeps, AreLow};
 ghost use Rattle.tpal_machine.specs.State.{State};
 ghost use Rattle.tpal_machine.specs.Step.{executed, finished, if_jump, jump, halt, is_end, join};
-ghost use Rattle.tpal_machine.specs.Step.{join_end, join_met, step, stepped, asked, halting};
+ghost use Rattle.tpal_machine.specs.Step.{join_end, join_met, leave_end, leave, step, stepped};
+ghost use Rattle.tpal_machine.specs.Step.{asked, halting};
 ghost use Rattle.tpal_machine.specs.declared.flow.Progress.TheVariants as ways;
 ghost use Rattle.tpal_machine.specs.declared.flow.Trouble.TheVariants as troubles;
 ghost use Rattle.slices.specs.Holding.{Holding};
@@ -282,6 +283,35 @@ fn join_under(machine: &mut Machine, code: &Code, pace: Pace, word: Word) -> Flo
     }
 }
 
+/// A leave under a record: the end of the side that has it.
+fn leave_end(machine: &mut Machine, code: &Code, number: u32, value: Word) -> Flow
+    ensures flow { IsFlow code.now (leave_end code.now number value (state_of machine.old)) result
+        (state_of machine.new) }
+    ensures room { FlowTakes result ⊥ }
+    ensures kept { Keeps machine.old machine.new }
+{
+    if !is_end(machine.goal, number) {
+        return Flow::Stuck(Fault::WrongRecord);
+    }
+    match value {
+        Word::Int(number) => stopping(stops(machine, Stop::Left(number))),
+        Word::Label(_) | Word::Rec(_) | Word::Nil => Flow::Stuck(Fault::NotInt),
+    }
+}
+
+/// `leave rA, rB`.
+fn leave_under(machine: &mut Machine, code: &Code, word: Word, value: Word) -> Flow
+    ensures flow { IsFlow code.now (leave code.now word value (state_of machine.old)) result
+        (state_of machine.new) }
+    ensures room { FlowTakes result ⊥ }
+    ensures kept { Keeps machine.old machine.new }
+{
+    match word {
+        Word::Int(_) | Word::Label(_) | Word::Nil => Flow::Stuck(Fault::NotRec),
+        Word::Rec(number) => leave_end(machine, code, number, value),
+    }
+}
+
 /// `jump v`.
 fn jump_to(machine: &mut Machine, code: &Code, pace: Pace, word: Word) -> Flow
     ensures flow { IsFlow code.now (jump code.now pace.heartbeat pace.allowed word
@@ -315,6 +345,11 @@ pub(crate) fn finish(machine: &mut Machine, code: &Code, pace: Pace, term: Term)
         Term::Join(r) => {
             let word = machine.registers[r as usize];
             join_under(machine, code, pace, word)
+        }
+        Term::Leave { rec, value } => {
+            let word = machine.registers[rec as usize];
+            let number = machine.registers[value as usize];
+            leave_under(machine, code, word, number)
         }
     }
 }

@@ -29,7 +29,8 @@ use tpal_syntax::{Code, Word};
 /// What a rest and its two sides came to.
 #[derive(Drop)]
 pub enum Merged {
-    /// The task behind the join, which goes on at the combining block.
+    /// The task behind the join, which goes on at the combining block: both are done, or they were
+    /// left.
     Runs(Task),
     /// Both ended by a stop, as a side of the record that the rest ends at.
     Arrived { rec: u32, side: SideName, out: Side },
@@ -172,6 +173,47 @@ fn merged_task(
     Ok(Task { machine })
 }
 
+/// The task behind a join that was left with a number.
+fn left_task(
+    kept: Kept,
+    number: i64,
+    code: &Code,
+    ticks: u64,
+    output: Vec<u8>,
+) -> Result<Task, NoMemory>
+    requires sound { IsRestSound kept }
+    requires ticks { IsFuel kept.limit ticks }
+    ensures { IfOk result
+        (λ task. task
+        ≡ merging.left_task (the_target code.now kept.target) (rest_state kept) number ticks
+        output.items) }
+{
+    let alloc = *output.allocator();
+    let mut registers = [Word::Nil; 32];
+    registers[31] = position(kept.base);
+    registers[29] = Word::Int(number);
+    let fuel = Fuel::at(kept.limit, ticks);
+    let machine = Box::new(
+        alloc,
+        Machine {
+            registers,
+            stack: kept.stack,
+            tables: kept.tables,
+            made: kept.made,
+            fuel,
+            beat: Beat::new(),
+            output,
+            goal: kept.goal,
+            block: comb_of(code, kept.target),
+            at: 0,
+            pending: None,
+            met: None,
+            waiting: None,
+        },
+    )?;
+    Ok(Task { machine })
+}
+
 /// Both ended by a stop.
 fn ended_together(alloc: Global, goal: Goal, stop: Stop, ticks: u64, output: Vec<u8>) -> Merged
     ensures { IsMerged (merging.Ends (merging.ended_together goal stop ticks output.items)) result }
@@ -228,14 +270,18 @@ pub(crate) fn merge_parts(
             let task = merged_task(kept, left, right, code, ticks, output)?;
             Ok(Merged::Runs(task))
         }
-        Stop::Left(_) | Stop::Trap(_, _) | Stop::NoFuel => Ok(ended_together(
+        Stop::Left(number) => {
+            let task = left_task(kept, number, code, ticks, output)?;
+            Ok(Merged::Runs(task))
+        }
+        Stop::Trap(_, _) | Stop::NoFuel => Ok(ended_together(
             alloc, kept.goal, stop, ticks, output,
         )),
     }
 }
 
 /// Puts the two sides of a rest's record together, left then right: the task behind the join, or
-/// where the two together don't come to their end, what both end with.
+/// where the two together don't come to their end and weren't left, what both end with.
 pub fn merge(rest: Rest, left: Side, right: Side, code: &Code) -> Result<Merged, NoMemory>
     requires sides { AreSides code.now rest left right }
     requires rest { RestBelongsTo code.now rest }
