@@ -180,6 +180,7 @@ module _ (code : Listing) (A : Shapes) (meets : MeetsRules code A) (right_code :
     own_ends (goal.At rec sd target) k e o j =
         true_by (λ x. Gives x) (is_end t.goal k) _ _ (subst (λ x. is_end x k ≡ true) (sym e) (eq-eqb rec k (sym (rec_is k rec o))))
         (stops_by t.pending pn stop.Done (subst (λ x. EndKnown code A (ended_at x code stop.Done t)) (sym e) (
+          tt,
           any_join (joins_of code A) s.registers j,
           found_words whole rec target sd t.pending t.met (joins_of code A) s.registers t.registers j (subst (λ x. AreOfKinds (IsOfKind whole x t.pending t.met) s.registers t.registers) e h.registers_are) (the_target code target).renames,
         )))
@@ -276,3 +277,4 @@ module _ (code : Listing) (A : Shapes) (meets : MeetsRules code A) (right_code :
     ends_come (term.Jump v) r there g = jumps v r g
     ends_come term.Halt r there g = halts t.goal refl (is_root s.at_end) refl g
     ends_come (term.Join r) z there g = joins (kind_at s r) (register t.registers r) (register_is whole false s t.registers t.stack t.goal t.pending t.met t.beat.granted h r) there g
+    ends_come (term.Leave rec value) z there g = broken_at 1 g

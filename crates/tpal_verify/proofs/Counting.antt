@@ -44,8 +44,8 @@ use Rattle.tpal_machine.specs.Reading.{register, operand, with_register, table_a
 use Rattle.tpal_machine.specs.State.{State}
 use Rattle.tpal_machine.specs.Step.{Step, Goes, Beats, Ends, Asks, Forks, Stuck, Strays, at_block}
 use Rattle.tpal_machine.specs.Step.{entered_by, stepped, asked, halting, forked, if_jump, executed}
-use Rattle.tpal_machine.specs.Step.{jump, halt, is_end, join_end, joined, join, finished, advanced}
-use Rattle.tpal_machine.specs.Step.{step_at, step_in, step}
+use Rattle.tpal_machine.specs.Step.{jump, halt, is_end, join_end, joined, join, leave_end, leave}
+use Rattle.tpal_machine.specs.Step.{finished, advanced, step_at, step_in, step}
 use Rattle.tpal_machine.proofs.Undiverted.{agrees}
 
 le_of : (a b : ℕ) → nat_le a b ≡ true → a ≤ b
@@ -193,10 +193,20 @@ module _ (heartbeat : ℕ) (allowed : Bool) (n : ℕ) where
     joins (word.Rec k) = joins_met s.met k
     joins word.Nil = tt
 
+    leaves_end : (k : ℕ) (number : Word) → Counted (leave_end code k number s)
+    leaves_end k number = either Counted (is_end s.goal k) _ _ (halts_number number _ (λ n. stops s.pending (stop.Left n) s)) tt
+
+    leaves : (w number : Word) → Counted (leave code w number s)
+    leaves (word.Int i) number = tt
+    leaves (word.Label l) number = tt
+    leaves (word.Rec k) number = leaves_end k number
+    leaves word.Nil number = tt
+
     last : (t : Term) → Counted (finished code heartbeat allowed t s)
     last (term.Jump v) = jumps (operand s.registers v)
     last term.Halt = halts s.goal
     last (term.Join r) = joins (register s.registers r)
+    last (term.Leave r value) = leaves (register s.registers r) (register s.registers value)
 
 module _ (code : Listing) (heartbeat : ℕ) where
   place_counted : (allowed : Bool) (o : Option Instr) (t : Term) (s : State) → Counted heartbeat allowed (s.beat.count + 1) (step_at code heartbeat allowed o t s)

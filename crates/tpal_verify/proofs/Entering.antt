@@ -36,7 +36,7 @@ use Rattle.tpal_verify.specs.Rounds.{Shapes, holds, holds_all}
 use Rattle.tpal_verify.specs.Breaks.{flat_break, MeetsRules}
 use Rattle.tpal_verify.specs.Safe.{IsAllowed}
 use Rattle.tpal_verify.specs.Well.{GoesWell}
-use Rattle.tpal_verify.specs.Fits.{IsOfKind, OneMark, MarkIs, GrantIs, HoldsIn, Holds, IsApart, Knows, joins_of, AnyJoin, AreFoundWords}
+use Rattle.tpal_verify.specs.Fits.{IsOfKind, OneMark, MarkIs, GrantIs, HoldsIn, Holds, IsApart, Knows, joins_of, AnyJoin, AreFoundWords, IsUnleft}
 use Rattle.tpal_verify.proofs.Order.{and_left, and_right}
 use Rattle.tpal_verify.proofs.Lower.{some_none}
 use Rattle.tpal_verify.proofs.Holding.{set_both, holds_above}
@@ -113,7 +113,7 @@ marked_stands whole m stack q h = by m stack.marks h q
 
 module _ (code : Listing) (A : Shapes) where
   abbrev pub EndKnown : Ending → Type 0
-  EndKnown (ending.At rec side out) = WhereDone out.stop (AnyJoin (joins_of code A) × AreFoundWords (joins_of code A) rec out.words)
+  EndKnown (ending.At rec side out) = IsUnleft out.stop × WhereDone out.stop (AnyJoin (joins_of code A) × AreFoundWords (joins_of code A) rec out.words)
   EndKnown (ending.Root outcome) = Unit {0}
 
   -- but for a fork, of which more is to be said

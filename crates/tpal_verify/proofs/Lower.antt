@@ -10,7 +10,7 @@ use Rattle.tpal_syntax.specs.declared.instructions.Value.TheVariants.{Reg, Int, 
 use Rattle.tpal_syntax.specs.declared.instructions.Instr.{Instr}
 use Rattle.tpal_syntax.specs.declared.instructions.Instr.TheVariants.{Move, Calc, IfJump, Load, Store, Salloc, Sfree, PrmPush, PrmPop, PrmDrop, PrmEmpty, PrmSplit, JrAlloc, Fork, Fetch, Put, Rows, Cols, Make, Tick, Trap, Print, Emit}
 use Rattle.tpal_syntax.specs.declared.instructions.Term.{Term}
-use Rattle.tpal_syntax.specs.declared.instructions.Term.TheVariants.{Jump, Halt, Join}
+use Rattle.tpal_syntax.specs.declared.instructions.Term.TheVariants.{Jump, Halt, Join, Leave}
 use Rattle.tpal_syntax.specs.declared.notes.CarryAt.{CarryAt}
 use Rattle.tpal_syntax.specs.declared.notes.CarryAt.TheVariants as carry
 use Rattle.tpal_syntax.specs.declared.notes.Note.{Note}
@@ -533,6 +533,7 @@ module _ (A : Shapes) where
     end_walks at s t (Jump Nil) w u q = is_broken at 1 u
     end_walks at s t Halt w u q = halt_below (is_root s.at_end) (is_root t.at_end) at (end_root s.at_end t.at_end w.at_end) u
     end_walks at s t (Join r) w u q = join_below (kind_at s r) (kind_at t r) s.at_end at s t (kind_at_below s t r w) w u q
+    end_walks at s t (Leave rec value) w u q = is_broken at 1 u
 
     append_forks : (fs gs xs ys : List Flow) → SameForks fs gs → ForksBelow xs ys → ForksBelow (fs ++ xs) (gs ++ ys)
     append_forks [] [] xs ys a b = b

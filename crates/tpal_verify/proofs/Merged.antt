@@ -28,10 +28,10 @@ use Rattle.schedule_core.specs.Machine.{left, right, Merged, MergedOwes, MergeOw
 use Rattle.schedule_core.specs.Tasks.{end_number, merged_of, MergesSides, MergesTo}
 use Rattle.schedule_core.proofs.Instance.{one_merge}
 use Rattle.tpal_verify.specs.Rounds.{Shapes}
-use Rattle.tpal_verify.specs.Fits.{IsPartOf, Promise, GoalKeeps, Keeps, Fits, SlicesArePartsOf, AnyJoin, AreFoundWords, joins_of, SideFits, Meets, fitting}
+use Rattle.tpal_verify.specs.Fits.{IsPartOf, Promise, GoalKeeps, Keeps, Fits, SlicesArePartsOf, AnyJoin, AreFoundWords, joins_of, IsUnleft, SideFits, Meets, fitting}
 use Rattle.tpal_verify.proofs.Forking.{ForkKnown}
 use Rattle.tpal_verify.proofs.Steady.{PartsFrom}
-use Rattle.tpal_verify.proofs.Stops.{IsDone, where_done, where_not, both_done, few_ticks}
+use Rattle.tpal_verify.proofs.Stops.{IsDone, where_done, where_not, both_done, both_unleft, few_ticks}
 use Rattle.tpal_verify.proofs.PartsWithin.{AreWithin, rest_part, left_part, child_part, each_within, put_within, slices_within, goal_within, one_part_of}
 use Rattle.tpal_verify.proofs.CutsApart.{AreApart, cuts_are, not_shared, apart_at, pairs_apart}
 
@@ -110,13 +110,14 @@ module _ (code : Listing) (A : Shapes) (heartbeat : ℕ) (right_code : IsCode co
               (slices_within parts.child.tables state.tables y.slices child_within (where_done y.stop (SlicesArePartsOf parts.child.tables y.slices) dy fy.slices))
 
       -- what both end with, where one is not
-      ends_by : (s : Stop) → (IsDone s → ⊥) → (ticks : ℕ) (output : List ℕ) → ticks ≤ parts.rest.limit + 1 → (g : Goal) → end_number (end_of g) ≡ promise.number → IsEndingOf code (ended_together g s ticks output) → Meets code A (ended_together g s ticks output) promise
-      ends_by s n ticks output le goal.Root e b = record { number = e; belongs = b; fits = tt }
-      ends_by s n ticks output le (goal.At rec sd l) e b = record {
+      ends_by : (s : Stop) → (IsDone s → ⊥) → IsUnleft s → (ticks : ℕ) (output : List ℕ) → ticks ≤ parts.rest.limit + 1 → (g : Goal) → end_number (end_of g) ≡ promise.number → IsEndingOf code (ended_together g s ticks output) → Meets code A (ended_together g s ticks output) promise
+      ends_by s n u ticks output le goal.Root e b = record { number = e; belongs = b; fits = tt }
+      ends_by s n u ticks output le (goal.At rec sd l) e b = record {
         number = e;
         belongs = b;
         fits = record {
           ticks = let p = from.rest_limit in let f = keeps.limit in omega (arith, le, p, f);
+          unleft = u;
           is_side = record { words = where_not s _ n; slices = where_not s _ n };
           reached = where_not s (AnyJoin (joins_of code A)) n;
           words = where_not s (AreFoundWords (joins_of code A) rec []) n;
@@ -124,12 +125,12 @@ module _ (code : Listing) (A : Shapes) (heartbeat : ℕ) (right_code : IsCode co
         };
       }
 
-      joined_owed : (s : Stop) (ticks : ℕ) → ticks ≤ parts.rest.limit + 1 → (IsDone s → IsDone x.stop × IsDone y.stop) → IsJoinedOf code (joined_by s ticks (joined_output parts.rest x y) target parts.rest x y)
+      joined_owed : (s : Stop) (ticks : ℕ) → ticks ≤ parts.rest.limit + 1 → (IsDone s → IsDone x.stop × IsDone y.stop) → IsUnleft s → IsJoinedOf code (joined_by s ticks (joined_output parts.rest x y) target parts.rest x y)
           → MergedOwes (fitting code A heartbeat) promise (merged_of (joined_by s ticks (joined_output parts.rest x y) target parts.rest x y))
-      joined_owed stop.Done ticks le done is = goes_on (done tt).0 (done tt).1 ticks le is
-      joined_owed (stop.Left number) ticks le done is = ends_by (stop.Left number) (λ z. z) ticks (joined_output parts.rest x y) le parts.rest.goal (ap (λ g. end_number (end_of g)) from.rest_goal ∙ keeps.number) is
-      joined_owed (stop.Trap kind place) ticks le done is = ends_by (stop.Trap kind place) (λ z. z) ticks (joined_output parts.rest x y) le parts.rest.goal (ap (λ g. end_number (end_of g)) from.rest_goal ∙ keeps.number) is
-      joined_owed stop.NoFuel ticks le done is = ends_by stop.NoFuel (λ z. z) ticks (joined_output parts.rest x y) le parts.rest.goal (ap (λ g. end_number (end_of g)) from.rest_goal ∙ keeps.number) is
+      joined_owed stop.Done ticks le done unleft is = goes_on (done tt).0 (done tt).1 ticks le is
+      joined_owed (stop.Left number) ticks le done unleft is = absurd unleft
+      joined_owed (stop.Trap kind place) ticks le done unleft is = ends_by (stop.Trap kind place) (λ z. z) tt ticks (joined_output parts.rest x y) le parts.rest.goal (ap (λ g. end_number (end_of g)) from.rest_goal ∙ keeps.number) is
+      joined_owed stop.NoFuel ticks le done unleft is = ends_by stop.NoFuel (λ z. z) tt ticks (joined_output parts.rest x y) le parts.rest.goal (ap (λ g. end_number (end_of g)) from.rest_goal ∙ keeps.number) is
 
       -- they merge to what keeps the promise of the end of the task that forked
       sides_merge : (e f : Ending) → MergesTo code parts.rest e f ≡ MergesSides code parts.rest x y → SideBelongsTo code x → SideBelongsTo code y → MergesWell (fitting code A heartbeat) promise parts.rest e f
@@ -143,6 +144,7 @@ module _ (code : Listing) (A : Shapes) (heartbeat : ℕ) (right_code : IsCode co
             owes = λ other k. subst (MergedOwes (fitting code A heartbeat) promise) (one_merge code parts.rest e f (merged_of both) other n k)
                 (joined_owed (joined_stop x.stop x.ticks y.stop y.ticks parts.rest.limit) (joined_ticks x.stop x.ticks y.stop y.ticks parts.rest.limit)
                 (few_ticks x.stop x.ticks y.stop y.ticks parts.rest.limit fx.ticks) (both_done x.stop x.ticks y.stop y.ticks parts.rest.limit)
+                (both_unleft x.stop x.ticks y.stop y.ticks parts.rest.limit fx.unleft fy.unleft)
                 (joined_of_code code parts.rest x y right_code of.rest bx by));
           }
 

@@ -113,16 +113,16 @@ module _ (code : Listing) (A : Shapes) (heartbeat : ℕ) (allowed : Bool) (F : F
 
   abbrev IsBreak : Stop → Type 0
   IsBreak stop.Done = ⊥
-  IsBreak (stop.Left number) = Unit {0}
+  IsBreak (stop.Left number) = ⊥
   IsBreak (stop.Trap kind place) = Unit {0}
   IsBreak stop.NoFuel = Unit {0}
 
   ended_by : (g : Goal) (x : Stop) (v : State) → IsBreak x → EndKnown code A (ended_at g code x v)
   ended_by goal.Root x v b = tt
   ended_by (goal.At rec side target) stop.Done v b = absurd b
-  ended_by (goal.At rec side target) (stop.Left number) v b = tt
-  ended_by (goal.At rec side target) (stop.Trap kind place) v b = tt
-  ended_by (goal.At rec side target) stop.NoFuel v b = tt
+  ended_by (goal.At rec side target) (stop.Left number) v b = absurd b
+  ended_by (goal.At rec side target) (stop.Trap kind place) v b = (tt, tt)
+  ended_by (goal.At rec side target) stop.NoFuel v b = (tt, tt)
 
   stops_by : (pending : Option Tie) (x : Stop) (v : State) → pending ≡ None → IsBreak x → Gives (halting code (effect.stops pending x v))
   stops_by None x v q b = ended_by v.goal x v b

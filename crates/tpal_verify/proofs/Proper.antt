@@ -10,7 +10,7 @@ use Rattle.tpal_syntax.specs.declared.instructions.Value.TheVariants.{Reg, Int, 
 use Rattle.tpal_syntax.specs.declared.instructions.Instr.{Instr}
 use Rattle.tpal_syntax.specs.declared.instructions.Instr.TheVariants.{Move, Calc, IfJump, Load, Store, Salloc, Sfree, PrmPush, PrmPop, PrmDrop, PrmEmpty, PrmSplit, JrAlloc, Fork, Fetch, Put, Rows, Cols, Make, Tick, Trap, Print, Emit}
 use Rattle.tpal_syntax.specs.declared.instructions.Term.{Term}
-use Rattle.tpal_syntax.specs.declared.instructions.Term.TheVariants.{Jump, Halt, Join}
+use Rattle.tpal_syntax.specs.declared.instructions.Term.TheVariants.{Jump, Halt, Join, Leave}
 use Rattle.tpal_syntax.specs.declared.notes.Note.{Note}
 use Rattle.tpal_syntax.specs.declared.notes.Note.TheVariants as note
 use Rattle.tpal_syntax.specs.declared.notes.Target.{Target}
@@ -387,6 +387,7 @@ module _ (n : ℕ) where
     end_proper at s (Jump Nil) w = breaks_proper at 1
     end_proper at s Halt w = if_either (is_root s.at_end) (only_flows []) (breaks at 6) WalkProper (λ _. record { flows = tt; forks = tt }) (breaks_proper at 6)
     end_proper at s (Join r) w = join_proper (kind_at s r) at s w
+    end_proper at s (Leave rec value) w = breaks_proper at 1
 
     on_proper : (o : Option (Phase × Shape)) (later : Phase → Shape → Walked) → OnProper n o → ((q : Phase) (t : Shape) → Proper n t → WalkProper (later q t)) → WalkProper (walk_on o later)
     on_proper None later w go = record { flows = tt; forks = tt }

@@ -50,7 +50,7 @@ use Rattle.tpal_machine.specs.declared.ends.Ending.TheVariants as ending
 use Rattle.tpal_machine.specs.Ended.{words_of, slices_of}
 use Rattle.tpal_machine.specs.Merge.{IsSideOf, WhereDone}
 use Rattle.tpal_machine.specs.Reading.{the_target, note_of}
-use Rattle.tpal_machine.specs.Step.{Step, Goes, Beats, Ends, Asks, Forks, Stuck, Strays, at_block, entered_by, stepped, asked, halting, forked, if_jump, executed, jump, halt, is_end, join_end, join_met, joined, join, finished, advanced, step_at, step_in, step}
+use Rattle.tpal_machine.specs.Step.{Step, Goes, Beats, Ends, Asks, Forks, Stuck, Strays, at_block, entered_by, stepped, asked, halting, forked, if_jump, executed, jump, halt, is_end, join_end, join_met, joined, join, leave_end, leave, finished, advanced, step_at, step_in, step}
 use Rattle.tpal_verify.specs.Fits.{IsPartOf, ArePartsOf, SlicesArePartsOf}
 
 abbrev pub IsSideGoal : Goal → Type 0
@@ -359,10 +359,20 @@ module _ (code : Listing) (heartbeat : ℕ) (allowed : Bool) where
     join_steady (word.Rec k) = joined_steady s.met k
     join_steady word.Nil = tt
 
+    leave_end_steady : (k : ℕ) (number : Word) → Is (leave_end code k number s)
+    leave_end_steady k number = either Is (is_end s.goal k) _ _ (halting_number number _ (λ n. stops s.pending (stop.Left n) s refl (λ le. le) refl)) tt
+
+    leave_steady : (w number : Word) → Is (leave code w number s)
+    leave_steady (word.Int n) number = tt
+    leave_steady (word.Label l) number = tt
+    leave_steady (word.Rec k) number = leave_end_steady k number
+    leave_steady word.Nil number = tt
+
     finished_steady : (t : Term) → Is (finished code heartbeat allowed t s)
     finished_steady (term.Jump v) = jump_steady (operand s.registers v)
     finished_steady term.Halt = halt_steady s.goal
     finished_steady (term.Join r) = join_steady (register s.registers r)
+    finished_steady (term.Leave r value) = leave_steady (register s.registers r) (register s.registers value)
 
   -- ---- steps
 

@@ -6,6 +6,7 @@ use Rattle.beat_count.specs.Joining.{joined_stop, joined_ticks}
 use Rattle.tp_value.specs.declared.values.Stop.{Stop}
 use Rattle.tp_value.specs.declared.values.Stop.TheVariants as stop
 use Rattle.tpal_machine.specs.Merge.{WhereDone}
+use Rattle.tpal_verify.specs.Fits.{IsUnleft}
 
 abbrev pub IsDone : Stop → Type 0
 IsDone stop.Done = Unit {0}
@@ -41,6 +42,17 @@ both_done stop.Done m b n limit d = (tt, by (nat_le (m + n) limit) d)
 both_done (stop.Left number) m b n limit d = absurd d
 both_done (stop.Trap kind place) m b n limit d = absurd d
 both_done stop.NoFuel m b n limit d = absurd d
+
+-- and aren't left where neither is
+pub both_unleft : (a : Stop) (m : ℕ) (b : Stop) (n limit : ℕ) → IsUnleft a → IsUnleft b → IsUnleft (joined_stop a m b n limit)
+both_unleft stop.Done m b n limit p q = by (nat_le (m + n) limit)
+  where
+    by : (t : Bool) → IsUnleft (if t then b else stop.NoFuel)
+    by true = q
+    by false = tt
+both_unleft (stop.Left number) m b n limit p q = absurd p
+both_unleft (stop.Trap kind place) m b n limit p q = tt
+both_unleft stop.NoFuel m b n limit p q = tt
 
 -- and count one tick above the limit at most
 pub few_ticks : (a : Stop) (m : ℕ) (b : Stop) (n limit : ℕ) → m ≤ limit + 1 → joined_ticks a m b n limit ≤ limit + 1

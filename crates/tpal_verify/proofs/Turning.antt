@@ -110,9 +110,10 @@ module _ (code : Listing) (A : Shapes) (meets : MeetsRules code A) (right_code :
           let b = fits.keeps.ticks in
           let c = st.0 (omega (arith, l, b)) in
           omega (arith, l, c);
+      unleft = known.0;
       is_side = subst (λ l. IsSideOf (the_target code l) out) k.0 st.1;
-      reached = where_all out.stop (AnyJoin (joins_of code A) × AreFoundWords (joins_of code A) i out.words) (AnyJoin (joins_of code A)) (λ x. x.0) known;
-      words = where_all out.stop (AnyJoin (joins_of code A) × AreFoundWords (joins_of code A) i out.words) (AreFoundWords (joins_of code A) i out.words) (λ x. x.1) known;
+      reached = where_all out.stop (AnyJoin (joins_of code A) × AreFoundWords (joins_of code A) i out.words) (AnyJoin (joins_of code A)) (λ x. x.0) known.1;
+      words = where_all out.stop (AnyJoin (joins_of code A) × AreFoundWords (joins_of code A) i out.words) (AreFoundWords (joins_of code A) i out.words) (λ x. x.1) known.1;
       slices = st.2 promise.tables k.1;
     }
 

@@ -27,6 +27,8 @@ use Rattle.tpal_machine.specs.RestState.{RestState, end_of}
 use Rattle.tpal_machine.specs.State.{State, empty_stack}
 use Rattle.tpal_machine.specs.Step.{step}
 use Rattle.tp_value.specs.Number.{truth}
+use Rattle.tp_value.specs.declared.values.Stop.{Stop}
+use Rattle.tp_value.specs.declared.values.Stop.TheVariants as stop
 use Rattle.schedule_core.specs.Machine.{root, left, right, CoreMachine}
 use Rattle.schedule_core.specs.Tasks.{end_number, turn_of, MergesTo}
 use Rattle.tpal_verify.specs.declared.kinds.Kind.{Kind}
@@ -313,11 +315,19 @@ abbrev pub AnyJoin : List (List Kind) → Type 0
 AnyJoin [] = ⊥
 AnyJoin (registers ∷ joins) = Unit {0}
 
--- a side that is done has come to a join, with words as each join finds them, and hands over parts
--- of the tables
+-- a side that wasn't left
+abbrev pub IsUnleft : Stop → Type 0
+IsUnleft stop.Done = Unit {0}
+IsUnleft (stop.Left number) = ⊥
+IsUnleft (stop.Trap kind place) = Unit {0}
+IsUnleft stop.NoFuel = Unit {0}
+
+-- no side is left; one that is done has come to a join, with words as each join finds them, and
+-- hands over parts of the tables
 pub record SideFits (code : Listing) (shapes : Shapes) (rec : ℕ) (promise : Promise) (out : Side)
     : Type 0 where
   pub ticks : out.ticks ≤ promise.limit + 1
+  pub unleft : IsUnleft out.stop
   pub is_side : IsSideOf (the_target code promise.target) out
   pub reached : WhereDone out.stop (AnyJoin (joins_of code shapes))
   pub words : WhereDone out.stop (AreFoundWords (joins_of code shapes) rec out.words)

@@ -12,7 +12,7 @@ use Rattle.tpal_syntax.specs.declared.instructions.Instr.TheVariants.{PrmSplit, 
 use Rattle.tpal_syntax.specs.declared.instructions.Instr.TheVariants.{Fetch, Put, Rows, Cols, Make}
 use Rattle.tpal_syntax.specs.declared.instructions.Instr.TheVariants.{Tick, Trap, Print, Emit}
 use Rattle.tpal_syntax.specs.declared.instructions.Term.{Term}
-use Rattle.tpal_syntax.specs.declared.instructions.Term.TheVariants.{Jump, Halt, Join}
+use Rattle.tpal_syntax.specs.declared.instructions.Term.TheVariants.{Jump, Halt, Join, Leave}
 use Rattle.tpal_syntax.specs.declared.notes.CutKind.{CutKind}
 use Rattle.tpal_syntax.specs.declared.notes.CutKind.TheVariants as cut
 use Rattle.tpal_syntax.specs.declared.notes.Note.{Note}
@@ -123,7 +123,7 @@ is_flat whole first (Trap kind place) = true
 is_flat whole first (Print r) = true
 is_flat whole first (Emit table) = true
 
--- a block's end: a jump is to a label, or back by r30
+-- a block's end: a jump is to a label, or back by r30, and nothing is left
 abbrev pub is_flat_term : Term → Bool
 is_flat_term (Jump (Reg r)) = r == 30
 is_flat_term (Jump (Int z)) = false
@@ -131,6 +131,7 @@ is_flat_term (Jump (Label l)) = is_inner l
 is_flat_term (Jump Nil) = false
 is_flat_term Halt = true
 is_flat_term (Join r) = true
+is_flat_term (Leave rec value) = false
 
 abbrev pub is_loop : CutKind → Bool
 is_loop cut.Loop = true

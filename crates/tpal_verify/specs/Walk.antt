@@ -14,7 +14,7 @@ use Rattle.tpal_syntax.specs.declared.instructions.Instr.TheVariants.{PrmSplit, 
 use Rattle.tpal_syntax.specs.declared.instructions.Instr.TheVariants.{Fetch, Put, Rows, Cols, Make}
 use Rattle.tpal_syntax.specs.declared.instructions.Instr.TheVariants.{Tick, Trap, Print, Emit}
 use Rattle.tpal_syntax.specs.declared.instructions.Term.{Term}
-use Rattle.tpal_syntax.specs.declared.instructions.Term.TheVariants.{Jump, Halt, Join}
+use Rattle.tpal_syntax.specs.declared.instructions.Term.TheVariants.{Jump, Halt, Join, Leave}
 use Rattle.tpal_syntax.specs.declared.notes.Note.{Note}
 use Rattle.tpal_syntax.specs.declared.notes.Note.TheVariants as note
 use Rattle.tpal_verify.specs.declared.kinds.Kind.{Kind}
@@ -222,6 +222,7 @@ end_walk whole at s (Jump (Label l)) = if is_inner l then only_flows ((l, s) ∷
 end_walk whole at s (Jump Nil) = breaks at 1
 end_walk whole at s Halt = if is_root s.at_end then only_flows [] else breaks at 6
 end_walk whole at s (Join r) = join_of (kind_at s r) at s
+end_walk whole at s (Leave rec value) = breaks at 1
 
 abbrev pub with_forks : List Flow → Trace → Trace
 with_forks forks trace = record trace { forks = forks ++ trace.forks }

@@ -185,6 +185,7 @@ impl Walk {
                 }
             }
             Term::Join(r) => self.join_of(r, at),
+            Term::Leave { rec: _, value: _ } => Ok(Found::broken(at, 1)),
         }
     }
 

@@ -180,6 +180,7 @@ pub fn is_flat_term(term: Term) -> bool
         },
         Term::Halt => true,
         Term::Join(_) => true,
+        Term::Leave { rec: _, value: _ } => false,
     }
 }
 
