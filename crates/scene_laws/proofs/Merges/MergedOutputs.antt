@@ -35,12 +35,7 @@ joined_printing : (stop : Stop) (ticks : ℕ) (output other more : List ℕ) (ta
     → joined_by stop ticks other target rest (record left { output = more }) right
     ≡ printing other (joined_by stop ticks output target rest left right)
 joined_printing Done ticks output other more target rest left right = refl
-joined_printing (Left number) ticks output other more target rest left right = by_goal rest.goal
-  where
-    by_goal : (g : Goal) → Ends (ended_together g (Left number) ticks other)
-        ≡ printing other (Ends (ended_together g (Left number) ticks output))
-    by_goal goal.Root = refl
-    by_goal (goal.At rec which there) = refl
+joined_printing (Left number) ticks output other more target rest left right = refl
 joined_printing (Trap kind place) ticks output other more target rest left right =
     by_goal rest.goal
   where
