@@ -11,7 +11,8 @@ use Rattle.loop_meaning.specs.Meaning.{meaning}
 use Rattle.table_text.specs.declared.fault.TableFault.{TableFault}
 use Rattle.table_text.specs.TablesText.{TablesOf, FirstTableFault}
 use Rattle.tpal_syntax.specs.Listing.{Listing}
-use Rattle.tpal_syntax.specs.Text.{CodeText}
+use Rattle.tpal_syntax.specs.declared.versions.Version.TheVariants.{Two}
+use Rattle.tpal_syntax.specs.Text.{CodeTextIn}
 use Rattle.tpal_machine.specs.State.{first_state}
 use Rattle.schedule_core.specs.declared.lanes.Tally.{Tally}
 use Rattle.schedule_core.specs.Solo.{SoloRun}
@@ -54,7 +55,7 @@ pub record Ran (program : Program) (code : Listing) (inputs : List Table) (optio
 pub record ShowsRun (code : Listing) (outcome : Outcome) (tally : Tally) (text : List ℕ) :
     Type 0 where
   pub bytes : List ℕ
-  pub code_text : CodeText bytes code.tables code.blocks
+  pub code_text : CodeTextIn Two bytes code.tables code.blocks
   pub whole : text ≡ bytes ++ text_of outcome ++ counts_line tally outcome.ticks
 
 -- the text of a run that is shown: a code whose first task owes the program's meaning, whatever is
@@ -97,7 +98,7 @@ pub data RunOwes (program : Program) (tables : List ℕ) (options : Options) (st
 -- the text is that of a code whose first task owes the program's meaning, whatever is promoted
 pub record CompilesTo (program : Program) (text : List ℕ) : Type 0 where
   pub code : Listing
-  pub code_text : CodeText text code.tables code.blocks
+  pub code_text : CodeTextIn Two text code.tables code.blocks
   pub owes : OwesMeaning program code
 
 -- ---- what a call owes

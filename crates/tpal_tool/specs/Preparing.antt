@@ -6,7 +6,8 @@ use Rattle.loop_syntax.specs.declared.program.Program.{Program}
 use Rattle.loop_meaning.specs.Answers.{status_of, text_of}
 use Rattle.loop_meaning.specs.Meaning.{meaning}
 use Rattle.tpal_syntax.specs.Listing.{Listing}
-use Rattle.tpal_syntax.specs.Text.{CodeText}
+use Rattle.tpal_syntax.specs.declared.versions.Version.TheVariants.{Two}
+use Rattle.tpal_syntax.specs.Text.{CodeTextIn}
 use Rattle.scene_laws.specs.Tables.{AreHeld, AreNamed, IsTable}
 use Rattle.code_laws.specs.Owing.{OwesMeaning}
 use Rattle.tpal_tool.specs.declared.prepared.Prepared.{Prepared}
@@ -62,7 +63,7 @@ pub record IsPreparedExec (Owes : Status → List ℕ → Type 0) (code : Listin
 -- the text of a code is what is owed, and that of a run will be
 abbrev pub Prepares : (Status → List ℕ → Type 0) → Prepared → Type 0
 Prepares Owes (prepared.Compiled code) =
-    (text : List ℕ) → CodeText text code.tables code.blocks → Owes Done text
+    (text : List ℕ) → CodeTextIn Two text code.tables code.blocks → Owes Done text
 Prepares Owes (prepared.Run run) =
     IsPreparedFor Owes run.code run.held.items (options_seen run.options)
 Prepares Owes (prepared.Exec run) =

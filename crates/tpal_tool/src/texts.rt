@@ -3,7 +3,8 @@
 ghost use Rattle.std.specs.Prelude.{◌≡◌, IfOk, false, true};
 ghost use Rattle.loop_meaning.specs.Answers.{status_of, text_of};
 ghost use Rattle.schedule_core.specs.Counting.{tally_of};
-ghost use Rattle.tpal_syntax.specs.Text.{CodeText};
+ghost use Rattle.tpal_syntax.specs.declared.versions.Version.TheVariants.{Two};
+ghost use Rattle.tpal_syntax.specs.Text.{CodeTextIn};
 ghost use Rattle.tpal_tool.specs.Answering.{status_with, whole_of};
 ghost use Rattle.tpal_tool.specs.ExecOwed.{exec_status, exec_text};
 ghost use Rattle.tpal_tool.specs.Lines.{line_of};
@@ -46,7 +47,7 @@ pub fn refused(alloc: Global, refusal: Refusal) -> Result<Answer, NoMemory>
 pub fn compiled(alloc: Global, code: &Code) -> Result<Answer, NoMemory>
     ensures status { IfOk result (λ answer. answer.status ≡ Status.Done) }
     ensures text { IfOk result
-        (λ answer. CodeText (whole_of answer.texts) code.now.tables code.now.blocks) }
+        (λ answer. CodeTextIn Two (whole_of answer.texts) code.now.tables code.now.blocks) }
 {
     let status = Status::Done;
     let texts = Texts::One(print_code(alloc, code)?);

@@ -2,7 +2,8 @@ use Rattle.std.proofs.Common.{◌≡◌, rules, Bor, ℕ, List, refl, sym, subst
 use Rattle.std.specs.Prelude.{Option, Some, IsSomeAnd, option_map}
 use Rattle.loop_syntax.specs.declared.program.Program.{Program}
 use Rattle.tpal_syntax.specs.Listing.{Listing}
-use Rattle.tpal_syntax.specs.Text.{CodeText}
+use Rattle.tpal_syntax.specs.declared.versions.Version.TheVariants.{Two}
+use Rattle.tpal_syntax.specs.Text.{CodeTextIn}
 use Rattle.tpal_tool.specs.declared.prepared.PreparedExec.{PreparedExec}
 use Rattle.tpal_tool.specs.declared.prepared.PreparedRun.{PreparedRun}
 use Rattle.tpal_tool.specs.declared.refusal.CallFault.{CallFault}
@@ -91,7 +92,7 @@ returns-in_ok-code_of-in-Compile-clause-prepared g c =
     let name : List ℕ = c.in-Compile.name.now in
     let code : Listing = c.in_ok-code_of-in-Compile.field-0 in
     let program : Program = c.in_ok-program-in-Compile.program in
-    subst (λ (r : Request). (text : List ℕ) → CodeText text code.tables code.blocks → Owed (Some (command_of r)) told Done text) (sym c.in-Compile.is)
+    subst (λ (r : Request). (text : List ℕ) → CodeTextIn Two text code.tables code.blocks → Owed (Some (command_of r)) told Done text) (sym c.in-Compile.is)
     (λ text is_text. compiled-owed told name program Done text c.in_ok-program-in-Compile.ensures.program refl
     (record { code = code; code_text = is_text; owes = c.in_ok-code_of-in-Compile.ensures }))
 
