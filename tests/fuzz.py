@@ -299,7 +299,7 @@ class Call:
         if self.status == 3:
             return refusal_fault(self.out, source, tables, compiles)
         if compiles:
-            shape = re.match(rb'(table t0 |b0: plain\n)', self.out) and self.out.endswith(b'\n')
+            shape = re.match(rb'tpal 2\n(table t0 |b0 #0: plain\n)', self.out) and self.out.endswith(b'\n')
             return None if self.status == 0 and shape else 'no code'
         return output_fault(self.status, self.out, source)
 

@@ -1,10 +1,10 @@
-// The text of a code, assembled, beside the code that it came from.
+// The texts of a code, assembled, beside the code that they came from.
 
 use crate::compiling::{Compiled, compile};
 use std::alloc::Global;
 use std::test::Fail;
 use tpal_asm::assemble;
-use tpal_print::print_code;
+use tpal_print::{print_code, print_code_1};
 use tpal_syntax::{Block, Code, CodeTable, Note, Target};
 
 fn assembled(alloc: Global, text: &[u8]) -> Option<Code> {
@@ -86,6 +86,9 @@ fn a_text_of_a_code_assembles_to_that_code(rt: HostRuntime) -> Result<(), Fail> 
     for source in cases {
         let Compiled { code, .. } = compile(rt.alloc(), source.as_bytes())?;
         let text = print_code(rt.alloc(), &code)?;
+        let again = assembled(rt.alloc(), text.as_slice()).ok_or("a code text")?;
+        assert!(&rt; is_same_code(&again, &code), "{source}");
+        let text = print_code_1(rt.alloc(), &code)?.ok_or("a text of version 1")?;
         let again = assembled(rt.alloc(), text.as_slice()).ok_or("a code text")?;
         assert!(&rt; is_same_code(&again, &code), "{source}");
         if let Some(other) = last {

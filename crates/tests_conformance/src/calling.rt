@@ -1,6 +1,6 @@
 // Calls of the program, over a shelf and a sink in memory, and of the assembler.
 
-ghost use Rattle.std.specs.Prelude.{◌≡◌, IfOk};
+ghost use Rattle.std.specs.Prelude.{◌≡◌, IfOk, IfSome};
 
 use std::alloc::{AllocError, Global};
 use std::sync::Wait;
@@ -9,7 +9,7 @@ use steal_pool::NoGate;
 use suite_cases::Failing;
 use tp_value::MAX_CODE_BYTES;
 use tpal_asm::{AsmFault, assemble};
-use tpal_print::print_code;
+use tpal_print::{print_code, print_code_1};
 use tpal_tool::{MemShelf, MemSink, tpal};
 
 /// A file with its name.
@@ -64,8 +64,20 @@ pub fn call<R: Threads + Wait + Sync + AllocGlobal>(
     })
 }
 
-/// The text of the code that a text is assembled to, which is that text. One that is too long for
-/// the assembler is taken for one with a fault behind its last line.
+/// A text that was printed, where it is this one.
+fn if_same(printed: Vec<u8>, text: &[u8]) -> Option<Vec<u8>>
+    ensures { IfSome result (λ same. same.items ≡ text.now) }
+{
+    if printed.as_slice() == text {
+        Some(printed)
+    } else {
+        None
+    }
+}
+
+/// The text of the code that a text is assembled to, in the version of that text, which is that
+/// text. One that is too long for the assembler, and one that would be printed otherwise, is taken
+/// for one with a fault behind its last line.
 pub fn reassembled(alloc: Global, text: &[u8]) -> Result<Vec<u8>, AsmFault>
     ensures same { IfOk result (λ printed. printed.items ≡ text.now) }
 {
@@ -73,5 +85,13 @@ pub fn reassembled(alloc: Global, text: &[u8]) -> Result<Vec<u8>, AsmFault>
         return Err(AsmFault::Form(u32::MAX));
     }
     let code = assemble(alloc, text)?;
-    Ok(print_code(alloc, &code)?)
+    if let Some(two) = if_same(print_code(alloc, &code)?, text) {
+        return Ok(two);
+    }
+    if let Some(one) = print_code_1(alloc, &code)? {
+        if let Some(one) = if_same(one, text) {
+            return Ok(one);
+        }
+    }
+    Err(AsmFault::Form(u32::MAX))
 }

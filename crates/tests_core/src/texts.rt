@@ -6,7 +6,7 @@ use std::test::Fail;
 use sum_code::sum_below;
 use tp_value::MAX_CODE_BYTES;
 use tpal_asm::{AsmFault, assemble};
-use tpal_print::print_code;
+use tpal_print::{print_code, print_code_1};
 
 const FIVE: &[u8] = b"main: plain
   r0 := 2
@@ -69,8 +69,8 @@ joined: jtppt assoc; {r2 -> r6, r4 -> r7}; @comb; loop; carry none
   jump @end
 ";
 
-/// Whether a text is printed back, and whether its run prints the output, with its instructions and
-/// tasks.
+/// Whether a text of version 1 is printed back, and whether its run prints the output, with its
+/// instructions and tasks.
 fn tried(
     alloc: Global,
     text: &[u8],
@@ -81,7 +81,9 @@ fn tried(
         return Ok((false, None));
     }
     let code = assemble(alloc, text)?;
-    let back = print_code(alloc, &code)?;
+    let Some(back) = print_code_1(alloc, &code)? else {
+        return Ok((false, None));
+    };
     if !code.tables().is_empty() {
         return Ok((false, None));
     }
@@ -104,7 +106,42 @@ fn texts_are_run_and_printed_back(rt: HostRuntime) -> Result<(), Fail> {
 #[test]
 fn the_sum_has_its_text(rt: HostRuntime) -> Result<(), Fail> {
     let code = sum_below(rt.alloc(), 100)?.expect(&rt, "a code");
-    let text = print_code(rt.alloc(), &code)?;
+    let text = print_code_1(rt.alloc(), &code)?.ok_or("a text")?;
     assert!(rt; text.as_slice() == SUM);
+    Ok(())
+}
+
+const FIVE_2: &[u8] = b"tpal 2
+main #0: plain
+  r0 := 2
+  r0 := r0 add 3
+  print r0
+  halt
+";
+
+const FIVE_MISNUMBERED: &[u8] = b"tpal 2
+main #1: plain
+  r0 := 2
+  r0 := r0 add 3
+  print r0
+  halt
+";
+
+fn printed_anew(alloc: Global, text: &[u8]) -> Result<Vec<u8>, AsmFault> {
+    if text.len() > MAX_CODE_BYTES as usize {
+        return Err(AsmFault::NoMemory);
+    }
+    let code = assemble(alloc, text)?;
+    Ok(print_code(alloc, &code)?)
+}
+
+#[test]
+fn a_text_has_two_versions(rt: HostRuntime) -> Result<(), Fail> {
+    for text in [FIVE, FIVE_2] {
+        let again = printed_anew(rt.alloc(), text).ok().ok_or("a code")?;
+        assert!(&rt; again.as_slice() == FIVE_2);
+    }
+    let fault = printed_anew(rt.alloc(), FIVE_MISNUMBERED).err();
+    assert_eq!(rt; fault, Some(AsmFault::Form(2)));
     Ok(())
 }

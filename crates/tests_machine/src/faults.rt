@@ -4,7 +4,7 @@
 use crate::instructions::{
     MARK, ONE_CELL, TO_HEAD, calc, load, number_at, promoted, set, store, test,
 };
-use crate::runs::{Found, expect_fault};
+use crate::runs::{Found, expect_fault, expect_fault_in};
 use std::test::Fail;
 use tp_value::Place;
 use tpal_machine::Fault;
@@ -65,6 +65,59 @@ fn each_fault_has_a_code(rt: HostRuntime) -> Result<(), Fail> {
     ];
     for (main, end, side, wanted) in cases {
         expect_fault(&rt, (main, end), side, wanted)?;
+    }
+    Ok(())
+}
+
+const fn leave(rec: u8, value: u8) -> Term {
+    Term::Leave { rec, value }
+}
+
+// A record that is the end of the side is in register 4 of it, and a second one, if any, in
+// register 0.
+#[test]
+fn a_leave_is_stuck_by_the_first_cause(rt: HostRuntime) -> Result<(), Fail> {
+    let five = set(1, 5);
+    let cases: [(&[Instr], Term, &[Instr], Term, Found); 6] = [
+        (&[], leave(0, 1), &[], HALT, in_main(Fault::NotRec, 0)),
+        (
+            &[ASK],
+            leave(0, 1),
+            &[],
+            HALT,
+            in_main(Fault::WrongRecord, 1),
+        ),
+        (
+            &promoted(),
+            TO_HEAD,
+            &[ASK],
+            leave(1, 5),
+            (Fault::NotRec, 4, 1),
+        ),
+        (
+            &promoted(),
+            TO_HEAD,
+            &[],
+            leave(4, 1),
+            (Fault::NotInt, 4, 0),
+        ),
+        (
+            &promoted(),
+            TO_HEAD,
+            &[ASK],
+            leave(4, 1),
+            (Fault::NotInt, 4, 1),
+        ),
+        (
+            &promoted(),
+            TO_HEAD,
+            &[five, ASK],
+            leave(4, 1),
+            (Fault::Pending, 4, 2),
+        ),
+    ];
+    for (main, end, side, side_end, wanted) in cases {
+        expect_fault_in(&rt, (main, end), (side, side_end), wanted)?;
     }
     Ok(())
 }

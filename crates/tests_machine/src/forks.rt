@@ -8,7 +8,7 @@ use crate::instructions::{MARK, ONE_CELL, TO_HEAD, load, number_at, set};
 use crate::runs::PROMPT;
 use std::process::Abort;
 use std::test::Fail;
-use tp_value::NoMemory;
+use tp_value::{NoMemory, Stop};
 use tpal_machine::{End, Rest, Side, Task, Turn, answer, run_task};
 use tpal_syntax::{Code, Instr, Term, Word};
 
@@ -81,8 +81,18 @@ fn sides<R: Abort + AllocGlobal>(
     main: &[Instr],
     side: &[Instr],
 ) -> Result<Option<(Side, Side)>, NoMemory> {
+    sides_of(rt, joint, main, (side, Term::Join(4)))
+}
+
+// The same where the child's block has this end.
+fn sides_of<R: Abort + AllocGlobal>(
+    rt: &R,
+    joint: Joint<'_>,
+    main: &[Instr],
+    side: (&[Instr], Term),
+) -> Result<Option<(Side, Side)>, NoMemory> {
     let alloc = rt.alloc();
-    let made = code_of(alloc, joint, (main, TO_HEAD), (side, Term::Join(4)))?;
+    let made = code_of(alloc, joint, (main, TO_HEAD), side)?;
     let code = made.expect(rt, "a code");
     let task = Task::first(alloc, &code, tables_of(alloc)?, 100)?;
     let Some((left, rest, child)) = forked(task, &code, 3) else {
@@ -186,5 +196,20 @@ fn two_sides_may_hand_nothing_over(rt: HostRuntime) -> Result<(), Fail> {
     assert_eq!(rt; right.output.items(), b"2\n".as_slice());
     assert!(rt; left.words.items().is_empty() && right.words.items().is_empty());
     assert!(rt; left.slices.items().is_empty() && right.slices.items().is_empty());
+    Ok(())
+}
+
+// The child is left with what is in register 5: it hands over what it printed and no more.
+#[test]
+fn a_side_that_is_left_hands_nothing_over(rt: HostRuntime) -> Result<(), Fail> {
+    let main = [set(3, 1), ONE_CELL, MARK];
+    let side = [set(1, 2), set(5, -7), Instr::Print(1)];
+    let end = Term::Leave { rec: 4, value: 5 };
+    let both = sides_of(&rt, ROWS, &main, (&side, end))?;
+    let (left, right) = both.expect(&rt, "two sides");
+    assert_eq!(rt; left.stop, Stop::Done);
+    assert_eq!(rt; right.stop, Stop::Left(-7));
+    assert_eq!(rt; right.output.items(), b"2\n".as_slice());
+    assert!(rt; right.words.items().is_empty() && right.slices.items().is_empty());
     Ok(())
 }

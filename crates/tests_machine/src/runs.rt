@@ -59,12 +59,12 @@ fn fault_from(task: Task, code: &Code, budget: u32, turns: u8) -> Option<Found>
 fn fault_of(
     alloc: Global,
     main: (&[Instr], Term),
-    side: &[Instr],
+    side: (&[Instr], Term),
     budget: u32,
 ) -> Result<Option<Found>, NoMemory>
     requires { 1 ≤ budget }
 {
-    match code_of(alloc, ROWS, main, (side, Term::Halt))? {
+    match code_of(alloc, ROWS, main, side)? {
         None => Ok(None),
         Some(code) => {
             let task = Task::first(alloc, &code, tables_of(alloc)?, 100)?;
@@ -73,11 +73,21 @@ fn fault_of(
     }
 }
 
-// Runs a code with this main and this side, and compares the fault that it comes to.
+// Runs a code with this main, and this side that halts, and compares the fault that it comes to.
 pub(crate) fn expect_fault<R: Abort + AllocGlobal>(
     rt: &R,
     main: (&[Instr], Term),
     side: &[Instr],
+    wanted: Found,
+) -> Result<(), NoMemory> {
+    expect_fault_in(rt, main, (side, Term::Halt), wanted)
+}
+
+// The same with this side and its end.
+pub(crate) fn expect_fault_in<R: Abort + AllocGlobal>(
+    rt: &R,
+    main: (&[Instr], Term),
+    side: (&[Instr], Term),
     wanted: Found,
 ) -> Result<(), NoMemory> {
     let found = fault_of(rt.alloc(), main, side, 100)?;
