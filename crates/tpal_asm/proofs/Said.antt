@@ -25,7 +25,7 @@ use Rattle.tpal_syntax.specs.Parts.{is_term}
 use Rattle.tpal_syntax.specs.Text.{register_text, table_text, cell_text, place_text, alu_text}
 use Rattle.tpal_syntax.specs.Text.{trap_text, value_text, instr_text, term_text, stands_in}
 use Rattle.tpal_syntax.specs.Readers.{◌>>=◌, after, branch, negative, number_at, word_at, label_at}
-use Rattle.tpal_syntax.specs.Readers.{cell_at, place_at, alu_at, trap_at, value_at}
+use Rattle.tpal_syntax.specs.Readers.{register_at, cell_at, place_at, alu_at, trap_at, value_at}
 use Rattle.tpal_print.proofs.Pieces.{and_right}
 use Rattle.tpal_asm.proofs.Sound.{bind, chosen, after-sound, number-sound, word-sound}
 use Rattle.tpal_asm.proofs.Sound.{register-sound, join2, join3, join4, join5, join7, join8}
@@ -686,13 +686,13 @@ pub term-stands : (v : Version) (f : List ℕ → ℕ) (ts : List ℕ) (r : Term
 unfolding term_rest jump_rest join_rest
 term-stands v f ts r e =
     elim (chosen {A = Term × List ℕ} (after (codes "jump ") ts) (jump_rest f) (branch (after (codes "halt") ts) (λ us. Some (Halt, us)) (branch (after (codes "join ") ts) join_rest (left_rest v ts))) r e) [
-      | inl h ↦ (let a = bind {A = Value × List ℕ} _ _ r h.2 in subst (Standing v) (same _ _ a.2) (jump_stands v a.0.0))
+      | inl h ↦ (let a = bind (value_at f h.0) (λ x. Some (Jump x.0, x.1)) r h.2 in subst (Standing v) (same (Jump a.0.0, a.0.1) r a.2) (jump_stands v a.0.0))
       | inr e1 ↦
           elim (chosen {A = Term × List ℕ} (after (codes "halt") ts) (λ us. Some (Halt, us)) (branch (after (codes "join ") ts) join_rest (left_rest v ts)) r e1) [
             | inl h ↦ subst (Standing v) (same _ _ h.2) (halt_stands v)
             | inr e2 ↦
                 elim (chosen {A = Term × List ℕ} (after (codes "join ") ts) join_rest (left_rest v ts) r e2) [
-                  | inl h ↦ (let a = bind {A = ℕ × List ℕ} _ _ r h.2 in subst (Standing v) (same _ _ a.2) (join_stands v a.0.0))
+                  | inl h ↦ (let a = bind (register_at h.0) (λ x. Some (Join x.0, x.1)) r h.2 in subst (Standing v) (same (Join a.0.0, a.0.1) r a.2) (join_stands v a.0.0))
                   | inr e3 ↦ left-stands v ts r e3
                 ]
           ]
