@@ -1,5 +1,5 @@
 -- Each line leads on from a draft, or something is wrong with it.
-use Rattle.std.proofs.Common.{◌≡◌, ◌⊎◌, ℕ, suc, ◌≤◌, ◌<◌, ◌&&◌, Bool, true, false, List, []}
+use Rattle.std.proofs.Common.{◌≡◌, ◌⊎◌, ℕ, suc, ◌≤◌, ◌<◌, ◌&&◌, true, false, List, []}
 use Rattle.std.proofs.Common.{◌∷◌, ◌++◌, length, Option, Some, None, get_or, refl, sym, ap, subst}
 use Rattle.std.proofs.Common.{◌∙◌, inl, inr, length-append, arith}
 use Rattle.std.specs.Prelude.{codes}
@@ -17,7 +17,6 @@ use Rattle.tpal_syntax.specs.declared.versions.Version.{Version}
 use Rattle.tpal_syntax.specs.Parts.{is_word, is_instr, is_term, is_carry}
 use Rattle.tpal_syntax.specs.Conditions.{IsTarget, is_renamed, are_distinct_names}
 use Rattle.tpal_syntax.specs.Conditions.{are_distinct_tables, block_names, input_names}
-use Rattle.tpal_syntax.specs.Text.{instr_text, term_text}
 use Rattle.tpal_syntax.specs.Readers.{after}
 use Rattle.tpal_asm.specs.declared.fault.Wrong.{Wrong}
 use Rattle.tpal_asm.specs.declared.fault.Wrong.TheVariants as wrongs
@@ -25,7 +24,7 @@ use Rattle.tpal_asm.specs.Reading.{ended, instr_rest, term_rest, header_rest, ta
 use Rattle.tpal_asm.specs.Labels.{Head, names_of, place_of}
 use Rattle.tpal_asm.specs.Drafts.{Draft, Outside, Inside, Says, an_instr, an_end, is_among}
 use Rattle.tpal_asm.specs.Drafts.{IsNewName, IsWithin}
-use Rattle.tpal_asm.specs.Faults.{IsWrong, IsFormed, IsLabelled}
+use Rattle.tpal_asm.specs.Faults.{IsWrong, IsFormed}
 use Rattle.tpal_asm.specs.Steps.{NoteFits, IsUnrepeated, is_numbered}
 use Rattle.tpal_asm.proofs.Sound.{after-sound}
 use Rattle.tpal_asm.proofs.Inside.{inside_says}

@@ -1,5 +1,5 @@
 -- From a draft before all blocks to the next by the line of a table.
-use Rattle.std.proofs.Common.{◌≡◌, ℕ, ◌≤◌, true, List, [], ◌∷◌, ◌++◌, length, Some, refl, sym, ap}
+use Rattle.std.proofs.Common.{◌≡◌, ℕ, ◌≤◌, true, List, [], ◌∷◌, ◌++◌, length, Some, sym, ap}
 use Rattle.std.proofs.Common.{subst, ◌∙◌, inl, inr, length-append, arith}
 use Rattle.std.specs.Prelude.{codes}
 use Rattle.tpal_syntax.specs.declared.notes.Note.{Note}
