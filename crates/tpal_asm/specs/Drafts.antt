@@ -33,7 +33,8 @@ IsNoteForm labels (note.Target t) =
     IsTrue (list_all (λ p. is_register p.0 && is_register p.1) t.renames) × (t.comb < labels)
     × IsTrue (list_all (is_carry 16) t.carries)
 
--- the line is, as the grammar has it, the first line of a block of this name; whatever its number
+-- the line is, as the grammar has it, the first line of a block of this name; whatever its number,
+-- as long as that is in the range of operands
 pub record IsHead (v : Version) (bytes : List ℕ) (head : Head) : Type 0 where
   pub names : List (List ℕ)
   pub number : ℕ
