@@ -181,8 +181,10 @@ module _ (code : Listing) (A : Shapes) (meets : MeetsRules code A) (right_code :
         true_by (λ x. Gives x) (is_end t.goal k) _ _ (subst (λ x. is_end x k ≡ true) (sym e) (eq-eqb rec k (sym (rec_is k rec o))))
         (stops_by t.pending pn stop.Done (subst (λ x. EndKnown code A (ended_at x code stop.Done t)) (sym e) (
           tt,
-          any_join (joins_of code A) s.registers j,
-          found_words whole rec target sd t.pending t.met (joins_of code A) s.registers t.registers j (subst (λ x. AreOfKinds (IsOfKind whole x t.pending t.met) s.registers t.registers) e h.registers_are) (the_target code target).renames,
+          (
+            any_join (joins_of code A) s.registers j,
+            found_words whole rec target sd t.pending t.met (joins_of code A) s.registers t.registers j (subst (λ x. AreOfKinds (IsOfKind whole x t.pending t.met) s.registers t.registers) e h.registers_are) (the_target code target).renames,
+          ),
         )))
       where
         true_by : {X : Type 0} (Q : X → Type 0) (b : Bool) (x y : X) → b ≡ true → Q x → Q (if b then x else y)
