@@ -1,8 +1,8 @@
 #!/usr/bin/env python3
 """Throws changed codes at `tpal exec` and compares each answer with that of a model.
 
-    tests/mutate.py [--program TPAL] [--count N] [--seed N] [--first N] [--runs N] [--version N]
-                    [--seconds N]
+    tests/mutate.py [--program TPAL] [--events EVENTS] [--count N] [--seed N] [--first N]
+                    [--runs N] [--version N] [--seconds N]
 
 A code is a change of one under examples/, docs/WRITING-TPAL.md, the conformance suite or
 tests/codes, or of what `tpal compile` writes of an example or of a small program. The codes follow
@@ -10,9 +10,10 @@ from the seed alone. The model has the text of a code (code_text.py), the rules 
 the machine (code_machine.py), written anew in Python: it says whether a code is refused, by which
 rule and where, and what a run writes. A code that is accepted runs several times, with heartbeats,
 fuel, diversions and instructions drawn at random, and once more with the same words. No run may be
-stuck but by DivZero, NotHeld or Made. One process runs at a time. The numbers are printed at the
-end; the status is 1 where a call differs, and each such text is kept in a folder that is named,
-with its words. `--first N --count 1` tries the text N again.
+stuck but by DivZero, NotHeld or Made. With `--events` it also runs by random events of several
+workers, by the program that crates/tests_events is built as. One process runs at a time. The
+numbers are printed at the end; the status is 1 where a call differs, and each such text is kept in
+a folder that is named, with its words. `--first N --count 1` tries the text N again.
 """
 import argparse
 import collections
@@ -37,6 +38,7 @@ ANSWERS = {0: r'(-?[0-9]+( -?[0-9]+)*)?',
            r'trap (Divide|Index|Deep|Size|Wide) at [0-9]+:[0-9]+', 2: 'out of steps|out of fuel',
            3: r'refused (E(9|10|11) at line [0-9]+|E16 V[1-7] at [A-Za-z_0-9]+:[0-9]+|'
            r'E13 input [A-Za-z_0-9]+)'}
+BY_EVENTS = r'(outcome|runs on|stuck (DivZero|NotHeld|Made))\n'
 
 
 # ---- codes to begin with
@@ -366,8 +368,8 @@ class Words:
 class Trial:
     """The calls of one code, and what is wrong with them."""
 
-    def __init__(self, program, folder, index, seconds, sample):
-        self.program, self.seconds, self.sample = program, seconds, sample
+    def __init__(self, program, events, folder, index, seconds, sample):
+        self.program, self.events, self.seconds, self.sample = program, events, seconds, sample
         self.paths = [os.path.join(folder, f'{index}.tasm'),
                       os.path.join(folder, f'{index}.tables')]
         self.calls, self.faults, self.ends = 0, [], []
@@ -428,6 +430,23 @@ class Trial:
             whole = end == 'out of steps' or rng.random() < 0.5
             self.compare(words.words() if whole else words.words()[:-2], status, text)
 
+    def run_events(self, rng):
+        """A run by random events of several workers: it has an outcome, runs on, or is stuck by one
+        of three."""
+        words = [str(rng.choice(choices)) for choices in (
+            [1, 2, 2, 3, 4, 7, 16], [1, 1, 1, 2, 3, 5, 10, 50], [0, 1, 3, 1000, 1000, 1000],
+            [0, 3, 20, 1000, 1000], range(2 ** 32), [50, 500, 3000])]
+        self.calls += 1
+        try:
+            done = subprocess.run([self.events] + words, input=self.sample.text.encode(),
+                                  capture_output=True, timeout=self.seconds)
+            line, status = done.stdout.decode('latin-1'), done.returncode
+        except subprocess.TimeoutExpired:
+            line, status = '', 'hang'
+        self.ends.append('by events ' + line.strip())
+        if status != 0 or not re.fullmatch(BY_EVENTS, line):
+            self.faults.append(f'by events {" ".join(words)}: status {status} and {line!r}')
+
     def run(self, runs):
         sample = self.sample
         if isinstance(sample.answer, str):
@@ -436,6 +455,8 @@ class Trial:
             self.compare([], 3, sample.answer + '\n')
         else:
             self.run_code(sample.rng, sample.answer, runs)
+            if self.events:
+                self.run_events(sample.rng)
         if not self.faults:
             for path in self.paths:
                 os.unlink(path)
@@ -444,6 +465,7 @@ class Trial:
 def main():
     words = argparse.ArgumentParser(description=__doc__.split('\n')[0])
     words.add_argument('--program', default=os.path.join(TOP, 'crates/tpal/out/tpal'))
+    words.add_argument('--events')
     words.add_argument('--count', type=int, default=20_000)
     words.add_argument('--seed', type=int, default=1)
     words.add_argument('--first', type=int, default=0)
@@ -452,6 +474,7 @@ def main():
     words.add_argument('--seconds', type=float, default=60)
     asked = words.parse_args()
     program = os.path.abspath(asked.program)
+    events = asked.events and os.path.abspath(asked.events)
     bases = Bases(program, asked.seed)
     print(f'{len(bases.written)} codes by hand, {len(bases.compiled)} compiled', flush=True)
     memory = '/dev/shm' if os.path.isdir('/dev/shm') else None
@@ -459,7 +482,7 @@ def main():
     ends, kinds, calls, bad, forked = collections.Counter(), collections.Counter(), 0, 0, 0
     for index in range(asked.first, asked.first + asked.count):
         sample = Sample(asked.seed, index, bases, asked.version)
-        trial = Trial(program, folder, index, asked.seconds, sample)
+        trial = Trial(program, events, folder, index, asked.seconds, sample)
         trial.run(asked.runs)
         kinds[sample.kind, 'refused' if isinstance(sample.answer, str) else 'accepted'] += 1
         ends.update(trial.ends)
