@@ -1,5 +1,5 @@
 -- A source text comes to one thing alone.
-use Rattle.std.proofs.Common.{◌≡◌, ◌≢◌, ◌<◌, ◌≤◌, ℕ, List, ap, sym, ◌∙◌, arith}
+use Rattle.std.proofs.Common.{◌≡◌, ◌≢◌, ◌<◌, ◌≤◌, ℕ, List, refl, ap, sym, ◌∙◌, arith}
 use Rattle.std.specs.Prelude.{Ok, Err, true, false}
 use Rattle.std.proofs.lemmas.Bool.{false≢true}
 use Rattle.tp_value.specs.declared.limits.TheConstants.{MAX_BLOCKS}
