@@ -46,3 +46,9 @@ pub mod Planning
 pub mod Ranges
 -- facts of lists of statements that loops and calls over them need
 pub mod Stepping
+-- each step of writing keeps what is written proper
+pub mod Conforming
+-- the blocks that are made from a site may stand in the code that is written
+pub mod Placed
+-- blocks that are named for their labels have names that differ
+pub mod Naming

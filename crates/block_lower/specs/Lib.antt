@@ -8,5 +8,7 @@ pub mod Bodies
 pub mod Lowering
 -- what is promised of writing the code of functions, of tables and of a program
 pub mod Programs
+-- what is written may stand in a code with so many tables and blocks
+pub mod Conforming
 -- why a program has no code
 pub mod Refusing

@@ -32,8 +32,10 @@ pub struct Body {
     pub size: u16,
     /// Whether no point of promotion can be reached in a call.
     pub quiet_calls: bool,
-    /// The block to which each beat goes.
+    /// The block to which each beat goes: the last one.
     pub dispatch: u32,
+    /// How many tables the program has.
+    pub tables: usize,
 }
 
 /// Where a call goes.

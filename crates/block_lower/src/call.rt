@@ -3,7 +3,10 @@
 // are made from the pair's site; round them stand the blocks of this file.
 
 ghost use Rattle.std.specs.Prelude.{◌≡◌, ℕ, ◌+◌, ◌*◌, ◌<◌, ◌≤◌, ◌∷◌, ◌++◌, [], List, pos, length};
-ghost use Rattle.std.specs.Prelude.{IfOk, OnOk};
+ghost use Rattle.std.specs.Prelude.{IfOk, IsTrue, OnOk};
+ghost use Rattle.std.specs.List.{AllByRecursion};
+ghost use Rattle.tpal_syntax.specs.Parts.{is_place};
+ghost use Rattle.tp_value.specs.declared.limits.TheConstants.{REGISTERS};
 ghost use Rattle.tp_value.specs.declared.limits.TheConstants.{MAX_ACTIVATION_CELLS, MAX_BLOCKS};
 ghost use Rattle.tp_value.specs.declared.limits.TheConstants.{MAX_PARAMETERS, MAX_TABLES};
 ghost use Rattle.tp_value.specs.declared.TrapKind.TheVariants.{Deep};
@@ -16,6 +19,7 @@ ghost use Rattle.join_gen.specs.Blocks.{call_join_blocks};
 ghost use Rattle.expr_lower.specs.Registers.{base_register};
 ghost use Rattle.block_lower.specs.declared.round.Round.{Round};
 ghost use Rattle.block_lower.specs.Bodies.{HasRoomFor, activation};
+ghost use Rattle.block_lower.specs.Conforming.{Conforms, IsCallPlaced, IsKnown, blocks_of};
 ghost use Rattle.scene_laws.specs.Code as codes;
 ghost use Rattle.scene_laws.specs.Heights.{AreLowArguments};
 ghost use Rattle.scene_laws.specs.Layout.{kept_by_both, levels_cell, value_cell};
@@ -54,6 +58,11 @@ impl Lowering {
             self.old.out self.new.out) }
         ensures on { OnOk result (self.new.on ≡ self.old.on) }
         ensures scope { OnOk result (self.new.scope ≡ self.old.scope) }
+        ensures fit { OnOk result
+            (AllByRecursion (IsKnown self.old.scope) list.now
+            → ((i : ℕ) → i < length list.now → first + i * distance < MAX_ACTIVATION_CELLS)
+            → writing.next_label self.new.out ≤ blocks_of self.old.on → Conforms self.old
+            → Conforms self.new) }
     {
         for (i, e) in list.iter().enumerate() {
             let value = self.operand(e, 0)?;
@@ -79,6 +88,7 @@ impl Lowering {
         ensures code { OnOk result (WritesPassed self.old.on count self.old.out self.new.out) }
         ensures on { OnOk result (self.new.on ≡ self.old.on) }
         ensures scope { OnOk result (self.new.scope ≡ self.old.scope) }
+        ensures fit { OnOk result (Conforms self.old → Conforms self.new) }
     {
         for i in 0..count {
             let kept = self.kept_argument(i);
@@ -97,6 +107,7 @@ impl Lowering {
             (writing.next_label self.new.out ≡ writing.next_label self.old.out) }
         ensures on { OnOk result (self.new.on ≡ self.old.on) }
         ensures scope { OnOk result (self.new.scope ≡ self.old.scope) }
+        ensures fit { OnOk result (Conforms self.old → Conforms self.new) }
     {
         self.push(Instr::Tick)?;
         self.load(0, LEVELS)?;
@@ -116,6 +127,9 @@ impl Lowering {
             Term.Halt) }
         ensures on { OnOk result (self.new.on ≡ self.old.on) }
         ensures scope { OnOk result (self.new.scope ≡ self.old.scope) }
+        ensures fit { OnOk result
+            (go < blocks_of self.old.on → IsTrue (is_place place) → Conforms self.old
+            → Conforms self.new) }
     {
         self.jump_if(0, go)?;
         self.push(Instr::Trap {
@@ -136,6 +150,9 @@ impl Lowering {
             (writing.next_label self.new.out ≡ writing.next_label self.old.out) }
         ensures on { OnOk result (self.new.on ≡ self.old.on) }
         ensures scope { OnOk result (self.new.scope ≡ self.old.scope) }
+        ensures fit { OnOk result
+            (by < REGISTERS → back < blocks_of self.old.on → Conforms self.old
+            → Conforms self.new) }
     {
         let size = self.on.size;
         self.calc(by, 0, Alu::Sub, Value::Int(1))?;
@@ -155,6 +172,7 @@ impl Lowering {
             (writing.next_label self.new.out ≡ writing.next_label self.old.out) }
         ensures on { OnOk result (self.new.on ≡ self.old.on) }
         ensures scope { OnOk result (self.new.scope ≡ self.old.scope) }
+        ensures fit { OnOk result (Conforms self.old → Conforms self.new) }
     {
         let size = self.on.size as i64;
         self.calc(BASE, BASE, alu, Value::Int(size))
@@ -174,6 +192,9 @@ impl Lowering {
             (codes.to label)) }
         ensures on { OnOk result (self.new.on ≡ self.old.on) }
         ensures scope { OnOk result (self.new.scope ≡ self.old.scope) }
+        ensures fit { OnOk result
+            (label < blocks_of self.old.on → back < blocks_of self.old.on → Conforms self.old
+            → Conforms self.new) }
     {
         self.push_given(0, back)?;
         self.push_move(Alu::Add)?;
@@ -190,6 +211,8 @@ impl Lowering {
             (writing.next_label self.new.out ≡ writing.next_label self.old.out) }
         ensures on { OnOk result (self.new.on ≡ self.old.on) }
         ensures scope { OnOk result (self.new.scope ≡ self.old.scope) }
+        ensures fit { OnOk result
+            (target.size ≤ MAX_ACTIVATION_CELLS → Conforms self.old → Conforms self.new) }
     {
         self.push(Instr::Sfree(target.size))?;
         self.push_move(Alu::Sub)?;
@@ -207,6 +230,10 @@ impl Lowering {
             (WritesCall self.old.on place target.label target.size self.old.out self.new.out) }
         ensures on { OnOk result (self.new.on ≡ self.old.on) }
         ensures scope { OnOk result (self.new.scope ≡ self.old.scope) }
+        ensures fit { OnOk result
+            (target.label < blocks_of self.old.on → target.size ≤ MAX_ACTIVATION_CELLS
+            → IsTrue (is_place place) → writing.next_label self.new.out ≤ blocks_of self.old.on
+            → Conforms self.old → Conforms self.new) }
     {
         let go = self.next_label();
         self.push_tick()?;
@@ -261,6 +288,13 @@ impl Lowering {
             self.old.out self.new.out) }
         ensures on { OnOk result (self.new.on ≡ self.old.on) }
         ensures scope { OnOk result (self.new.scope ≡ self.old.scope) }
+        ensures fit { OnOk result
+            (AllByRecursion (IsKnown self.old.scope) f.now.args.items
+            → AllByRecursion (IsKnown self.old.scope) g.now.args.items
+            → length f.now.args.items ≤ MAX_PARAMETERS
+            → HasRoomFor self.old.on (kept_by_both (length g.now.args.items))
+            → writing.next_label self.new.out ≤ blocks_of self.old.on → Conforms self.old
+            → Conforms self.new) }
     {
         let first = self.parameter_cell(0);
         let kept = self.kept_argument(0);
@@ -319,6 +353,12 @@ impl Lowering {
             (WritesFirst self.old.on place target site.now self.old.out self.new.out) }
         ensures on { OnOk result (self.new.on ≡ self.old.on) }
         ensures scope { OnOk result (self.new.scope ≡ self.old.scope) }
+        ensures fit { OnOk result
+            (target.label < blocks_of self.old.on → IsTrue (is_place place)
+            → IsCallSite site.now → IsCallPlaced self.old.on site.now
+            → site.now.entry + 1 < blocks_of self.old.on
+            → writing.next_label self.new.out ≤ blocks_of self.old.on → Conforms self.old
+            → Conforms self.new) }
     {
         let go = self.next_label();
         self.push_tick()?;
@@ -342,6 +382,9 @@ impl Lowering {
             self.new.out) }
         ensures on { OnOk result (self.new.on ≡ self.old.on) }
         ensures scope { OnOk result (self.new.scope ≡ self.old.scope) }
+        ensures fit { OnOk result
+            (site.now.label ≡ writing.label self.old.out → IsCallPlaced self.old.on site.now
+            → Conforms self.old → Conforms self.new) }
     {
         let handler = call_handler(self.alloc, site)?;
         self.append(handler)?;
@@ -361,6 +404,9 @@ impl Lowering {
             (WritesJoined self.old.on cell second back self.old.out self.new.out) }
         ensures on { OnOk result (self.new.on ≡ self.old.on) }
         ensures scope { OnOk result (self.new.scope ≡ self.old.scope) }
+        ensures fit { OnOk result
+            (cell < MAX_ACTIVATION_CELLS → second.size ≤ MAX_ACTIVATION_CELLS
+            → back < blocks_of self.old.on → Conforms self.old → Conforms self.new) }
     {
         self.store(cell, Value::Reg(0))?;
         self.push(Instr::Move {
@@ -386,6 +432,9 @@ impl Lowering {
             (WritesPassedCall self.old.on count target back self.old.out self.new.out) }
         ensures on { OnOk result (self.new.on ≡ self.old.on) }
         ensures scope { OnOk result (self.new.scope ≡ self.old.scope) }
+        ensures fit { OnOk result
+            (target.label < blocks_of self.old.on → back < blocks_of self.old.on
+            → target.size ≤ MAX_ACTIVATION_CELLS → Conforms self.old → Conforms self.new) }
     {
         self.passed(count)?;
         self.push_tick()?;
@@ -405,6 +454,9 @@ impl Lowering {
             (WritesSecond self.old.on count target back self.old.out self.new.out) }
         ensures on { OnOk result (self.new.on ≡ self.old.on) }
         ensures scope { OnOk result (self.new.scope ≡ self.old.scope) }
+        ensures fit { OnOk result
+            (target.label < blocks_of self.old.on → back < blocks_of self.old.on
+            → target.size ≤ MAX_ACTIVATION_CELLS → Conforms self.old → Conforms self.new) }
     {
         self.push(Instr::Salloc(target.size))?;
         self.push_passed_call(count, target, back)?;
@@ -421,6 +473,9 @@ impl Lowering {
             (writing.next_label self.new.out ≡ writing.next_label self.old.out) }
         ensures on { OnOk result (self.new.on ≡ self.old.on) }
         ensures scope { OnOk result (self.new.scope ≡ self.old.scope) }
+        ensures fit { OnOk result
+            (IsCallSite site.now → cell < MAX_ACTIVATION_CELLS → Conforms self.old
+            → Conforms self.new) }
     {
         self.push_move(Alu::Sub)?;
         self.pop_mark(site.mark)?;
@@ -437,6 +492,9 @@ impl Lowering {
             (writing.next_label self.new.out ≡ writing.next_label self.old.out) }
         ensures on { OnOk result (self.new.on ≡ self.old.on) }
         ensures scope { OnOk result (self.new.scope ≡ self.old.scope) }
+        ensures fit { OnOk result
+            (first.size ≤ MAX_ACTIVATION_CELLS → second.size ≤ MAX_ACTIVATION_CELLS
+            → Conforms self.old → Conforms self.new) }
     {
         if first.size != second.size {
             self.push(Instr::Sfree(first.size))?;
@@ -458,6 +516,12 @@ impl Lowering {
             self.new.out) }
         ensures on { OnOk result (self.new.on ≡ self.old.on) }
         ensures scope { OnOk result (self.new.scope ≡ self.old.scope) }
+        ensures fit { OnOk result
+            (pair.first.label < blocks_of self.old.on → pair.first.size ≤ MAX_ACTIVATION_CELLS
+            → pair.second.label < blocks_of self.old.on → pair.second.size ≤ MAX_ACTIVATION_CELLS
+            → IsTrue (is_place place) → pair.cell < MAX_ACTIVATION_CELLS
+            → writing.next_label self.new.out ≤ blocks_of self.old.on → Conforms self.old
+            → Conforms self.new) }
     {
         let Pair {
             cell,

@@ -19,6 +19,8 @@ ghost use Rattle.scene_laws.specs.Quiet.{list_is_quiet};
 ghost use Rattle.scene_laws.specs.Sizes as sizes;
 ghost use Rattle.block_lower.specs.Writing as writing;
 ghost use Rattle.block_lower.specs.Writing.{IsFresh};
+ghost use Rattle.handler_gen.specs.Sites.{over_label};
+ghost use Rattle.block_lower.specs.Conforming.{Conforms, HasLoopCells, IsLoopPlaced, blocks_of};
 
 use crate::layout::{cursor_cell, value_cell};
 use crate::lowering::{Lowering, jump};
@@ -49,6 +51,9 @@ impl Lowering {
             self.new.out) }
         ensures on { OnOk result (self.new.on ≡ self.old.on) }
         ensures scope { OnOk result (self.new.scope ≡ self.old.scope) }
+        ensures fit { OnOk result
+            (HasLoopCells site.now → head + 2 < blocks_of self.old.on → Conforms self.old
+            → Conforms self.new) }
     {
         let level = self.level();
         self.load(1, site.cursor)?;
@@ -74,6 +79,9 @@ impl Lowering {
             (WritesLast site.now turn self.old.out self.new.out) }
         ensures on { OnOk result (self.new.on ≡ self.old.on) }
         ensures scope { OnOk result (self.new.scope ≡ self.old.scope) }
+        ensures fit { OnOk result
+            (HasLoopCells site.now → over_label site.now.label < blocks_of self.old.on
+            → turn < blocks_of self.old.on → Conforms self.old → Conforms self.new) }
     {
         self.calc(2, 3, Alu::Eq, Value::Int(0))?;
         self.jump_if(2, over_label(site.label))?;
@@ -107,6 +115,9 @@ impl Lowering {
             self.new.out) }
         ensures on { OnOk result (self.new.on ≡ self.old.on) }
         ensures scope { OnOk result (self.new.scope ≡ self.old.scope) }
+        ensures fit { OnOk result
+            (IsLoopPlaced self.old.on site.now → head + 2 < blocks_of self.old.on
+            → exit < blocks_of self.old.on → Conforms self.old → Conforms self.new) }
     {
         self.push_handler(site)?;
         self.push_next(site, head)?;

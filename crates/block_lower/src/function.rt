@@ -17,6 +17,7 @@ ghost use Rattle.block_lower.specs.Programs.{FuncsFitNow};
 ghost use Rattle.scene_laws.specs.Sizes as sizes;
 ghost use Rattle.block_lower.specs.Writing as writing;
 ghost use Rattle.block_lower.specs.Writing.{IsFresh, Stands, Continues};
+ghost use Rattle.block_lower.specs.Conforming.{Conforms};
 
 use crate::body::Callee;
 use crate::layout::{RETURN, value_cell};
@@ -88,6 +89,7 @@ impl Lowering {
         ensures regs { OnOk result (self.new.scope.regs ≡ self.old.scope.regs) }
         ensures on { OnOk result (self.new.on ≡ self.old.on) }
         ensures out { OnOk result (self.new.out ≡ self.old.out) }
+        ensures fit { OnOk result (Conforms self.old → Conforms self.new) }
     {
         for x in params {
             self.declare(x)?;
@@ -109,6 +111,7 @@ impl Lowering {
             (Term.Jump (Value.Reg 1))) }
         ensures on { OnOk result (self.new.on ≡ self.old.on) }
         ensures scope { OnOk result (self.new.scope ≡ self.old.scope) }
+        ensures fit { OnOk result (Conforms self.old → Conforms self.new) }
     {
         self.load(1, RETURN)?;
         self.close(Term::Jump(Value::Reg(1)))?;

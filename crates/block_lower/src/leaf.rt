@@ -17,6 +17,7 @@ ghost use Rattle.handler_gen.specs.LeafSites.{IsLeafSite, registers_of};
 ghost use Rattle.handler_gen.specs.Registers.{leaf_accs};
 ghost use Rattle.join_gen.specs.Blocks.{loop_join_blocks};
 ghost use Rattle.block_lower.specs.Bodies.{HasRoomFor};
+ghost use Rattle.block_lower.specs.Conforming.{Conforms, IsLeafPlaced, blocks_of};
 ghost use Rattle.scene_laws.specs.Heights.{AllAreLow};
 ghost use Rattle.scene_laws.specs.Layout.{value_cell};
 ghost use Rattle.block_lower.specs.Lowering.{AreHeld, BeginsLeaf, EndsLeaf, FitsIn, FitsInside};
@@ -99,6 +100,9 @@ impl Lowering {
             self.old.out self.new.out) }
         ensures on { OnOk result (self.new.on ≡ self.old.on) }
         ensures scope { OnOk result (self.new.scope ≡ self.old.scope) }
+        ensures fit { OnOk result
+            (site.now.label ≡ writing.label self.old.out → IsLeafPlaced self.old.on site.now
+            → Conforms self.old → Conforms self.new) }
     {
         let handler = leaf_handler(self.alloc, site)?;
         self.append(handler)?;
@@ -117,11 +121,15 @@ impl Lowering {
             (Appends (start_block site.now first ∷ []) self.old.out self.new.out) }
         ensures on { OnOk result (self.new.on ≡ self.old.on) }
         ensures scope { OnOk result (self.new.scope ≡ self.old.scope) }
+        ensures fit { OnOk result
+            (sites.start_label site.now ≡ writing.label self.old.out
+            → first < blocks_of self.old.on → Conforms self.old → Conforms self.new) }
     {
         let start = leaf_start(self.alloc, site, first)?;
         let mut blocks = Vec::new(self.alloc);
         blocks.push(start)?;
-        self.append(blocks)
+        self.append(blocks)?;
+        Ok(())
     }
 
     /// The handler and the join of a leaf loop, and what stands round them.
@@ -145,6 +153,9 @@ impl Lowering {
             (WritesLeafSite self.old.scope l.now site.now first exit self.old.out self.new.out) }
         ensures on { OnOk result (self.new.on ≡ self.old.on) }
         ensures scope { OnOk result (self.new.scope ≡ self.old.scope) }
+        ensures fit { OnOk result
+            (IsLeafPlaced self.old.on site.now → first < blocks_of self.old.on
+            → exit < blocks_of self.old.on → Conforms self.old → Conforms self.new) }
     {
         let stored = stored_loop(self.alloc, site)?;
         self.push_leaf_handler(site)?;
@@ -213,6 +224,7 @@ impl Lowering {
             (writing.next_label self.new.out ≡ writing.next_label self.old.out) }
         ensures on { OnOk result (self.new.on ≡ self.old.on) }
         ensures scope { OnOk result (self.new.scope ≡ self.old.scope) }
+        ensures fit { OnOk result (Conforms self.old → Conforms self.new) }
     {
         push_leaf_stores(self.alloc, &mut self.out.body, site)?;
         Ok(())
@@ -229,6 +241,8 @@ impl Lowering {
         ensures code { OnOk result (EndsLeaf site.now self.old.out self.new.out) }
         ensures on { OnOk result (self.new.on ≡ self.old.on) }
         ensures scope { OnOk result (self.new.scope ≡ self.old.scope) }
+        ensures fit { OnOk result
+            (IsLeafPlaced self.old.on site.now → Conforms self.old → Conforms self.new) }
     {
         self.calc(LEAF_CURSOR, LEAF_CURSOR, Alu::Add, Value::Int(1))?;
         self.calc(0, LEAF_CURSOR, Alu::Lt, Value::Reg(LEAF_BOUND))?;

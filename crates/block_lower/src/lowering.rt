@@ -1,18 +1,24 @@
 // A code that is being written, with what its statements stand on.
 
 ghost use Rattle.std.specs.Prelude.{◌≡◌, ◌+◌, ◌<◌, ◌≤◌, ◌^◌, ◌++◌, ◌∷◌, [], length, take, OnOk};
-ghost use Rattle.std.specs.Prelude.{IfOk};
+ghost use Rattle.std.specs.Prelude.{IfOk, IsTrue, slice_get};
 ghost use Rattle.tp_value.specs.declared.limits.TheConstants.{MAX_BLOCKS};
 ghost use Rattle.tp_value.specs.declared.limits.TheConstants.{MAX_EXPRESSION_HEIGHT};
 ghost use Rattle.tp_value.specs.declared.limits.TheConstants.{MAX_TABLES, MAX_ACTIVATION_CELLS};
 ghost use Rattle.tp_value.specs.declared.limits.TheConstants.{MAX_DECLARED_VARIABLES};
-ghost use Rattle.tp_value.specs.declared.limits.TheConstants.{MAX_PARAMETERS};
+ghost use Rattle.tp_value.specs.declared.limits.TheConstants.{MAX_PARAMETERS, REGISTERS};
 ghost use Rattle.loop_rules.specs.Limits.{height};
 ghost use Rattle.expr_lower.specs.Bodies.{trap_count};
 ghost use Rattle.expr_lower.specs.Nodes.{IsNode, operation_height, operation_traps};
 ghost use Rattle.expr_lower.specs.Registers.{base_register};
 ghost use Rattle.loop_syntax.specs.declared.Expr.{Expr};
+ghost use Rattle.tpal_syntax.specs.Conditions.{IsHandler};
+ghost use Rattle.tpal_syntax.specs.Parts.{is_instr, is_place, is_term};
+ghost use Rattle.tpal_syntax.specs.Listing.{Listing};
+ghost use Rattle.expr_lower.specs.Fitting.{CanBeNamed};
 ghost use Rattle.scene_laws.specs.Code as codes;
+ghost use Rattle.block_lower.specs.Conforming.{AreBlocksRound, AreNamed, Conforms, IsAround};
+ghost use Rattle.block_lower.specs.Conforming.{IsKnown, IsOperand, blocks_of};
 ghost use Rattle.block_lower.specs.Lowering.{WritesOperand, WritesValue};
 ghost use Rattle.block_lower.specs.Writing as writing;
 ghost use Rattle.block_lower.specs.Writing.{IsEmpty, IsFresh, Pushes, Traps, Closes, Appends};
@@ -74,6 +80,9 @@ impl Lowering {
             (writing.next_label self.new.out ≡ writing.next_label self.old.out) }
         ensures on { OnOk result (self.new.on ≡ self.old.on) }
         ensures scope { OnOk result (self.new.scope ≡ self.old.scope) }
+        ensures fit { OnOk result
+            (IsTrue (is_instr self.old.on.tables (blocks_of self.old.on) instr)
+            → Conforms self.old → Conforms self.new) }
     {
         push(&mut self.out, instr)
     }
@@ -86,6 +95,9 @@ impl Lowering {
             (writing.next_label self.new.out ≡ writing.next_label self.old.out) }
         ensures on { OnOk result (self.new.on ≡ self.old.on) }
         ensures scope { OnOk result (self.new.scope ≡ self.old.scope) }
+        ensures fit { OnOk result
+            (to < REGISTERS → left < REGISTERS → IsOperand self.old.on right → Conforms self.old
+            → Conforms self.new) }
     {
         self.push(Instr::Calc {
             to,
@@ -103,6 +115,9 @@ impl Lowering {
             (writing.next_label self.new.out ≡ writing.next_label self.old.out) }
         ensures on { OnOk result (self.new.on ≡ self.old.on) }
         ensures scope { OnOk result (self.new.scope ≡ self.old.scope) }
+        ensures fit { OnOk result
+            (test < REGISTERS → label < blocks_of self.old.on → Conforms self.old
+            → Conforms self.new) }
     {
         self.push(Instr::IfJump { test, label })
     }
@@ -115,6 +130,9 @@ impl Lowering {
             (writing.next_label self.new.out ≡ writing.next_label self.old.out) }
         ensures on { OnOk result (self.new.on ≡ self.old.on) }
         ensures scope { OnOk result (self.new.scope ≡ self.old.scope) }
+        ensures fit { OnOk result
+            (off < MAX_ACTIVATION_CELLS → IsOperand self.old.on value → Conforms self.old
+            → Conforms self.new) }
     {
         self.push(Instr::Store {
             base: BASE,
@@ -130,6 +148,8 @@ impl Lowering {
             (writing.next_label self.new.out ≡ writing.next_label self.old.out) }
         ensures on { OnOk result (self.new.on ≡ self.old.on) }
         ensures scope { OnOk result (self.new.scope ≡ self.old.scope) }
+        ensures fit { OnOk result
+            (to < REGISTERS → off < MAX_ACTIVATION_CELLS → Conforms self.old → Conforms self.new) }
     {
         self.push(Instr::Load {
             to,
@@ -147,6 +167,9 @@ impl Lowering {
             (writing.next_label self.new.out ≡ writing.next_label self.old.out) }
         ensures on { OnOk result (self.new.on ≡ self.old.on) }
         ensures scope { OnOk result (self.new.scope ≡ self.old.scope) }
+        ensures fit { OnOk result
+            (off < MAX_ACTIVATION_CELLS → split < blocks_of self.old.on → Conforms self.old
+            → Conforms self.new) }
     {
         let cells = self.on.size;
         self.push(Instr::PrmPush {
@@ -165,6 +188,8 @@ impl Lowering {
             (writing.next_label self.new.out ≡ writing.next_label self.old.out) }
         ensures on { OnOk result (self.new.on ≡ self.old.on) }
         ensures scope { OnOk result (self.new.scope ≡ self.old.scope) }
+        ensures fit { OnOk result
+            (off < MAX_ACTIVATION_CELLS → Conforms self.old → Conforms self.new) }
     {
         self.push(Instr::PrmPop { base: BASE, off })
     }
@@ -181,6 +206,10 @@ impl Lowering {
             (WritesValue self.old.scope expr.now to self.old.out self.new.out) }
         ensures on { OnOk result (self.new.on ≡ self.old.on) }
         ensures scope { OnOk result (self.new.scope ≡ self.old.scope) }
+        ensures fit { OnOk result
+            (IsKnown self.old.scope expr.now
+            → writing.next_label self.new.out ≤ blocks_of self.old.on → Conforms self.old
+            → Conforms self.new) }
     {
         push_value(self.alloc, &mut self.out, &self.scope, expr, to)
     }
@@ -199,6 +228,13 @@ impl Lowering {
             → WritesValue self.old.scope e to self.old.out self.new.out) }
         ensures on { OnOk result (self.new.on ≡ self.old.on) }
         ensures scope { OnOk result (self.new.scope ≡ self.old.scope) }
+        ensures fit { OnOk result
+            ((e : Expr)
+            → IsNode operation.entry e
+            → IsKnown self.old.scope e
+            → writing.next_label self.new.out ≤ blocks_of self.old.on
+            → Conforms self.old
+            → Conforms self.new) }
     {
         push_operation(self.alloc, &mut self.out, &self.scope, operation, to)
     }
@@ -216,6 +252,12 @@ impl Lowering {
             value self.old.out self.new.out) }
         ensures on { OnOk result (self.new.on ≡ self.old.on) }
         ensures scope { OnOk result (self.new.scope ≡ self.old.scope) }
+        ensures fit { OnOk result
+            (IsKnown self.old.scope expr.now
+            → writing.next_label self.new.out ≤ blocks_of self.old.on → Conforms self.old
+            → Conforms self.new) }
+        ensures operand { IfOk result
+            (λ value. CanBeNamed self.old.on.tables self.old.scope → IsOperand self.old.on value) }
     {
         match literal(expr) {
             Some(number) => Ok(Value::Int(number)),
@@ -237,6 +279,8 @@ impl Lowering {
             (writing.next_label self.new.out ≡ writing.next_label self.old.out + 1) }
         ensures on { OnOk result (self.new.on ≡ self.old.on) }
         ensures scope { OnOk result (self.new.scope ≡ self.old.scope) }
+        ensures fit { OnOk result
+            (IsTrue (is_place place) → Conforms self.old → Conforms self.new) }
     {
         push_trap_block(self.alloc, &mut self.out, kind, place)
     }
@@ -249,6 +293,9 @@ impl Lowering {
             (writing.next_label self.new.out ≡ writing.next_label self.old.out + 1) }
         ensures on { OnOk result (self.new.on ≡ self.old.on) }
         ensures scope { OnOk result (self.new.scope ≡ self.old.scope) }
+        ensures fit { OnOk result
+            (IsTrue (is_term (blocks_of self.old.on) term) → Conforms self.old
+            → Conforms self.new) }
     {
         close(self.alloc, &mut self.out, term)
     }
@@ -261,6 +308,11 @@ impl Lowering {
         ensures labels { writing.next_label self.new.out ≡ writing.next_label self.old.out }
         ensures on { self.new.on ≡ self.old.on }
         ensures scope { self.new.scope ≡ self.old.scope }
+        ensures fit { ((code : Listing)
+            → IsAround self.old.on self.old.out.blocks.items code
+            → IsHandler (slice_get code.blocks to))
+            → Conforms self.old
+            → Conforms self.new }
     {
         self.out.note = Note::Ready(to);
     }
@@ -271,6 +323,11 @@ impl Lowering {
         ensures appended { OnOk result (Appends blocks.items self.old.out self.new.out) }
         ensures on { OnOk result (self.new.on ≡ self.old.on) }
         ensures scope { OnOk result (self.new.scope ≡ self.old.scope) }
+        ensures fit { OnOk result
+            (AreNamed (writing.label self.old.out) blocks.items
+            → AreBlocksRound self.old.on (self.old.out.blocks.items ++ blocks.items) blocks.items
+            → Conforms self.old
+            → Conforms self.new) }
     {
         self.out.blocks.append(&mut blocks)?;
         Ok(())
@@ -287,6 +344,7 @@ impl Lowering {
         ensures regs { OnOk result (self.new.scope.regs ≡ self.old.scope.regs) }
         ensures on { OnOk result (self.new.on ≡ self.old.on) }
         ensures out { OnOk result (self.new.out ≡ self.old.out) }
+        ensures fit { OnOk result (Conforms self.old → Conforms self.new) }
     {
         declare(self.alloc, &mut self.scope, &x.text)
     }
@@ -299,6 +357,7 @@ impl Lowering {
         ensures regs { self.new.scope.regs ≡ self.old.scope.regs }
         ensures on { self.new.on ≡ self.old.on }
         ensures out { self.new.out ≡ self.old.out }
+        ensures fit { Conforms self.old → Conforms self.new }
     {
         leave(&mut self.scope, level);
     }

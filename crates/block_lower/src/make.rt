@@ -14,6 +14,10 @@ ghost use Rattle.block_lower.specs.declared.body.Body.{Body};
 ghost use Rattle.std.specs.List.{AllByRecursion};
 ghost use Rattle.tp_value.specs.declared.limits.TheConstants.{MAX_BLOCKS};
 ghost use Rattle.tp_value.specs.declared.limits.TheConstants.{MAX_EXPRESSION_HEIGHT, MAX_TABLES};
+ghost use Rattle.std.specs.Prelude.{IsTrue};
+ghost use Rattle.tp_value.specs.declared.limits.TheConstants.{REGISTERS};
+ghost use Rattle.tpal_syntax.specs.Parts.{is_place};
+ghost use Rattle.block_lower.specs.Conforming.{Conforms, IsKnown, blocks_of};
 
 use crate::lowering::Lowering;
 use crate::sizes::is_low_at;
@@ -33,6 +37,10 @@ impl Lowering {
             (writing.next_label self.new.out ≡ writing.next_label self.old.out) }
         ensures on { OnOk result (self.new.on ≡ self.old.on) }
         ensures scope { OnOk result (self.new.scope ≡ self.old.scope) }
+        ensures fit { OnOk result
+            (length self.old.scope.tables.items < self.old.on.tables
+            → IsTrue (is_place x.now.place) → rows < REGISTERS → cols < REGISTERS
+            → Conforms self.old → Conforms self.new) }
     {
         let table = self.next_table();
         self.push(Instr::Make {
@@ -60,6 +68,12 @@ impl Lowering {
             self.new.out) }
         ensures on { OnOk result (self.new.on ≡ self.old.on) }
         ensures scope { OnOk result (self.new.scope ≡ self.old.scope) }
+        ensures fit { OnOk result
+            (length self.old.scope.tables.items < self.old.on.tables
+            → IsTrue (is_place x.now.place) → IsKnown self.old.scope a.now
+            → IsKnown self.old.scope b.now
+            → writing.next_label self.new.out ≤ blocks_of self.old.on → Conforms self.old
+            → Conforms self.new) }
     {
         self.value(a, 0)?;
         self.value(b, 1)?;
@@ -83,6 +97,12 @@ impl Lowering {
             self.old.out self.new.out) }
         ensures on { OnOk result (self.new.on ≡ self.old.on) }
         ensures scope { OnOk result (self.new.scope ≡ self.old.scope) }
+        ensures fit { OnOk result
+            (length self.old.scope.tables.items < self.old.on.tables
+            → IsTrue (is_place x.now.place) → IsKnown self.old.scope a.now
+            → IsKnown self.old.scope b.now
+            → writing.next_label self.new.out ≤ blocks_of self.old.on → Conforms self.old
+            → Conforms self.new) }
     {
         let kept = self.kept_cell(0);
         self.value(a, 0)?;

@@ -7,6 +7,9 @@ ghost use Rattle.expr_lower.specs.Bodies.{body_of, traps_of, trap_count};
 ghost use Rattle.expr_lower.specs.Nodes.{IsNode, operation_height, operation_traps};
 ghost use Rattle.loop_rules.specs.Limits.{height};
 ghost use Rattle.loop_syntax.specs.declared.Expr.{Expr};
+ghost use Rattle.expr_lower.specs.Fitting.{CanBeNamed};
+ghost use Rattle.block_lower.specs.declared.body.Body.{Body};
+ghost use Rattle.block_lower.specs.Conforming.{IsKnown, IsProper, blocks_of};
 ghost use Rattle.block_lower.specs.Lowering.{WritesValue};
 ghost use Rattle.block_lower.specs.Writing as writing;
 ghost use Rattle.block_lower.specs.Writing.{IsFresh, Pushes, Traps, Closes};
@@ -91,6 +94,13 @@ pub fn push_value(
     ensures labels { OnOk result
         (writing.next_label out.new ≡ writing.next_label out.old + trap_count expr.now) }
     ensures code { OnOk result (WritesValue scope.now expr.now to out.old out.new) }
+    ensures proper { OnOk result
+        ((on : Body)
+        → CanBeNamed on.tables scope.now
+        → IsKnown scope.now expr.now
+        → writing.next_label out.new ≤ blocks_of on
+        → IsProper on out.old
+        → IsProper on out.new) }
 {
     let first = label(out) + 1;
     let site = Site { to, first };
@@ -115,6 +125,14 @@ pub fn push_operation(
         ≡ writing.next_label out.old + operation_traps operation.entry) }
     ensures code { OnOk result
         ((e : Expr) → IsNode operation.entry e → WritesValue scope.now e to out.old out.new) }
+    ensures proper { OnOk result
+        ((on : Body) (e : Expr)
+        → IsNode operation.entry e
+        → CanBeNamed on.tables scope.now
+        → IsKnown scope.now e
+        → writing.next_label out.new ≤ blocks_of on
+        → IsProper on out.old
+        → IsProper on out.new) }
 {
     let first = label(out) + 1;
     let site = Site { to, first };

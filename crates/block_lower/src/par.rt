@@ -28,6 +28,11 @@ ghost use Rattle.scene_laws.specs.Sites.{loop_site};
 ghost use Rattle.scene_laws.specs.Sizes as sizes;
 ghost use Rattle.block_lower.specs.Writing as writing;
 ghost use Rattle.block_lower.specs.Writing.{IsFresh, Pushes, Appends, Stands, Continues};
+ghost use Rattle.std.specs.Prelude.{IsTrue};
+ghost use Rattle.tpal_syntax.specs.Parts.{is_place};
+ghost use Rattle.handler_gen.specs.Sites.{split_label};
+ghost use Rattle.block_lower.specs.Conforming.{Conforms, HasLoopCells, IsLoopPlaced, IsOperand};
+ghost use Rattle.block_lower.specs.Conforming.{IsKnown, blocks_of};
 
 use crate::layout::value_cell;
 use crate::lowering::{Lowering, jump};
@@ -65,6 +70,9 @@ impl Lowering {
         ensures code { OnOk result (WritesSome check exit self.old.out self.new.out) }
         ensures on { OnOk result (self.new.on ≡ self.old.on) }
         ensures scope { OnOk result (self.new.scope ≡ self.old.scope) }
+        ensures fit { OnOk result
+            (check < blocks_of self.old.on → exit < blocks_of self.old.on → Conforms self.old
+            → Conforms self.new) }
     {
         self.calc(2, 1, Alu::Lt, Value::Reg(0))?;
         self.jump_if(2, check)?;
@@ -81,6 +89,9 @@ impl Lowering {
             (writing.next_label self.new.out ≡ writing.next_label self.old.out) }
         ensures on { OnOk result (self.new.on ≡ self.old.on) }
         ensures scope { OnOk result (self.new.scope ≡ self.old.scope) }
+        ensures fit { OnOk result
+            (IsOperand self.old.on (Value.Int bound) → label < blocks_of self.old.on
+            → Conforms self.old → Conforms self.new) }
     {
         self.calc(3, 2, alu, Value::Int(bound))?;
         self.jump_if(3, label)?;
@@ -97,6 +108,9 @@ impl Lowering {
         ensures code { OnOk result (WritesLength self.old.out self.new.out) }
         ensures on { OnOk result (self.new.on ≡ self.old.on) }
         ensures scope { OnOk result (self.new.scope ≡ self.old.scope) }
+        ensures fit { OnOk result
+            (writing.next_label self.old.out < blocks_of self.old.on → Conforms self.old
+            → Conforms self.new) }
     {
         let wide = self.next_label();
         self.calc(2, 0, Alu::Sub, Value::Reg(1))?;
@@ -137,6 +151,10 @@ impl Lowering {
             self.old.out self.new.out) }
         ensures on { OnOk result (self.new.on ≡ self.old.on) }
         ensures scope { OnOk result (self.new.scope ≡ self.old.scope) }
+        ensures fit { OnOk result
+            (IsKnown self.old.scope l.now.from → IsKnown self.old.scope l.now.to
+            → exit < blocks_of self.old.on → writing.next_label self.new.out < blocks_of self.old.on
+            → Conforms self.old → Conforms self.new) }
     {
         let check = self.next_label() + trap_count(&l.from) + trap_count(&l.to);
         let site = self.site_of(round, l, check + 2, cursor)?;
@@ -158,6 +176,11 @@ impl Lowering {
         ensures code { OnOk result (WritesBegin place site.now first self.old.out self.new.out) }
         ensures on { OnOk result (self.new.on ≡ self.old.on) }
         ensures scope { OnOk result (self.new.scope ≡ self.old.scope) }
+        ensures fit { OnOk result
+            (IsTrue (is_place place) → HasLoopCells site.now
+            → split_label site.now < blocks_of self.old.on → first < blocks_of self.old.on
+            → writing.next_label self.new.out ≤ blocks_of self.old.on → Conforms self.old
+            → Conforms self.new) }
     {
         let wide = self.next_label();
         self.store(site.rec, Value::Nil)?;
@@ -183,6 +206,9 @@ impl Lowering {
             (codes.to (side_label site.now.label))) }
         ensures on { OnOk result (self.new.on ≡ self.old.on) }
         ensures scope { OnOk result (self.new.scope ≡ self.old.scope) }
+        ensures fit { OnOk result
+            (HasLoopCells site.now → side_label site.now.label < blocks_of self.old.on
+            → exit < blocks_of self.old.on → Conforms self.old → Conforms self.new) }
     {
         self.load(RECORD, site.rec)?;
         self.calc(TEST, RECORD, Alu::Eq, Value::Nil)?;
@@ -205,6 +231,9 @@ impl Lowering {
             (codes.to (side_label site.now.label))) }
         ensures on { OnOk result (self.new.on ≡ self.old.on) }
         ensures scope { OnOk result (self.new.scope ≡ self.old.scope) }
+        ensures fit { OnOk result
+            (HasLoopCells site.now → side_label site.now.label < blocks_of self.old.on
+            → exit < blocks_of self.old.on → Conforms self.old → Conforms self.new) }
     {
         self.pop_mark(site.mark)?;
         self.push_end(site, exit)?;
@@ -224,6 +253,8 @@ impl Lowering {
             (WritesPrep self.old.scope l.now site.now.label self.old.out self.new.out) }
         ensures on { OnOk result (self.new.on ≡ self.old.on) }
         ensures scope { OnOk result (self.new.scope ≡ self.old.scope) }
+        ensures fit { OnOk result
+            (site.now.label < blocks_of self.old.on → Conforms self.old → Conforms self.new) }
     {
         if !have_row(&l.carries) {
             return Ok(());
@@ -244,6 +275,9 @@ impl Lowering {
             self.new.out) }
         ensures on { OnOk result (self.new.on ≡ self.old.on) }
         ensures scope { OnOk result (self.new.scope ≡ self.old.scope) }
+        ensures fit { OnOk result
+            (site.now.label ≡ writing.label self.old.out → IsLoopPlaced self.old.on site.now
+            → Conforms self.old → Conforms self.new) }
     {
         let handler = loop_handler(self.alloc, site)?;
         self.append(handler)?;
@@ -274,6 +308,9 @@ impl Lowering {
             (WritesSite self.old.scope l.now site.now first exit self.old.out self.new.out) }
         ensures on { OnOk result (self.new.on ≡ self.old.on) }
         ensures scope { OnOk result (self.new.scope ≡ self.old.scope) }
+        ensures fit { OnOk result
+            (IsLoopPlaced self.old.on site.now → first < blocks_of self.old.on
+            → exit < blocks_of self.old.on → Conforms self.old → Conforms self.new) }
     {
         self.push_handler(site)?;
         self.close(jump(first))?;

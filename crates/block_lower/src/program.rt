@@ -22,6 +22,7 @@ ghost use Rattle.block_lower.specs.Refusing.{IsCause};
 ghost use Rattle.scene_laws.specs.Sizes as sizes;
 ghost use Rattle.block_lower.specs.Writing as writing;
 ghost use Rattle.block_lower.specs.Writing.{IsFresh, Pushes};
+ghost use Rattle.block_lower.specs.Conforming.{Conforms};
 
 use crate::body::Body;
 use crate::count::block_count;
@@ -99,6 +100,7 @@ fn main_body(alloc: Global, program: &Program) -> Result<Body, NoMemory>
         (sizes.kept_by_decls program.now.tables.items)) }
     ensures calls { IfOk result (λ on. on.quiet_calls ≡ programs.quiet_calls program.now) }
     ensures dispatch { IfOk result (λ on. on.dispatch ≡ programs.dispatch_of program.now) }
+    ensures tables { IfOk result (λ on. on.tables ≡ length program.now.tables.items) }
 {
     let quiet_calls = functions_are_quiet(&program.funcs);
     let first = added_by_main(program, quiet_calls);
@@ -113,6 +115,7 @@ fn main_body(alloc: Global, program: &Program) -> Result<Body, NoMemory>
         size,
         quiet_calls,
         dispatch,
+        tables: program.tables.len(),
     })
 }
 
@@ -128,6 +131,7 @@ impl Lowering {
             (writing.next_label self.new.out ≡ writing.next_label self.old.out) }
         ensures on { OnOk result (self.new.on ≡ self.old.on) }
         ensures scope { OnOk result (self.new.scope ≡ self.old.scope) }
+        ensures fit { OnOk result (Conforms self.old → Conforms self.new) }
     {
         let size = self.on.size;
         self.push(Instr::Salloc(size))?;

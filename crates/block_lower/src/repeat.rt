@@ -6,7 +6,9 @@ ghost use Rattle.tp_value.specs.declared.limits.TheConstants.{MAX_BLOCKS, MAX_DE
 ghost use Rattle.tp_value.specs.declared.limits.TheConstants.{MAX_EXPRESSION_HEIGHT, MAX_TABLES};
 ghost use Rattle.loop_rules.specs.Limits.{height};
 ghost use Rattle.expr_lower.specs.Bodies.{trap_count};
+ghost use Rattle.tp_value.specs.declared.limits.TheConstants.{REGISTERS};
 ghost use Rattle.block_lower.specs.Bodies.{HasRoomFor};
+ghost use Rattle.block_lower.specs.Conforming.{Conforms, IsKnown, IsOperand, blocks_of};
 ghost use Rattle.scene_laws.specs.Code as codes;
 ghost use Rattle.scene_laws.specs.Heights.{AllAreLow};
 ghost use Rattle.block_lower.specs.Lowering.{Lowers, WithBody, LowersBody, WritesBelow};
@@ -140,6 +142,10 @@ impl Lowering {
             (WritesBounds self.old.scope a.now b.now self.old.out self.new.out) }
         ensures on { OnOk result (self.new.on ≡ self.old.on) }
         ensures scope { OnOk result (self.new.scope ≡ self.old.scope) }
+        ensures fit { OnOk result
+            (IsKnown self.old.scope a.now → IsKnown self.old.scope b.now
+            → writing.next_label self.new.out ≤ blocks_of self.old.on → Conforms self.old
+            → Conforms self.new) }
     {
         let level = self.level();
         self.value(a, 0)?;
@@ -161,6 +167,9 @@ impl Lowering {
             (WritesBelow counter bound again exit self.old.out self.new.out) }
         ensures on { OnOk result (self.new.on ≡ self.old.on) }
         ensures scope { OnOk result (self.new.scope ≡ self.old.scope) }
+        ensures fit { OnOk result
+            (counter < REGISTERS → IsOperand self.old.on bound → again < blocks_of self.old.on
+            → exit < blocks_of self.old.on → Conforms self.old → Conforms self.new) }
     {
         self.calc(0, counter, Alu::Lt, bound)?;
         self.jump_if(0, again)?;
@@ -177,6 +186,7 @@ impl Lowering {
             (writing.next_label self.new.out ≡ writing.next_label self.old.out) }
         ensures on { OnOk result (self.new.on ≡ self.old.on) }
         ensures scope { OnOk result (self.new.scope ≡ self.old.scope) }
+        ensures fit { OnOk result (counter < REGISTERS → Conforms self.old → Conforms self.new) }
     {
         self.load(counter, value_cell(level))?;
         self.calc(counter, counter, Alu::Add, Value::Int(1))?;
@@ -198,6 +208,11 @@ impl Lowering {
             (WritesStart self.old.scope a.now bound again exit self.old.out self.new.out) }
         ensures on { OnOk result (self.new.on ≡ self.old.on) }
         ensures scope { OnOk result (self.new.scope ≡ self.old.scope) }
+        ensures fit { OnOk result
+            (IsKnown self.old.scope a.now → again < blocks_of self.old.on
+            → exit < blocks_of self.old.on
+            → writing.next_label self.new.out ≤ blocks_of self.old.on → Conforms self.old
+            → Conforms self.new) }
     {
         let cell = value_cell(self.level());
         self.value(a, 0)?;
@@ -223,6 +238,11 @@ impl Lowering {
             self.new.out) }
         ensures on { OnOk result (self.new.on ≡ self.old.on) }
         ensures scope { OnOk result (self.new.scope ≡ self.old.scope) }
+        ensures fit { OnOk result
+            (IsKnown self.old.scope a.now → IsKnown self.old.scope b.now
+            → again < blocks_of self.old.on → exit < blocks_of self.old.on
+            → writing.next_label self.new.out ≤ blocks_of self.old.on → Conforms self.old
+            → Conforms self.new) }
     {
         self.bounds(a, b)?;
         self.below(1, Value::Reg(0), again, exit)?;
@@ -256,6 +276,12 @@ impl Lowering {
             self.old.out self.new.out) }
         ensures on { OnOk result (self.new.on ≡ self.old.on) }
         ensures scope { OnOk result (self.new.scope ≡ self.old.scope) }
+        ensures fit { OnOk result
+            (IsKnown self.old.scope a.now → IsKnown self.old.scope b.now
+            → writing.next_label self.new.out
+            + (sizes.added_by_list self.old.on.quiet_calls body.now + 1)
+            ≤ blocks_of self.old.on
+            → Conforms self.old → Conforms self.new) }
     {
         let level = self.level();
         let again = self.next_label() + trap_count(a) + trap_count(b);
@@ -292,6 +318,9 @@ impl Lowering {
         ensures code { OnOk result (EndsLoop turns self.old.out self.new.out) }
         ensures on { OnOk result (self.new.on ≡ self.old.on) }
         ensures scope { OnOk result (self.new.scope ≡ self.old.scope) }
+        ensures fit { OnOk result
+            (turns.again < blocks_of self.old.on → turns.exit < blocks_of self.old.on
+            → Conforms self.old → Conforms self.new) }
     {
         match turns.bound {
             Bound::Number(number) => {

@@ -1,7 +1,8 @@
 // The variables that are visible while statements are lowered.
 
-ghost use Rattle.std.specs.Prelude.{◌≡◌, ◌<◌, ◌≤◌, ◌+◌, ◌++◌, ◌∷◌, [], take, length, OnOk};
+ghost use Rattle.std.specs.Prelude.{◌≡◌, ℕ, ◌<◌, ◌≤◌, ◌+◌, ◌++◌, ◌∷◌, [], take, length, OnOk};
 ghost use Rattle.tp_value.specs.declared.limits.TheConstants.{MAX_DECLARED_VARIABLES};
+ghost use Rattle.expr_lower.specs.Fitting.{CanBeNamed};
 ghost use Rattle.scene_laws.specs.Names.{SeesAfter};
 
 use crate::layout::value_cell;
@@ -16,6 +17,8 @@ pub fn declare(alloc: Global, scope: &mut Scope, name: &[u8]) -> Result<(), NoMe
     ensures cells { OnOk result (length scope.new.cells.items ≡ length scope.old.cells.items + 1) }
     ensures tables { OnOk result (scope.new.tables ≡ scope.old.tables) }
     ensures regs { OnOk result (scope.new.regs ≡ scope.old.regs) }
+    ensures named { OnOk result
+        ((tables : ℕ) → CanBeNamed tables scope.old → CanBeNamed tables scope.new) }
 {
     let cell = value_cell(scope.cells.len());
     let copy = Vec::from_slice(alloc, name)?;
@@ -29,6 +32,7 @@ pub fn leave(scope: &mut Scope, n: usize)
     ensures cells { length scope.new.cells.items ≤ n }
     ensures tables { scope.new.tables ≡ scope.old.tables }
     ensures regs { scope.new.regs ≡ scope.old.regs }
+    ensures named { (tables : ℕ) → CanBeNamed tables scope.old → CanBeNamed tables scope.new }
 {
     scope.cells.truncate(n);
 }

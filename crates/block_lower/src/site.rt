@@ -7,6 +7,8 @@ ghost use Rattle.tp_value.specs.declared.limits.TheConstants.{MAX_PAR_NESTING};
 ghost use Rattle.scene_laws.specs.Sites as sites;
 ghost use Rattle.block_lower.specs.Writing as writing;
 ghost use Rattle.block_lower.specs.Writing.{Pushes};
+ghost use Rattle.tp_value.specs.declared.limits.TheConstants.{REGISTERS};
+ghost use Rattle.block_lower.specs.Conforming.{Conforms};
 
 use crate::layout::{bound_cell, rec_cell};
 use crate::lowering::Lowering;
@@ -116,6 +118,7 @@ impl Lowering {
             (writing.next_label self.new.out ≡ writing.next_label self.old.out) }
         ensures on { OnOk result (self.new.on ≡ self.old.on) }
         ensures scope { OnOk result (self.new.scope ≡ self.old.scope) }
+        ensures fit { OnOk result (to < REGISTERS → Conforms self.old → Conforms self.new) }
     {
         match row {
             RowAt::Int(number) => self.push(Instr::Move {
@@ -139,6 +142,7 @@ impl Lowering {
             (writing.next_label self.new.out ≡ writing.next_label self.old.out) }
         ensures on { OnOk result (self.new.on ≡ self.old.on) }
         ensures scope { OnOk result (self.new.scope ≡ self.old.scope) }
+        ensures fit { OnOk result (Conforms self.old → Conforms self.new) }
     {
         match carry {
             Carry::Rows(_, _) => Ok(()),
@@ -155,6 +159,7 @@ impl Lowering {
             (writing.next_label self.new.out ≡ writing.next_label self.old.out) }
         ensures on { OnOk result (self.new.on ≡ self.old.on) }
         ensures scope { OnOk result (self.new.scope ≡ self.old.scope) }
+        ensures fit { OnOk result (Conforms self.old → Conforms self.new) }
     {
         for (before, carry) in carries.iter().enumerate() {
             self.push_row_of(carry, before)?;

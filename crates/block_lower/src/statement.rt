@@ -9,7 +9,9 @@ ghost use Rattle.expr_lower.specs.Bodies.{trap_count};
 ghost use Rattle.loop_rules.specs.Names.{operator_of};
 ghost use Rattle.block_lower.specs.declared.body.Body.{Body};
 ghost use Rattle.block_lower.specs.declared.round.Round.{Round};
+ghost use Rattle.tp_value.specs.declared.limits.TheConstants.{MAX_ACTIVATION_CELLS};
 ghost use Rattle.block_lower.specs.Bodies.{HasRoomFor};
+ghost use Rattle.block_lower.specs.Conforming.{Conforms, IsKnown, IsOperand, blocks_of};
 ghost use Rattle.scene_laws.specs.Heights.{AreLow, AllAreLow};
 ghost use Rattle.block_lower.specs.Lowering.{Lowers, WithBody, LowersAll, LowersBranch};
 ghost use Rattle.block_lower.specs.Lowering.{LowersOther, FitsIn, WritesChoice, WritesTest};
@@ -62,6 +64,10 @@ impl Lowering {
             → Lowers on round self.old.scope (Stmt.Let x.now e.now) self.old.out
             self.new.out) }
         ensures on { OnOk result (self.new.on ≡ self.old.on) }
+        ensures fit { OnOk result
+            (IsKnown self.old.scope e.now
+            → writing.next_label self.new.out ≤ blocks_of self.old.on → Conforms self.old
+            → Conforms self.new) }
     {
         let cell = value_cell(self.level());
         let value = self.operand(e, 0)?;
@@ -82,6 +88,10 @@ impl Lowering {
             self.new.out) }
         ensures on { OnOk result (self.new.on ≡ self.old.on) }
         ensures scope { OnOk result (self.new.scope ≡ self.old.scope) }
+        ensures fit { OnOk result
+            (IsKnown self.old.scope e.now
+            → writing.next_label self.new.out ≤ blocks_of self.old.on → Conforms self.old
+            → Conforms self.new) }
     {
         let cell = self.offset(x);
         let value = self.operand(e, 0)?;
@@ -99,6 +109,9 @@ impl Lowering {
             (writing.next_label self.new.out ≡ writing.next_label self.old.out) }
         ensures on { OnOk result (self.new.on ≡ self.old.on) }
         ensures scope { OnOk result (self.new.scope ≡ self.old.scope) }
+        ensures fit { OnOk result
+            (cell < MAX_ACTIVATION_CELLS → IsOperand self.old.on value → Conforms self.old
+            → Conforms self.new) }
     {
         self.load(1, cell)?;
         self.calc(1, 1, alu, value)?;
@@ -121,6 +134,10 @@ impl Lowering {
             self.new.out) }
         ensures on { OnOk result (self.new.on ≡ self.old.on) }
         ensures scope { OnOk result (self.new.scope ≡ self.old.scope) }
+        ensures fit { OnOk result
+            (IsKnown self.old.scope e.now
+            → writing.next_label self.new.out ≤ blocks_of self.old.on → Conforms self.old
+            → Conforms self.new) }
     {
         let cell = self.offset(x);
         let value = self.operand(e, 0)?;
@@ -142,6 +159,10 @@ impl Lowering {
             x.now e.now) self.old.out self.new.out) }
         ensures on { OnOk result (self.new.on ≡ self.old.on) }
         ensures scope { OnOk result (self.new.scope ≡ self.old.scope) }
+        ensures fit { OnOk result
+            (IsKnown self.old.scope e.now
+            → writing.next_label self.new.out ≤ blocks_of self.old.on → Conforms self.old
+            → Conforms self.new) }
     {
         match operator_of(round.reduces, &x.text) {
             Some(op) => self.push_fold(x, e, op),
@@ -161,6 +182,10 @@ impl Lowering {
             self.new.out) }
         ensures on { OnOk result (self.new.on ≡ self.old.on) }
         ensures scope { OnOk result (self.new.scope ≡ self.old.scope) }
+        ensures fit { OnOk result
+            (IsKnown self.old.scope e.now
+            → writing.next_label self.new.out ≤ blocks_of self.old.on → Conforms self.old
+            → Conforms self.new) }
     {
         self.value(e, 0)?;
         self.push(Instr::Print(0))?;
@@ -181,6 +206,11 @@ impl Lowering {
             (WritesTest self.old.scope e.now first second self.old.out self.new.out) }
         ensures on { OnOk result (self.new.on ≡ self.old.on) }
         ensures scope { OnOk result (self.new.scope ≡ self.old.scope) }
+        ensures fit { OnOk result
+            (IsKnown self.old.scope e.now → first < blocks_of self.old.on
+            → second < blocks_of self.old.on
+            → writing.next_label self.new.out ≤ blocks_of self.old.on → Conforms self.old
+            → Conforms self.new) }
     {
         self.value(e, 0)?;
         self.jump_if(0, first)?;
@@ -202,6 +232,10 @@ impl Lowering {
             (WritesChoice self.old.scope e.now second self.old.out self.new.out) }
         ensures on { OnOk result (self.new.on ≡ self.old.on) }
         ensures scope { OnOk result (self.new.scope ≡ self.old.scope) }
+        ensures fit { OnOk result
+            (IsKnown self.old.scope e.now → second < blocks_of self.old.on
+            → writing.next_label self.new.out ≤ blocks_of self.old.on → Conforms self.old
+            → Conforms self.new) }
     {
         match opposite(e) {
             Some(other) => {

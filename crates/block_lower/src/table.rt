@@ -15,6 +15,11 @@ ghost use Rattle.scene_laws.specs.Heights.{IsLow};
 ghost use Rattle.block_lower.specs.Lowering.{Lowers, WritesPut};
 ghost use Rattle.scene_laws.specs.Sizes as sizes;
 ghost use Rattle.block_lower.specs.Writing as writing;
+ghost use Rattle.std.specs.Prelude.{◌<◌, IsTrue};
+ghost use Rattle.tp_value.specs.declared.limits.TheConstants.{REGISTERS};
+ghost use Rattle.tpal_syntax.specs.Parts.{is_place};
+ghost use Rattle.expr_lower.specs.Scopes.{HasTable};
+ghost use Rattle.block_lower.specs.Conforming.{Conforms, IsKnown, blocks_of};
 
 use crate::lowering::Lowering;
 use crate::sizes::is_low_at;
@@ -35,6 +40,11 @@ impl Lowering {
             self.old.out self.new.out) }
         ensures on { OnOk result (self.new.on ≡ self.old.on) }
         ensures scope { OnOk result (self.new.scope ≡ self.old.scope) }
+        ensures fit { OnOk result
+            (HasTable self.old.scope t.now.text.items → IsTrue (is_place t.now.place)
+            → row < REGISTERS → col < REGISTERS → value < REGISTERS
+            → writing.next_label self.new.out ≤ blocks_of self.old.on → Conforms self.old
+            → Conforms self.new) }
     {
         let table = self.table(t);
         let trap = self.next_label();
@@ -68,6 +78,12 @@ impl Lowering {
             self.old.out self.new.out) }
         ensures on { OnOk result (self.new.on ≡ self.old.on) }
         ensures scope { OnOk result (self.new.scope ≡ self.old.scope) }
+        ensures fit { OnOk result
+            (HasTable self.old.scope t.now.text.items → IsTrue (is_place t.now.place)
+            → IsKnown self.old.scope a.now → IsKnown self.old.scope b.now
+            → IsKnown self.old.scope e.now
+            → writing.next_label self.new.out ≤ blocks_of self.old.on → Conforms self.old
+            → Conforms self.new) }
     {
         self.value(a, 0)?;
         self.value(b, 1)?;
@@ -95,6 +111,12 @@ impl Lowering {
             self.old.out self.new.out) }
         ensures on { OnOk result (self.new.on ≡ self.old.on) }
         ensures scope { OnOk result (self.new.scope ≡ self.old.scope) }
+        ensures fit { OnOk result
+            (HasTable self.old.scope t.now.text.items → IsTrue (is_place t.now.place)
+            → IsKnown self.old.scope a.now → IsKnown self.old.scope b.now
+            → IsKnown self.old.scope e.now
+            → writing.next_label self.new.out ≤ blocks_of self.old.on → Conforms self.old
+            → Conforms self.new) }
     {
         let row = self.kept_cell(0);
         let col = self.kept_cell(1);
@@ -127,6 +149,12 @@ impl Lowering {
             self.old.out self.new.out) }
         ensures on { OnOk result (self.new.on ≡ self.old.on) }
         ensures scope { OnOk result (self.new.scope ≡ self.old.scope) }
+        ensures fit { OnOk result
+            (HasTable self.old.scope t.now.text.items → IsTrue (is_place t.now.place)
+            → IsKnown self.old.scope a.now → IsKnown self.old.scope b.now
+            → IsKnown self.old.scope e.now
+            → writing.next_label self.new.out ≤ blocks_of self.old.on → Conforms self.old
+            → Conforms self.new) }
     {
         if is_low_at(1, b) && is_low_at(2, e) {
             self.put_low(t, a, b, e)
@@ -146,6 +174,8 @@ impl Lowering {
             self.new.out) }
         ensures on { OnOk result (self.new.on ≡ self.old.on) }
         ensures scope { OnOk result (self.new.scope ≡ self.old.scope) }
+        ensures fit { OnOk result
+            (HasTable self.old.scope t.now.text.items → Conforms self.old → Conforms self.new) }
     {
         let table = self.table(t);
         self.push(Instr::Emit(table))?;

@@ -16,6 +16,12 @@ pub on_ok : {A E : Type 0} {P Q : Type 0} (r : Result A E) → (P → Q) → OnO
 on_ok (Ok x) f h = f h
 on_ok (Err e) f h = tt
 
+-- the same of what follows from two facts
+pub on_ok_two : {A E : Type 0} {P Q S : Type 0} (r : Result A E) → (P → Q → S) → OnOk r P
+    → OnOk r Q → OnOk r S
+on_ok_two (Ok x) f h k = f h k
+on_ok_two (Err e) f h k = tt
+
 pub low_at : (ss : List Stmt) (i : ℕ) (d : Stmt) → i < length ss → AllAreLow ss → AreLow (get_or ss i d)
 low_at [] i d below can = absurd (omega arith)
 low_at (s ∷ ss) zero d below can = can.0

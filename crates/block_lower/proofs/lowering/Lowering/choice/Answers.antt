@@ -2,6 +2,12 @@ use Rattle.std.proofs.Common.{◌≡◌, ℕ, ◌+◌, ap, length, subst, arith}
 use Rattle.block_lower.specs.Lowering.{WritesTest, by_opposite, by_test}
 use Rattle.block_lower.specs.Writing.{label}
 use Rattle.form_laws.proofs.Forms.Opposites.{found_blocks, found_traps}
+use Rattle.std.proofs.Common.{Option}
+use Rattle.loop_syntax.specs.declared.Expr.{Expr}
+use Rattle.block_lower.specs.declared.body.Body.{Body}
+use Rattle.block_lower.specs.Conforming.{Conforms, IsKnown, blocks_of}
+use Rattle.std.proofs.Common.{◌<◌, sym}
+use Rattle.block_lower.proofs.Written.Conforming.{IsKnownIf, opposite_known}
 use Rattle.block_lower.proofs.lowering.Lowering.choice.Goals as goal
 
 pub operation-requires-clause-labels : goal.operation-requires-clause-labels
@@ -34,3 +40,16 @@ returns-in_ok-test-in-None-clause-code c =
     (subst
     (λ (l : ℕ). WritesTest c.args.self.now.scope c.args.e.now l c.args.second c.args.self.now.out
     out) is test.code)
+
+pub returns-in_ok-jump_if-in-Some-clause-fit : goal.returns-in_ok-jump_if-in-Some-clause-fit
+returns-in_ok-jump_if-in-Some-clause-fit c = λ known there below before.
+    let old = c.args.self.now in
+    let found = c.in-Some.ensures in
+    let done = c.in_ok-operation-in-Some.ensures in
+    let jumped = c.in_ok-jump_if-in-Some.ensures in
+    let is : IsKnown old.scope found.node =
+    subst (λ (o : Option Expr). IsKnownIf old.scope o) found.is
+    (opposite_known old.scope c.args.e.now known) in
+    let then : Conforms c.operation.new.self =
+    done.fit found.node found.holds is (omega (arith, jumped.labels, below)) before in
+    jumped.fit (omega arith) (subst (λ (on : Body). c.args.second < blocks_of on) (sym done.on) there) then

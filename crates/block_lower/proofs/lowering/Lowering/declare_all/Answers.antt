@@ -14,6 +14,7 @@ loop-x-init c = record {
   regs = refl;
   on = refl;
   out = refl;
+  fit = λ before. before;
 }
 
 pub loop-x-preserved : goal.loop-x-preserved
@@ -36,6 +37,7 @@ loop-x-preserved c =
       regs = declared.regs ∙ was.regs;
       on = declared.on ∙ was.on;
       out = declared.out ∙ was.out;
+      fit = λ before. declared.fit (was.fit before);
     }
 
 pub returns-clause-sees : goal.returns-clause-sees

@@ -1,6 +1,7 @@
 use Rattle.std.proofs.Common.{◌≡◌, ◌+◌, ◌++◌, length, take}
 use Rattle.loop_rules.specs.Names.{texts}
 use Rattle.scene_laws.specs.Names.{SeesAfter}
+use Rattle.block_lower.specs.Conforming.{Conforms}
 use Rattle.block_lower.proofs.lowering.Lowering.declare_all.Given as goal
 
 abbrev pub invariant-loop-x : goal.invariant-loop-x
@@ -13,4 +14,5 @@ invariant-loop-x l = record {
   regs : l.self.scope.regs ≡ l.initial.self.scope.regs;
   on : l.self.on ≡ l.initial.self.on;
   out : l.self.out ≡ l.initial.self.out;
+  fit : Conforms l.initial.self → Conforms l.self;
 }

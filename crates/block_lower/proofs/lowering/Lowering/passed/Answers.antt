@@ -1,4 +1,5 @@
-use Rattle.std.proofs.Common.{◌≡◌, ℕ, suc, ◌+◌, subst, ◌∙◌, arith}
+use Rattle.std.proofs.Common.{◌≡◌, ℕ, suc, ◌+◌, refl, subst, ap, ◌∙◌, arith}
+use Rattle.block_lower.specs.declared.body.Body.{Body}
 use Rattle.block_lower.specs.Lowering.{WritesPassed}
 use Rattle.block_lower.proofs.Written.LoweredCalls.{more_passed}
 use Rattle.block_lower.proofs.lowering.Lowering.passed.Goals as goal
@@ -25,6 +26,26 @@ loop-i-preserved c =
           (rw (c.parameter_cell-parameter.ensures, was.on) at c.in_ok-store.ensures.pushed));
       on = c.in_ok-store.ensures.on ∙ c.in_ok-load.ensures.on ∙ was.on;
       scope = c.in_ok-store.ensures.scope ∙ c.in_ok-load.ensures.scope ∙ was.scope;
+      fit = λ before.
+          let room = c.requires.room in
+          let now = was.fit before in
+          c.in_ok-store.ensures.fit
+          (omega (
+            arith,
+            c.parameter_cell-parameter.ensures,
+            c.loop-i-test.true,
+            c.requires.few,
+            now.size,
+          )) refl
+          (c.in_ok-load.ensures.fit (omega arith)
+          (omega (
+            arith,
+            c.kept_argument-kept.ensures,
+            c.loop-i-test.true,
+            ap (λ (x : Body). x.most) was.on,
+            room.room,
+            room.fits,
+          )) now);
     }
 
 pub returns-clause-code : goal.returns-clause-code

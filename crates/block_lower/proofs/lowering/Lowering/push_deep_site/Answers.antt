@@ -1,6 +1,7 @@
-use Rattle.std.proofs.Common.{length, ap, ◌∙◌, arith}
+use Rattle.std.proofs.Common.{◌+◌, length, refl, ap, ◌∙◌, arith}
 use Rattle.block_lower.proofs.Written.LoweredDeep.{deep_site_written}
 use Rattle.block_lower.proofs.Written.Writing.{fresh_empty}
+use Rattle.block_lower.proofs.Written.Placed.{dispatched, known_still, loop_cells_low}
 use Rattle.block_lower.proofs.lowering.Lowering.push_deep_site.Goals as goal
 
 pub make_ready-requires : goal.make_ready-requires
@@ -94,3 +95,38 @@ returns-clause-code c =
       ap length again.fresh.traps,
     ))
     again.fresh last.code
+
+pub returns-clause-fit : goal.returns-clause-fit
+returns-clause-fit c = λ placed turn end before.
+    let on = c.args.self.now.on in
+    let site = c.args.site.now in
+    let cells = loop_cells_low site c.requires.site in
+    let handled = c.in_ok-push_handler.ensures in
+    let first = c.in_ok-push_next.ensures in
+    let over = c.in_ok-push_end.ensures in
+    let none = c.in_ok-close.ensures in
+    let prepped = c.in_ok-push_prep.ensures in
+    let ready = c.make_ready.ensures in
+    let again = c.in_ok-push_next-2.ensures in
+    let on_first = first.on ∙ handled.on in
+    let on_over = over.on ∙ on_first in
+    let on_none = none.on ∙ on_over in
+    let on_prep = prepped.on ∙ on_none in
+    let on_ready = ready.on ∙ on_prep in
+    let on_again = again.on ∙ on_ready in
+    c.in_ok-push_last.ensures.fit cells
+    (known_still on c.push_next-2.new.self.on (site.label + 7) on_again
+    (omega (arith, placed.none)))
+    (known_still on c.push_next-2.new.self.on (c.args.head + 2) on_again turn)
+    (again.fit cells (known_still on c.make_ready.new.self.on (c.args.head + 2) on_ready turn)
+    (ready.fit (λ code around. dispatched c.push_prep.new.self.on _ code around)
+    (prepped.fit
+    (known_still on c.close.new.self.on site.label on_none (omega (arith, placed.none)))
+    (none.fit refl
+    (over.fit cells
+    (known_still on c.push_next.new.self.on (site.label + 5) on_first
+    (omega (arith, placed.none)))
+    (known_still on c.push_next.new.self.on c.args.exit on_first end)
+    (first.fit cells
+    (known_still on c.push_handler.new.self.on (c.args.head + 2) handled.on turn)
+    (handled.fit c.requires.here placed before)))))))

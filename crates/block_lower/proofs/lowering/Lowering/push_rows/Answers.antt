@@ -25,4 +25,5 @@ loop-before-preserved c =
       labels = more.labels ∙ was.labels;
       on = more.on ∙ was.on;
       scope = more.scope ∙ was.scope;
+      fit = λ h. more.fit (was.fit h);
     }
