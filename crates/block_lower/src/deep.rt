@@ -20,7 +20,10 @@ ghost use Rattle.scene_laws.specs.Sizes as sizes;
 ghost use Rattle.block_lower.specs.Writing as writing;
 ghost use Rattle.block_lower.specs.Writing.{IsFresh};
 ghost use Rattle.handler_gen.specs.Sites.{over_label};
-ghost use Rattle.block_lower.specs.Conforming.{Conforms, HasLoopCells, IsLoopPlaced, blocks_of};
+ghost use Rattle.std.specs.Prelude.{IsTrue};
+ghost use Rattle.tpal_syntax.specs.Parts.{is_place};
+ghost use Rattle.block_lower.specs.Conforming.{Conforms, HasLoopCells, IsKnown, IsLoopPlaced};
+ghost use Rattle.block_lower.specs.Conforming.{blocks_of};
 
 use crate::layout::{cursor_cell, value_cell};
 use crate::lowering::{Lowering, jump};
@@ -156,6 +159,14 @@ impl Lowering {
             self.old.out self.new.out) }
         ensures on { OnOk result (self.new.on ≡ self.old.on) }
         ensures scope { OnOk result (self.new.scope ≡ self.old.scope) }
+        ensures fit { OnOk result
+            (IsKnown self.old.scope l.now.from → IsKnown self.old.scope l.now.to
+            → IsTrue (is_place l.now.place)
+            → writing.next_label self.new.out
+            + (sizes.added_by_list self.old.on.quiet_calls l.now.body.items + 1)
+            ≤ blocks_of self.old.on
+            → Conforms self.old
+            → Conforms self.new) }
     {
         let check = self.next_label() + trap_count(&l.from) + trap_count(&l.to);
         let head = check + 2 + site_blocks(&l.carries);

@@ -17,7 +17,9 @@ ghost use Rattle.handler_gen.specs.LeafSites.{IsLeafSite, registers_of};
 ghost use Rattle.handler_gen.specs.Registers.{leaf_accs};
 ghost use Rattle.join_gen.specs.Blocks.{loop_join_blocks};
 ghost use Rattle.block_lower.specs.Bodies.{HasRoomFor};
-ghost use Rattle.block_lower.specs.Conforming.{Conforms, IsLeafPlaced, blocks_of};
+ghost use Rattle.std.specs.Prelude.{IsTrue};
+ghost use Rattle.tpal_syntax.specs.Parts.{is_place};
+ghost use Rattle.block_lower.specs.Conforming.{Conforms, IsKnown, IsLeafPlaced, blocks_of};
 ghost use Rattle.scene_laws.specs.Heights.{AllAreLow};
 ghost use Rattle.scene_laws.specs.Layout.{value_cell};
 ghost use Rattle.block_lower.specs.Lowering.{AreHeld, BeginsLeaf, EndsLeaf, FitsIn, FitsInside};
@@ -201,6 +203,14 @@ impl Lowering {
             self.old.out self.new.out) }
         ensures on { OnOk result (self.new.on ≡ self.old.on) }
         ensures scope { OnOk result (self.new.scope ≡ self.old.scope) }
+        ensures fit { OnOk result
+            (IsKnown self.old.scope l.now.from → IsKnown self.old.scope l.now.to
+            → IsTrue (is_place l.now.place)
+            → writing.next_label self.new.out
+            + 2 * (sizes.added_by_list self.old.on.quiet_calls l.now.body.items + 1)
+            ≤ blocks_of self.old.on
+            → Conforms self.old
+            → Conforms self.new) }
     {
         let cursor = value_cell(self.level());
         let check = self.next_label() + trap_count(&l.from) + trap_count(&l.to);

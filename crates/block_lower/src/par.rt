@@ -350,6 +350,14 @@ impl Lowering {
             self.old.out self.new.out) }
         ensures on { OnOk result (self.new.on ≡ self.old.on) }
         ensures scope { OnOk result (self.new.scope ≡ self.old.scope) }
+        ensures fit { OnOk result
+            (IsKnown self.old.scope l.now.from → IsKnown self.old.scope l.now.to
+            → IsTrue (is_place l.now.place)
+            → writing.next_label self.new.out
+            + 2 * (sizes.added_by_list self.old.on.quiet_calls l.now.body.items + 1)
+            ≤ blocks_of self.old.on
+            → Conforms self.old
+            → Conforms self.new) }
     {
         let level = self.level();
         let check = self.next_label() + trap_count(&l.from) + trap_count(&l.to);

@@ -1,9 +1,14 @@
 -- The blocks that are made from a site may stand in the code that is written.
-use Rattle.std.proofs.Common.{◌≡◌, ℕ, zero, suc, ◌+◌, ◌<◌, ◌≤◌, Bool, All, List, [], ◌∷◌, ◌++◌}
+use Rattle.std.proofs.Common.{◌≡◌, ℕ, zero, suc, ◌+◌, ◌<◌, ◌≤◌, Bool, true, false, All, List, []}
+use Rattle.std.proofs.Common.{◌∷◌, ◌++◌}
 use Rattle.std.proofs.Common.{Option, Some, length, get_or, refl, sym, subst, ap, ◌∙◌, arith, lt-ltb}
-use Rattle.std.proofs.lemmas.List.Elements.{All-head}
-use Rattle.std.specs.List.{AllByRecursion, list_all}
-use Rattle.std.specs.Prelude.{IsTrue, ◌&&◌, slice_get}
+use Rattle.std.proofs.lemmas.List.Elements.{All-cons, All-head, All-nil}
+use Rattle.std.specs.List.{AllByRecursion, list_all, list_any}
+use Rattle.std.specs.Prelude.{IsTrue, ◌&&◌, if◌then◌else◌, slice_get}
+use Rattle.loop_syntax.specs.declared.Carry.{Carry}
+use Rattle.loop_syntax.specs.declared.Carry.TheVariants as carry
+use Rattle.loop_syntax.specs.declared.ParLoop.{ParLoop}
+use Rattle.loop_syntax.specs.declared.Stmt.TheVariants.{Par}
 use Rattle.tp_value.specs.declared.limits.TheConstants.{MAX_ACTIVATION_CELLS}
 use Rattle.tpal_syntax.specs.Conditions.{IsHandler}
 use Rattle.tpal_syntax.specs.Listing.{Listing}
@@ -16,19 +21,32 @@ use Rattle.tpal_syntax.specs.declared.instructions.Value.TheVariants as value
 use Rattle.tpal_syntax.specs.declared.sites.CallSite.{CallSite}
 use Rattle.tpal_syntax.specs.declared.sites.LeafSite.{LeafSite}
 use Rattle.tpal_syntax.specs.declared.sites.LoopSite.{LoopSite}
+use Rattle.tpal_syntax.specs.declared.notes.CarryAt.{CarryAt}
+use Rattle.expr_lower.specs.declared.scope.Scope.{Scope}
 use Rattle.expr_lower.specs.Bodies.{name_of}
+use Rattle.expr_lower.specs.Fitting.{CanBeNamed}
+use Rattle.expr_lower.specs.Scopes.{HasTable}
+use Rattle.expr_lower.proofs.Fitting.{number_low}
 use Rattle.expr_lower.specs.Fitting.{AreBlocksOf}
 use Rattle.expr_lower.proofs.FittingBlocks.{joined_blocks}
 use Rattle.handler_gen.specs.Blocks.{call_handler_blocks, dispatch_block, loop_handler_blocks}
 use Rattle.handler_gen.specs.Fitting.{HasCallPlaces, HasLeafPlaces, HasLoopPlaces}
 use Rattle.handler_gen.specs.LeafBlocks.{leaf_handler_blocks, start_block, stores_of}
 use Rattle.handler_gen.specs.LeafSites.{IsLeafSite, registers_of, start_label, stored_loop}
-use Rattle.handler_gen.specs.Sites.{IsCallSite, IsLoopSite, call_cells}
+use Rattle.handler_gen.specs.Sites.{IsCallSite, IsLoopSite, call_cells, is_of_cells, prep_label}
+use Rattle.handler_gen.specs.Sites.{split_label}
 use Rattle.handler_gen.proofs.Fits.{leaf_start_fits, leaf_stores_fit}
 use Rattle.handler_gen.proofs.Offsets.{bound_in, cursor_in, mark_in, rec_in}
 use Rattle.join_gen.specs.Blocks.{call_join_blocks, loop_join_blocks}
 use Rattle.block_lower.specs.declared.body.Body.{Body}
 use Rattle.block_lower.specs.declared.lowering.Lowering.{Lowering}
+use Rattle.block_lower.specs.declared.round.Round as told
+use Rattle.block_lower.specs.Lowering.{FitsIn}
+use Rattle.scene_laws.specs.Names.{Sees}
+use Rattle.loop_rules.specs.Names.{is_in}
+use Rattle.scene_laws.specs.Sites.{carried_table, carries_from, carry_at, loop_site}
+use Rattle.scene_laws.specs.Sizes.{has_row, site_blocks}
+use Rattle.scene_laws.proofs.Scenes.Seeing.{seen_table}
 use Rattle.block_lower.specs.Conforming.{AreBlocksRound, AreInstrs, AreNamed, Conforms}
 use Rattle.block_lower.specs.Conforming.{HasLoopCells, IsAround, IsCallPlaced, IsLeafPlaced}
 use Rattle.block_lower.specs.Conforming.{IsLoopPlaced, blocks_of}
@@ -240,3 +258,55 @@ stores_conform old new site right pushed on scope =
     pushed_conforms old new (stores_of (registers_of site))
     (stores_alike old.on.tables (blocks_of old.on) (registers_of site)
     ∙ leaf_stores_fit [] [] site right) pushed on scope
+
+-- ---- the site of a `par`
+
+-- it has at least so many blocks round it
+pub many_site_blocks : (carries : List Carry) → 9 ≤ site_blocks carries
+many_site_blocks carries = by_rows (list_any has_row carries)
+  where
+    by_rows : (row : Bool) → 9 ≤ (if row then 10 else 9)
+    by_rows true = omega arith
+    by_rows false = omega arith
+
+split_low : (site : LoopSite) (n : ℕ) → site.label + 9 < n → split_label site < n
+split_low site n below = by_rows (list_any is_of_cells site.carries)
+  where
+    by_rows : (row : Bool) → (if row then prep_label site.label else site.label) < n
+    by_rows true = below
+    by_rows false = omega (arith, below)
+
+-- its carries are of tables of the code
+named_carry : (tables : ℕ) (scope : Scope) (before : ℕ) (c : Carry)
+    → length scope.tables.items ≤ tables → HasTable scope (carried_table c)
+    → table_of (carry_at scope before c) < tables
+named_carry tables scope before (carry.Rows t i) few has =
+    omega (arith, number_low scope.tables.items t.text.items has, few)
+named_carry tables scope before (carry.Cells t k j) few has =
+    omega (arith, number_low scope.tables.items t.text.items has, few)
+
+named_carries : (tables : ℕ) (scope : Scope) (names known : List (List ℕ)) (before : ℕ)
+    (cs : List Carry) → Sees scope names known → length scope.tables.items ≤ tables
+    → AllByRecursion (λ c. IsTrue (is_in known (carried_table c))) cs
+    → All (λ c. table_of c < tables) (carries_from scope before cs)
+named_carries tables scope names known before [] sees few seen =
+    All-nil (λ (c : CarryAt). table_of c < tables)
+named_carries tables scope names known before (c ∷ cs) sees few seen =
+    All-cons (λ (d : CarryAt). table_of d < tables) (carry_at scope before c)
+    (carries_from scope (suc before) cs)
+    (named_carry tables scope before c few
+    (seen_table scope names known sees (carried_table c) seen.0))
+    (named_carries tables scope names known (suc before) cs sees few seen.1)
+
+-- where a `par` fits, its site is one of the code, if there are enough blocks
+pub site_placed : (on : Body) (scope : Scope) (as_told : told.Round) (l : ParLoop) (site : LoopSite)
+    → FitsIn on scope as_told (Par l ∷ []) → CanBeNamed on.tables scope
+    → site.carries ≡ carries_from scope 0 l.carries.items → site.label + 9 < blocks_of on
+    → IsLoopPlaced on site
+site_placed on scope as_told l site f named same below = record {
+  none = omega (arith, below);
+  split = split_low site (blocks_of on) below;
+  carried = subst (λ (cs : List CarryAt). All (λ c. table_of c < on.tables) cs) (sym same)
+      (named_carries on.tables scope f.names f.tables 0 l.carries.items f.sees named.few_tables
+      f.fits.0.5.carried_seen);
+}

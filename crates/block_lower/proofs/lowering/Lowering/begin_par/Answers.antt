@@ -5,6 +5,7 @@ use Rattle.block_lower.specs.Writing.{next_label}
 use Rattle.scene_laws.specs.Sites.{loop_site}
 use Rattle.block_lower.proofs.Written.LoweredPars.{par_begun}
 use Rattle.block_lower.proofs.Written.Sited.{site_fits}
+use Rattle.block_lower.proofs.Written.Placed.{known_still}
 use Rattle.block_lower.proofs.lowering.Lowering.begin_par.Goals as goal
 
 pub site_of-requires-clause-few_carries : goal.site_of-requires-clause-few_carries
@@ -66,3 +67,30 @@ returns-clause-code c =
     c.push_some.new.self.out c.push_length.new.self.out bounds.code some.code some.fresh
     (omega (arith, bounds.labels, some.labels, ap length some.fresh.traps))
     c.in_ok-push_length.ensures.code)
+
+pub returns-clause-fit : goal.returns-clause-fit
+returns-clause-fit c = λ from to end below before.
+    let on = c.args.self.now.on in
+    let bounds = c.in_ok-bounds.ensures in
+    let some = c.in_ok-push_some.ensures in
+    let long = c.in_ok-push_length.ensures in
+    let check = c.next_label.result + c.trap_count.result + c.trap_count-2.result in
+    let on_some = some.on ∙ bounds.on in
+    long.fit
+    (known_still on c.push_some.new.self.on (next_label c.push_some.new.self.out) on_some
+    (omega (arith, long.labels, below)))
+    (some.fit
+    (known_still on c.bounds.new.self.on check bounds.on
+    (omega (
+      arith,
+      c.next_label.ensures,
+      c.trap_count.ensures,
+      c.trap_count-2.ensures,
+      bounds.labels,
+      some.labels,
+      long.labels,
+      c.requires.labels,
+      below,
+    )))
+    (known_still on c.bounds.new.self.on c.args.exit bounds.on end)
+    (bounds.fit from to (omega (arith, some.labels, long.labels, below)) before))

@@ -10,6 +10,12 @@ use Rattle.scene_laws.specs.Sites.{loop_site}
 use Rattle.scene_laws.specs.Sizes.{added_by_list}
 use Rattle.block_lower.proofs.Written.LoweredPars.{quiet_begun}
 use Rattle.block_lower.proofs.Written.Sited.{site_fits}
+use Rattle.std.proofs.Common.{◌<◌, ◌≤◌}
+use Rattle.handler_gen.specs.Sites.{IsLoopSite, split_label}
+use Rattle.block_lower.specs.declared.body.Body.{Body}
+use Rattle.block_lower.specs.Conforming.{IsLoopPlaced, blocks_of}
+use Rattle.block_lower.proofs.Written.Placed.{known_still, loop_cells_low, many_site_blocks}
+use Rattle.block_lower.proofs.Written.Placed.{site_placed}
 use Rattle.block_lower.proofs.lowering.Lowering.begin_quiet.Goals as goal
 
 pub value_cell-requires : goal.value_cell-requires
@@ -134,3 +140,63 @@ returns-clause-code c =
       round_it.labels,
       ap length round_it.fresh.traps,
     )))
+
+pub returns-clause-fit : goal.returns-clause-fit
+returns-clause-fit c = λ from to place below before.
+    let self = c.args.self.now in
+    let on = self.on in
+    let l = c.args.l.now in
+    let site = c.in_ok-site.site in
+    let begun = c.in_ok-site.ensures in
+    let pushed = c.in_ok-push_begin.ensures in
+    let round_it = c.in_ok-push_site.ensures in
+    let label = ap (λ (q : LoopSite). q.label) begun.site in
+    let carries = ap (λ (q : LoopSite). q.carries) begun.site in
+    let size = rw c.deref-2.ensures.value at c.added_by_body-body.ensures in
+    let blocks = rw c.deref.ensures.value at c.site_blocks.ensures in
+    let body = c.added_by_body-body.result in
+    let small : body ≡ added_by_list on.quiet_calls l.body.items + 1 =
+    omega (arith, size, c.requires.labels) in
+    let check = c.next_label.result + c.trap_count.result + c.trap_count-2.result in
+    let first = check + 2 + c.site_blocks.result in
+    let spot : next_label self.out + trap_count l.from + trap_count l.to ≡ check =
+    omega (
+      arith,
+      c.next_label.ensures,
+      c.trap_count.ensures,
+      c.trap_count-2.ensures,
+      c.requires.labels,
+    ) in
+    let end : first + body + body < blocks_of on =
+    omega (arith, spot, blocks, small, begun.labels, pushed.labels, round_it.labels, below) in
+    let start : first < blocks_of on = omega (arith, end) in
+    let placed : IsLoopPlaced on site =
+    site_placed on self.scope c.args.round l site c.requires.fits before.scope carries
+    (omega (
+      arith,
+      label,
+      spot,
+      blocks,
+      small,
+      begun.labels,
+      end,
+      many_site_blocks l.carries.items,
+    )) in
+    let s = site_fits on self.scope c.args.round l c.requires.fits c.requires.room
+    c.requires.few_tables in
+    let long = length self.scope.cells.items in
+    let here = (rw (c.value_cell.ensures, c.level-level.ensures) at begun.site)
+    ∙ ap (λ (k : ℕ). loop_site self.scope l on.size c.args.round.depth long (value_cell long) k)
+    (sym label) in
+    let right : IsLoopSite site =
+    rw here (s.right _ (omega (arith, c.requires.labels, label, begun.labels))) in
+    let on_pushed = pushed.on ∙ begun.on in
+    round_it.fit (subst (λ (x : Body). IsLoopPlaced x site) (sym on_pushed) placed)
+    (known_still on c.push_begin.new.self.on first on_pushed start)
+    (known_still on c.push_begin.new.self.on (first + body + body) on_pushed end)
+    (pushed.fit place (loop_cells_low site right)
+    (known_still on c.begin_par.new.self.on (split_label site) begun.on placed.split)
+    (known_still on c.begin_par.new.self.on first begun.on start)
+    (subst (λ (x : Body). next_label c.push_begin.new.self.out ≤ blocks_of x) (sym begun.on)
+    (omega (arith, round_it.labels, below)))
+    (begun.fit from to end (omega (arith, pushed.labels, round_it.labels, below)) before))
